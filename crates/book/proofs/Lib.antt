@@ -1,0 +1,13 @@
+pub mod Frame
+pub mod Answers
+pub mod Converting
+pub mod Reading
+pub mod Sections
+pub mod Places
+pub mod Size
+pub mod Walk
+pub mod Scores
+pub mod Stored
+pub mod Check
+pub mod Ahead
+pub mod Lookups

@@ -1,0 +1,85 @@
+-- What the tables of worked cases share: the entries and images that document 01 shows, bytes to write into, and answers as numbers.
+use Prim.Native.Nat.{_%_, _+_, _/_, suc, ℕ}
+use Prim.Native.String.{String}
+use mathlib.Core.List.{List, [], _++_, _∷_, map}
+use mathlib.Core.Option.{Option, none, some}
+use lib.ListN.{drop, length, replicate, take}
+use Rattle.octets.specs.Lists.{concatMap, countFrom}
+use Rattle.octets.specs.Text.{text}
+use Rattle.entries.specs.Entries.{Entry, entry}
+use Rattle.book.specs.Answers.{Answer, Offered, Outcome, Place, Span, Written, counts, given, noSpan, noneOffered, noneWritten, number, refused}
+
+-- "Shown on the bench", as printed there: entries E; P1 the empty book, P2 the empty trie, P3 E as book, P4 E as trie.
+abbrev pub E : List Entry
+E = entry (text "ac") 5 ∷ entry (text "rc") 9 ∷ entry (text "rc step") 9 ∷ entry (text "rl") 12 ∷ []
+
+abbrev pub P1 : List ℕ
+P1 = 0x21 ∷ 0x00 ∷ 0x00 ∷ 0x00 ∷ 0x07 ∷ 0x00 ∷ 0x00 ∷ []
+
+abbrev pub P2 : List ℕ
+P2 = 0x31 ∷ 0x00 ∷ 0x00 ∷ 0x00 ∷ 0x07 ∷ 0x00 ∷ 0x00 ∷ []
+
+abbrev pub P3 : List ℕ
+P3 =
+    0x21 ∷ 0x00 ∷ 0x00 ∷ 0x00 ∷ 0x2C ∷ 0x00 ∷ 0x04 ∷ 0x00 ∷ 0x00 ∷ 0x00 ∷ 0x05 ∷ 0x00 ∷ 0x00 ∷ 0x00 ∷ 0x09 ∷ 0x00
+    ∷ 0x00 ∷ 0x00 ∷ 0x09 ∷ 0x00 ∷ 0x00 ∷ 0x00 ∷ 0x0C ∷ 0x00 ∷ 0x1B ∷ 0x00 ∷ 0x03 ∷ 0x02 ∷ 0x61 ∷ 0x63 ∷ 0x00 ∷ 0x02
+    ∷ 0x72 ∷ 0x63 ∷ 0x02 ∷ 0x05 ∷ 0x20 ∷ 0x73 ∷ 0x74 ∷ 0x65 ∷ 0x70 ∷ 0x01 ∷ 0x01 ∷ 0x6C ∷ []
+
+abbrev pub P4 : List ℕ
+P4 =
+    0x31 ∷ 0x00 ∷ 0x00 ∷ 0x00 ∷ 0x1C ∷ 0x00 ∷ 0x04 ∷ 0x51 ∷ 0x0C ∷ 0x08 ∷ 0x72 ∷ 0x4A ∷ 0x07 ∷ 0x61 ∷ 0x63 ∷ 0x01
+    ∷ 0x6C ∷ 0x59 ∷ 0x03 ∷ 0x06 ∷ 0x63 ∷ 0x00 ∷ 0x0D ∷ 0x20 ∷ 0x73 ∷ 0x74 ∷ 0x65 ∷ 0x70 ∷ []
+
+-- n bytes that no call wrote: a destination, or what stands behind an image
+abbrev pub spare : ℕ → List ℕ
+spare n = replicate n 0xEE
+
+-- the bytes with those from index i on replaced
+abbrev pub changed : List ℕ → ℕ → List ℕ → List ℕ
+changed bs i new = take i bs ++ (new ++ drop (i + length new) bs)
+
+-- one-letter names from the letter c on, with these scores
+abbrev pub letters : ℕ → List ℕ → List Entry
+letters c [] = []
+letters c (s ∷ ss) = entry (c ∷ []) s ∷ letters (suc c) ss
+
+-- n names of two letters, each of score 0
+abbrev pub crowd : ℕ → List Entry
+crowd n = map (λ i. entry ((0x30 + i / 64) ∷ (0x30 + i % 64) ∷ []) 0) (countFrom 0 n)
+
+-- an answer entry by hand, for scores below 256: length byte, name, 4-byte score
+abbrev pub answerEntry : String → ℕ → List ℕ
+answerEntry w s = length (text w) ∷ text w ++ (0x00 ∷ 0x00 ∷ 0x00 ∷ s ∷ [])
+
+-- A reading as numbers: nothing where there is none, else 1 and each entry's length, name and score.
+abbrev pub listed : List Entry → List ℕ
+listed es = 1 ∷ concatMap (λ e. length (e .name) ∷ e .name ++ (e .score ∷ [])) es
+
+abbrev pub shownRead : Option (List Entry) → List ℕ
+shownRead none = []
+shownRead (some es) = listed es
+
+-- An outcome as numbers: the refusal or 0, the counts, then the destination.
+abbrev pub shownWritten : Outcome Written → List ℕ
+shownWritten o =
+    number (o .answer) ∷ counts noneWritten (o .answer) .entries ∷ counts noneWritten (o .answer) .bytes ∷ o .dest
+
+abbrev pub shownOffered : Outcome Offered → List ℕ
+shownOffered o =
+    number (o .answer)
+    ∷ counts noneOffered (o .answer) .offered
+    ∷ counts noneOffered (o .answer) .bytes
+    ∷ counts noneOffered (o .answer) .looks
+    ∷ o .dest
+
+-- An answer as numbers: the refusal or 0, then the counts; of an absent name there are none.
+abbrev pub shownFound : Answer (Option Place) → List ℕ
+shownFound (refused n) = n ∷ []
+shownFound (given none) = 0 ∷ []
+shownFound (given (some p)) = 0 ∷ p .position ∷ p .score ∷ []
+
+abbrev pub shownSpan : Answer Span → List ℕ
+shownSpan a = number a ∷ counts noSpan a .first ∷ counts noSpan a .count ∷ []
+
+abbrev pub shownLength : Answer ℕ → List ℕ
+shownLength a = number a ∷ counts 0 a ∷ []

@@ -1,0 +1,45 @@
+-- Completion from a book (document 01, "Completion"), as a function from all that the call is given and lent.
+use Prim.Native.Nat.{_*_, ℕ}
+use mathlib.Core.Path.{_≡_}
+use mathlib.Core.Bool.{Bool, _||_, not}
+use mathlib.Core.List.{List, [], _∷_}
+use lib.Dec.{eqb, ltb}
+use lib.ListN.{length}
+use Rattle.entries.specs.Completion.{completion, maxCount}
+use Rattle.entries.specs.Entries.{Entry}
+use Rattle.entries.specs.Names.{isPrefix}
+use Rattle.book.specs.Answers.{Answer, Offered, Outcome, _when_, entriesBytes, given, refused, writing}
+use Rattle.book.specs.Book.{inBook, isBook}
+use Rattle.completion.specs.Machine.{machine}
+
+-- the bytes that the destination must have for each entry asked for
+abbrev pub entryRoom : ℕ
+entryRoom = 53
+
+-- k is 0 or over 16
+abbrev pub badCount : ℕ → Bool
+badCount k = eqb k 0 || ltb maxCount k
+
+-- the entries offered, the bytes written and the looks
+abbrev pub offeredAs : List Entry → ℕ → Offered
+offeredAs l looks = record { offered = length l; bytes = length (entriesBytes l); looks = looks }
+
+-- completion from a book; `ranges` is how many ranges are lent
+unfoldable pub completeBook : List ℕ → List ℕ → ℕ → List ℕ → ℕ → Outcome Offered
+completeBook book p k dst ranges =
+    let es = inBook book in
+    let l = completion es p k in
+    writing
+    (1 when not (isBook book)
+    ∷ 2 when not (isPrefix p)
+    ∷ 3 when badCount k
+    ∷ 7 when (ltb (length dst) (entryRoom * k) || ltb ranges k)
+    ∷ [])
+    (offeredAs l (machine es p k .looks))
+    (entriesBytes l)
+    dst
+
+-- The lent ranges before and after a call: as they were after a refusal, free after an answer.
+abbrev pub Lent : {A R : Type 0} → Answer A → List R → List R → Type 0
+Lent (refused n) before after = after ≡ before
+Lent (given a) before after = length after ≡ length before

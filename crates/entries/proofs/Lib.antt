@@ -1,0 +1,9 @@
+pub mod Valid
+pub mod Edits
+pub mod Same
+pub mod Rank
+pub mod BestList
+pub mod Matches
+pub mod Allowed
+pub mod Span
+pub mod Place

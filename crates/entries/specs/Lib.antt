@@ -1,0 +1,4 @@
+pub mod Names
+pub mod Entries
+pub mod Completion
+pub mod Place

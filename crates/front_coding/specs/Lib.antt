@@ -1,0 +1,5 @@
+pub mod Records
+pub mod Step
+pub mod Parts
+pub mod Cursor
+pub mod Written

@@ -1,0 +1,188 @@
+// Front-coded records: a cursor by value that reads one record at a step, and a writer of one record.
+ghost use mathlib.Core.Path.{_≡_};
+ghost use mathlib.Core.Bool.{true};
+ghost use Prim.Native.Nat.{_≤_};
+ghost use lib.ListN.{length};
+ghost use Rattle.entries.specs.Names.{isPrefix, longestName};
+ghost use Rattle.front_coding.specs.Records.{bucketHead, recordOf};
+ghost use Rattle.front_coding.specs.Parts.{goesAbove, headPart, recordPart, tailPart};
+ghost use Rattle.front_coding.specs.Cursor.{Sound, Stepped};
+ghost use Rattle.front_coding.specs.Written.{Room, Sized, Wrote, headRecord, tailRecord};
+
+// A place between records: where the next record starts, its position, and the name before it.
+pub struct Cursor {
+    pub at: usize,
+    pub index: usize,
+    pub name: [u8; 48],
+    pub len: usize,
+}
+
+// Whether a record of a book stands at a cursor, and the cursor behind it.
+pub struct Step {
+    pub ok: bool,
+    pub next: Cursor,
+}
+
+// The parts of a record.
+pub enum Part {
+    // No record of a book.
+    Bad,
+    // The bytes kept of the name before, the start of the record's own bytes, their number.
+    Own(usize, usize, usize),
+}
+
+// Whether the name at a position is a bucket's head.
+fn is_head(index: usize) -> bool
+    ensures { λ r. ⌜ r ≡ bucketHead index ⌝ }
+{
+    index % 8 == 0
+}
+
+// The parts of a head: a length byte, and a name above the one before.
+fn head_part(prev: &[u8], s: &[u8]) -> Part
+    ensures { λ r. ⌜ r ≡ headPart (now (prev .entry)) (now (s .entry)) ⌝ }
+{
+    if s.len() < 1 {
+        return Part::Bad;
+    }
+    let n = s[0] as usize;
+    if s.len() - 1 < n {
+        return Part::Bad;
+    }
+    let name = &s[1..1 + n];
+    if !entries::is_name(name) {
+        return Part::Bad;
+    }
+    if !octets::is_below(prev, name) {
+        return Part::Bad;
+    }
+    Part::Own(0, 1, n)
+}
+
+// Whether a name that keeps the first bytes of prev and goes on with next shares no more with it, and is above it.
+fn goes_above(prev: &[u8], kept: usize, next: u8) -> bool
+    ensures { λ r. ⌜ r ≡ goesAbove (now (prev .entry)) kept next ⌝ }
+{
+    if prev.len() <= kept {
+        return true;
+    }
+    prev[kept] < next
+}
+
+// The parts of another record: the common byte, the length of the rest, the rest.
+fn tail_part(prev: &[u8], s: &[u8]) -> Part
+    ensures { λ r. ⌜ r ≡ tailPart (now (prev .entry)) (now (s .entry)) ⌝ }
+{
+    if s.len() < 2 {
+        return Part::Bad;
+    }
+    let kept = s[0] as usize;
+    let n = s[1] as usize;
+    if prev.len() < kept {
+        return Part::Bad;
+    }
+    if n < 1 {
+        return Part::Bad;
+    }
+    if s.len() - 2 < n {
+        return Part::Bad;
+    }
+    if 48 < kept + n {
+        return Part::Bad;
+    }
+    let rest = &s[2..2 + n];
+    if !entries::is_prefix(rest) {
+        return Part::Bad;
+    }
+    if !goes_above(prev, kept, rest[0]) {
+        return Part::Bad;
+    }
+    Part::Own(kept, 2, n)
+}
+
+// The parts of the record at the front of s, at a position behind the name prev.
+fn part_at(index: usize, prev: &[u8], s: &[u8]) -> Part
+    requires { ⌜ isPrefix (now prev) ≡ true ⌝ }
+    ensures { λ r. ⌜ r ≡ recordPart bucketHead index (now (prev .entry)) (now (s .entry)) ⌝ }
+{
+    if is_head(index) {
+        head_part(prev, s)
+    } else {
+        tail_part(prev, s)
+    }
+}
+
+// Reads the record at a cursor: whether it is one of a book, and the cursor behind it.
+pub fn advance(src: &[u8], c: Cursor) -> Step
+    requires { ⌜ Sound (now src) c ⌝ }
+    ensures { λ r. ⌜ Stepped (now (src .entry)) c r ⌝ }
+{
+    let at = c.at;
+    let index = c.index;
+    let len = c.len;
+    let mut name = c.name;
+    let s = &src[at..];
+    let part = part_at(index, &name[..len], s);
+    match part {
+        Part::Bad => Step { ok: false, next: c },
+        Part::Own(kept, start, n) => {
+            octets::copy(&mut name, kept, &s[start..start + n]);
+            Step {
+                ok: true,
+                next: Cursor {
+                    at: at + start + n,
+                    index: index + 1,
+                    name: name,
+                    len: kept + n,
+                },
+            }
+        }
+    }
+}
+
+// Writes a head at index at, and answers where it ends: the name's length, the name.
+fn put_head(dst: &mut [u8], at: usize, name: &[u8]) -> usize
+    requires { ⌜ Room (now dst) at (headRecord (now name)) (now name) ⌝ }
+    ensures { λ r. ⌜ Wrote (now (dst .entry)) (now (dst .exit)) at (headRecord (now (name .entry))) r ⌝ }
+{
+    dst[at] = name.len() as u8;
+    octets::copy(dst, at + 1, name);
+    at + 1 + name.len()
+}
+
+// Writes another record: the number of bytes shared with the name before, the length of the rest, the rest.
+fn put_tail(dst: &mut [u8], at: usize, prev: &[u8], name: &[u8]) -> usize
+    requires { ⌜ Room (now dst) at (tailRecord (now prev) (now name)) (now name) ⌝ }
+    ensures { λ r. ⌜ Wrote (now (dst .entry)) (now (dst .exit)) at (tailRecord (now (prev .entry)) (now (name .entry))) r ⌝ }
+{
+    let kept = octets::common_prefix(prev, name);
+    let rest = &name[kept..];
+    dst[at] = kept as u8;
+    dst[at + 1] = rest.len() as u8;
+    octets::copy(dst, at + 2, rest);
+    at + 2 + rest.len()
+}
+
+// Writes the record of a name, at a position behind the name prev, and answers where it ends.
+pub fn put_record(dst: &mut [u8], at: usize, index: usize, prev: &[u8], name: &[u8]) -> usize
+    requires { ⌜ Room (now dst) at (recordOf bucketHead index (now prev) (now name)) (now name) ⌝ }
+    ensures { λ r. ⌜ Wrote (now (dst .entry)) (now (dst .exit)) at (recordOf bucketHead index (now (prev .entry)) (now (name .entry))) r ⌝ }
+{
+    if is_head(index) {
+        put_head(dst, at, name)
+    } else {
+        put_tail(dst, at, prev, name)
+    }
+}
+
+// How many bytes the record of a name takes.
+pub fn record_size(index: usize, prev: &[u8], name: &[u8]) -> usize
+    requires { ⌜ length (now name) ≤ longestName ⌝ }
+    ensures { λ r. ⌜ Sized (recordOf bucketHead index (now (prev .entry)) (now (name .entry))) r ⌝ }
+{
+    if is_head(index) {
+        1 + name.len()
+    } else {
+        2 + (name.len() - octets::common_prefix(prev, name))
+    }
+}

@@ -1,0 +1,53 @@
+-- The ledger (document 01, "The ledger"): what a history of calls is to answer and to leave, by entries alone.
+use Prim.Native.Nat.{ℕ}
+use mathlib.Core.Bool.{Bool, _&&_, not, true}
+use mathlib.Core.List.{List, [], _++_, _∷_}
+use lib.Dec.{leb, ltb}
+use lib.ListN.{length}
+use Rattle.entries.specs.Entries.{Entry, entry, holds, maxEntries, with, without}
+use Rattle.entries.specs.Names.{isName, isScore}
+use Rattle.book.specs.Answers.{Answer, Check, Written, _when_, onAnswer, unless}
+use Rattle.book.specs.Book.{bookImage}
+
+-- One call of a history with its arguments other than the buffers: a set of a name and a score, or a withdraw of a name.
+pub data Edit : Type 0 where
+  setName : List ℕ → ℕ → Edit
+  withdrawName : List ℕ → Edit
+
+-- a score is a number of 4 bytes
+abbrev pub scoreFits : Edit → Bool
+scoreFits (setName w s) = isScore s
+scoreFits (withdrawName w) = true
+
+-- the entries that the call would leave
+abbrev pub result : Edit → List Entry → List Entry
+result (setName w s) es = with (entry w s) es
+result (withdrawName w) es = without w es
+
+-- its refusals: 2, 4 and 5, and 7 where the result's book image is longer than L
+abbrev pub refusals : Edit → List Entry → List Check
+refusals (setName w s) es = 2 when not (isName w) ∷ 5 when (not (holds w es) && leb maxEntries (length es)) ∷ []
+refusals (withdrawName w) es = 2 when not (isName w) ∷ 4 when not (holds w es) ∷ []
+
+abbrev pub ledgerChecks : ℕ → Edit → List Entry → List Check
+ledgerChecks L c es = refusals c es ++ (7 when ltb L (length (bookImage (result c es))) ∷ [])
+
+-- the answer: the refusal, or how many entries there are and the length of their image
+abbrev pub reported : List Entry → Written
+reported es = record { entries = length es; bytes = length (bookImage es) }
+
+unfoldable pub ledgerAnswer : ℕ → Edit → List Entry → Answer Written
+ledgerAnswer L c es = unless (ledgerChecks L c es) (reported (result c es))
+
+-- the entries held afterwards
+unfoldable pub ledgerStep : ℕ → Edit → List Entry → List Entry
+ledgerStep L c es = onAnswer (ledgerAnswer L c es) es (result c es)
+
+-- after a list of calls: the entries held, and the answers in order
+abbrev pub held : ℕ → List Edit → List Entry → List Entry
+held L [] es = es
+held L (c ∷ cs) es = held L cs (ledgerStep L c es)
+
+abbrev pub ledgerAnswers : ℕ → List Edit → List Entry → List (Answer Written)
+ledgerAnswers L [] es = []
+ledgerAnswers L (c ∷ cs) es = ledgerAnswer L c es ∷ ledgerAnswers L cs (ledgerStep L c es)

@@ -1,0 +1,93 @@
+-- Worked cases of the ledger and of a history on two buffers: one table, one proposition. The marked cases are in `Marked`.
+use Prim.Native.Nat.{ℕ}
+use mathlib.Core.Path.{_≡_, refl}
+use mathlib.Core.List.{List, [], _++_, _∷_}
+use lib.ListN.{drop, take}
+use Rattle.octets.specs.Lists.{concatMap}
+use Rattle.octets.specs.Octets.{be, fromBe}
+use Rattle.octets.specs.Table.{Row, _gives_, failing}
+use Rattle.octets.specs.Text.{text}
+use Rattle.entries.specs.Entries.{entry, valid}
+use Rattle.entries.specs.Names.{allowedBytes, isName, isPrefix, isScore}
+use Rattle.front_coding.specs.Records.{recordLength, recordName, recordOf}
+use Rattle.book.specs.Answers.{Answer, Written, writing, writingImage}
+use Rattle.book.specs.Book.{bookImage, entriesIn, imageIn, offset, offsets, peak, peaks, readBook, readIn, recordsAt, scores}
+use Rattle.book.specs.Frame.{countOf, framed, readAs}
+use Rattle.book.specs.Shown.{E, P1, P3, changed, crowd, listed, shownWritten, spare}
+use Rattle.edits.specs.Edits.{emptyBook, setEntry, withdraw}
+use Rattle.ledger.specs.History.{answers, buffersAfter, callStep, started}
+use Rattle.ledger.specs.Ledger.{Edit, held, ledgerAnswer, ledgerAnswers, ledgerStep, withdrawName, setName}
+
+-- an answer as numbers: the refusal or 0, then the counts
+abbrev shownAnswer : Answer Written → List ℕ
+shownAnswer a = shownWritten (record { answer = a; dest = [] })
+
+-- E is set, name by name, into 44 bytes, which P3 fills; three calls are refused; then the best score falls
+abbrev history : List Edit
+history =
+    setName (text "ac") 5
+    ∷ setName (text "rc") 9
+    ∷ setName (text "rc step") 9
+    ∷ setName (text "rl") 12
+    ∷ setName (text "rm") 1
+    ∷ withdrawName (text "rm")
+    ∷ setName (text "rm\u{7f}") 1
+    ∷ setName (text "rl") 8
+    ∷ []
+
+abbrev answered : List ℕ
+answered =
+    0 ∷ 1 ∷ 18
+    ∷ 0 ∷ 2 ∷ 26
+    ∷ 0 ∷ 3 ∷ 37
+    ∷ 0 ∷ 4 ∷ 44
+    ∷ 7 ∷ 0 ∷ 0
+    ∷ 4 ∷ 0 ∷ 0
+    ∷ 2 ∷ 0 ∷ 0
+    ∷ 0 ∷ 4 ∷ 44 ∷ []
+
+-- the buffers after a number of its calls: the one that the last accepted call wrote, then the other
+abbrev buffers : ℕ → List ℕ
+buffers n =
+    buffersAfter (take n history) (started (spare 44) (spare 44)) .book
+    ++ buffersAfter (take n history) (started (spare 44) (spare 44)) .other
+
+abbrev histories : List Row
+histories =
+    -- every answer, of the calls and of the ledger
+    (concatMap shownAnswer (answers history (started (spare 44) (spare 44))) gives answered)
+    ∷ (concatMap shownAnswer (ledgerAnswers 44 history []) gives answered)
+    -- the entries held
+    ∷ (listed (held 44 (take 7 history) []) gives listed E)
+    ∷ (listed (held 44 history [])
+    gives listed (entry (text "ac") 5 ∷ entry (text "rc") 9 ∷ entry (text "rc step") 9 ∷ entry (text "rl") 8 ∷ []))
+    -- the buffers at the start, and after the first call: the roles are changed
+    ∷ (buffers 0 gives ((P1 ++ spare 37) ++ spare 44))
+    ∷ (drop 44 (buffers 1) gives (P1 ++ spare 37))
+    -- three refused calls change neither buffer; the last call leaves P3 in the other
+    ∷ (take 44 (buffers 4) gives P3)
+    ∷ (buffers 7 gives buffers 4)
+    ∷ (buffers 8 gives (changed (changed P3 22 (8 ∷ [])) 26 (1 ∷ []) ++ P3))
+    ∷ []
+
+abbrev limits : List Row
+limits =
+    -- with 1,024 held: 5 for a new name, before 7; 2 before 5; a held name gets a new score, or 7
+    (shownAnswer (ledgerAnswer 57344 (setName (text "zz") 1) (crowd 1024)) gives (5 ∷ 0 ∷ 0 ∷ []))
+    ∷ (shownAnswer (ledgerAnswer 7 (setName (text "zz") 1) (crowd 1024)) gives (5 ∷ 0 ∷ 0 ∷ []))
+    ∷ (shownAnswer (ledgerAnswer 7 (setName [] 1) (crowd 1024)) gives (2 ∷ 0 ∷ 0 ∷ []))
+    ∷ (shownAnswer (ledgerAnswer 7 (setName (text "00") 1) (crowd 1024)) gives (7 ∷ 0 ∷ 0 ∷ []))
+    ∷ (shownAnswer (ledgerAnswer 57344 (setName (text "00") 1) (crowd 1024)) gives (0 ∷ 1024 ∷ 7559 ∷ []))
+    -- with 1,023 held: a new name is accepted
+    ∷ (shownAnswer (ledgerAnswer 57344 (setName (text "zz") 1) (crowd 1023)) gives (0 ∷ 1024 ∷ 7560 ∷ []))
+    -- a withdrawal of a name not held: 4 before 7
+    ∷ (shownAnswer (ledgerAnswer 7 (withdrawName (text "zz")) E) gives (4 ∷ 0 ∷ 0 ∷ []))
+    ∷ (shownAnswer (ledgerAnswer 7 (withdrawName (text "rc")) E) gives (7 ∷ 0 ∷ 0 ∷ []))
+    ∷ []
+
+abbrev table : List Row
+table = histories ++ limits
+
+worked : failing 0 table ≡ []
+unfolding be fromBe allowedBytes isPrefix isName isScore valid recordOf recordName recordLength framed countOf readAs scores peak peaks recordsAt offset offsets imageIn entriesIn readIn bookImage readBook writing writingImage emptyBook setEntry withdraw ledgerAnswer ledgerStep callStep
+worked = refl

@@ -1,0 +1,118 @@
+-- Worked cases of the panel's keys: one table, one proposition.
+use Prim.Native.Nat.{_-_, ℕ}
+use mathlib.Core.Path.{_≡_, refl}
+use mathlib.Core.List.{List, [], _++_, _∷_}
+use lib.ListN.{length, replicate, take}
+use Rattle.octets.specs.Octets.{be, fromBe}
+use Rattle.octets.specs.Table.{Row, _gives_, failing}
+use Rattle.octets.specs.Text.{text}
+use Rattle.entries.specs.Completion.{completion}
+use Rattle.entries.specs.Entries.{valid}
+use Rattle.entries.specs.Names.{allowedBytes, isName, isPrefix, isScore}
+use Rattle.front_coding.specs.Records.{recordLength, recordName, recordOf}
+use Rattle.book.specs.Book.{bookImage, entriesIn, imageIn, offset, offsets, peak, peaks, readBook, readIn, recordsAt, scores}
+use Rattle.book.specs.Frame.{countOf, framed, readAs}
+use Rattle.book.specs.Shown.{P1, P3, changed, letters, shownLength, spare}
+use Rattle.panel.specs.Panel.{Panel, acts, lowered, panelOf, press}
+
+-- a panel before a key: the typed text, bytes that are not read behind it, the highlighted row, rows that are not read
+abbrev before : List ℕ → ℕ → Panel
+before w row = record { text = w ++ spare (48 - length w); len = length w; highlight = row; rows = 99 }
+
+-- a panel whose length is over 48
+abbrev tooLong : ℕ → Panel
+tooLong n = record { text = replicate 48 0x78; len = n; highlight = 1; rows = 99 }
+
+-- A key as numbers: the refusal or 0, the rows reported, then the panel.
+abbrev shownPanel : Panel → List ℕ
+shownPanel p = p .len ∷ p .highlight ∷ p .rows ∷ p .text
+
+abbrev key : List ℕ → Panel → ℕ → List ℕ
+key book p c = shownLength (press book p c .answer) ++ shownPanel (press book p c .panel)
+
+-- an accepted key leaves this text, row and rows, zeros behind the text, and reports the rows; a refused one leaves the panel
+abbrev leaves : List ℕ → ℕ → ℕ → List ℕ
+leaves w row rows = 0 ∷ rows ∷ length w ∷ row ∷ rows ∷ w ++ replicate (48 - length w) 0
+
+abbrev refuses : ℕ → Panel → List ℕ
+refuses n p = n ∷ 0 ∷ shownPanel p
+
+-- seven names a to g of score 0, of which five are offered
+abbrev seven : List ℕ
+seven = bookImage (letters 0x61 (replicate 7 0))
+
+-- E offers rl, rc, rc step for "r", and ac behind them for the empty text
+abbrev moving : List Row
+moving =
+    -- 00 only recounts; a highlight past the last row is lowered to it, to 0 without rows
+    (key (P3 ++ spare 3) (before (text "r") 1) 0x00 gives leaves (text "r") 1 3)
+    ∷ (key P3 (before (text "r") 2) 0x00 gives leaves (text "r") 2 3)
+    ∷ (key P3 (before (text "r") 3) 0x00 gives leaves (text "r") 2 3)
+    ∷ (key P3 (before (text "r") 4294967296) 0x00 gives leaves (text "r") 2 3)
+    ∷ (key P3 (before (text "q") 3) 0x00 gives leaves (text "q") 0 0)
+    ∷ (key P1 (before [] 3) 0x00 gives leaves [] 0 0)
+    -- up: from row 1, from row 0, from a row past the last
+    ∷ (key P3 (before (text "r") 1) 0x01 gives leaves (text "r") 0 3)
+    ∷ (key P3 (before (text "r") 0) 0x01 gives leaves (text "r") 0 3)
+    ∷ (key P3 (before (text "r") 7) 0x01 gives leaves (text "r") 1 3)
+    -- down: from row 1, from the last row, from a row past it, without rows
+    ∷ (key P3 (before (text "r") 1) 0x02 gives leaves (text "r") 2 3)
+    ∷ (key P3 (before (text "r") 2) 0x02 gives leaves (text "r") 2 3)
+    ∷ (key P3 (before (text "r") 7) 0x02 gives leaves (text "r") 2 3)
+    ∷ (key P3 (before (text "q") 0) 0x02 gives leaves (text "q") 0 0)
+    -- five rows at most
+    ∷ (key seven (before [] 6) 0x00 gives leaves [] 4 5)
+    ∷ (key seven (before [] 4) 0x02 gives leaves [] 4 5)
+    ∷ []
+
+abbrev typingKeys : List Row
+typingKeys =
+    -- append: the highlight is 0 again
+    (key P3 (before (text "r") 2) 0x63 gives leaves (text "rc") 0 2)
+    ∷ (key P3 (before (text "rc") 1) 0x20 gives leaves (text "rc ") 0 1)
+    ∷ (key P3 (before (text "r") 1) 0x7E gives leaves (text "r~") 0 0)
+    ∷ (key P3 (before [] 9) 0x61 gives leaves (text "a") 0 1)
+    -- append at 47 bytes; erase and recount at 48
+    ∷ (key P3 (before (replicate 47 0x78) 0) 0x78 gives leaves (replicate 48 0x78) 0 0)
+    ∷ (key P3 (before (replicate 48 0x78) 0) 0x08 gives leaves (replicate 47 0x78) 0 0)
+    ∷ (key P3 (before (replicate 48 0x78) 0) 0x00 gives leaves (replicate 48 0x78) 0 0)
+    -- erase; on empty text the highlight stays, or is lowered
+    ∷ (key P3 (before (text "rc") 1) 0x08 gives leaves (text "r") 0 3)
+    ∷ (key P3 (before (text "r") 2) 0x08 gives leaves [] 0 4)
+    ∷ (key P3 (before [] 2) 0x08 gives leaves [] 2 4)
+    ∷ (key P3 (before [] 7) 0x08 gives leaves [] 3 4)
+    -- take the highlighted name; past the last row the last; no change without rows
+    ∷ (key P3 (before (text "r") 1) 0x0D gives leaves (text "rc") 0 2)
+    ∷ (key P3 (before [] 3) 0x0D gives leaves (text "ac") 0 1)
+    ∷ (key P3 (before (text "r") 7) 0x0D gives leaves (text "rc step") 0 1)
+    ∷ (key seven (before [] 6) 0x0D gives leaves (text "e") 0 1)
+    ∷ (key P3 (before (text "q") 7) 0x0D gives leaves (text "q") 0 0)
+    ∷ []
+
+abbrev refusing : List Row
+refusing =
+    -- 9: append at 48 bytes
+    (key P3 (before (replicate 48 0x78) 7) 0x78 gives refuses 9 (before (replicate 48 0x78) 7))
+    -- 8: keys that are not listed, at 48 bytes too
+    ∷ (key P3 (before (text "r") 7) 0x7F gives refuses 8 (before (text "r") 7))
+    ∷ (key P3 (before (text "r") 7) 0x03 gives refuses 8 (before (text "r") 7))
+    ∷ (key P3 (before (text "r") 7) 0x1F gives refuses 8 (before (text "r") 7))
+    ∷ (key P3 (before (text "r") 7) 0xFF gives refuses 8 (before (text "r") 7))
+    ∷ (key P3 (before (replicate 48 0x78) 7) 0x7F gives refuses 8 (before (replicate 48 0x78) 7))
+    -- 2: a length over 48, or a byte within it that is not allowed; before 8
+    ∷ (key P3 (tooLong 49) 0x00 gives refuses 2 (tooLong 49))
+    ∷ (key P3 (tooLong 49) 0x78 gives refuses 2 (tooLong 49))
+    ∷ (key P3 (tooLong 4294967296) 0x7F gives refuses 2 (tooLong 4294967296))
+    ∷ (key P3 (before (text "r\u{7f}") 1) 0x00 gives refuses 2 (before (text "r\u{7f}") 1))
+    ∷ (key P3 (before (text "\u{1f}r") 1) 0x03 gives refuses 2 (before (text "\u{1f}r") 1))
+    -- 1: no book, before all
+    ∷ (key (take 43 P3) (before (text "r") 1) 0x00 gives refuses 1 (before (text "r") 1))
+    ∷ (key (changed P3 26 (1 ∷ [])) (tooLong 49) 0x7F gives refuses 1 (tooLong 49))
+    ∷ []
+
+abbrev table : List Row
+table = moving ++ typingKeys ++ refusing
+
+worked : failing 0 table ≡ []
+unfolding be fromBe allowedBytes isPrefix isName isScore valid completion recordOf recordName recordLength framed countOf readAs scores peak peaks recordsAt offset offsets imageIn entriesIn readIn bookImage readBook lowered acts panelOf press
+worked = refl

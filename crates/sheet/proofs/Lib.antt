@@ -1,0 +1,4 @@
+pub mod Reading
+pub mod RoundTrip
+pub mod Rows
+pub mod Check

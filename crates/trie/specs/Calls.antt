@@ -1,0 +1,31 @@
+-- The calls on tries (document 01, "Trie image", "Completion"), each as a function from all that it is given and lent.
+use Prim.Native.Nat.{_*_, ℕ}
+use mathlib.Core.Bool.{not}
+use mathlib.Core.List.{List, [], _∷_}
+use lib.Dec.{ltb}
+use lib.ListN.{length}
+use Rattle.entries.specs.Completion.{completion}
+use Rattle.entries.specs.Names.{isPrefix}
+use Rattle.book.specs.Answers.{Offered, Outcome, Written, _when_, converting, entriesBytes, entriesOf, isRead, writing}
+use Rattle.book.specs.Book.{readBook}
+use Rattle.completion.specs.Complete.{badCount, entryRoom, offeredAs}
+use Rattle.trie.specs.Reading.{readTrie}
+use Rattle.trie.specs.Trie.{trieImage}
+
+-- write the trie of a book's entries
+unfoldable pub writeTrie : List ℕ → List ℕ → Outcome Written
+writeTrie book dst = converting readBook trieImage book dst
+
+-- completion from a trie: it takes no ranges and reports looks 0
+unfoldable pub completeTrie : List ℕ → List ℕ → ℕ → List ℕ → Outcome Offered
+completeTrie trie p k dst =
+    let l = completion (entriesOf (readTrie trie)) p k in
+    writing
+    (1 when not (isRead (readTrie trie))
+    ∷ 2 when not (isPrefix p)
+    ∷ 3 when badCount k
+    ∷ 7 when ltb (length dst) (entryRoom * k)
+    ∷ [])
+    (offeredAs l 0)
+    (entriesBytes l)
+    dst

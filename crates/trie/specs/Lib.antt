@@ -1,0 +1,4 @@
+pub mod Trie
+pub mod Reading
+pub mod Calls
+pub mod Worked
