@@ -13,7 +13,7 @@ use Rattle.octets.specs.Lists.{_∈_, ceil}
 use Rattle.octets.specs.Octets.{same}
 use Rattle.octets.proofs.Lists.{at-all}
 use Rattle.entries.specs.Completion.{matches, rangeStart}
-use Rattle.entries.specs.Entries.{Entry, at, noEntry, position, rising}
+use Rattle.entries.specs.Entries.{Entry, at, maxEntries, noEntry, position, rising}
 use Rattle.entries.specs.Names.{isName}
 use Rattle.entries.specs.Place.{place}
 use Rattle.entries.proofs.Place.{place-absent, place-first, place-held, place-matches}
@@ -34,11 +34,16 @@ book-read buf h = go (readBook buf) refl
     go none e = absurd (false≢true (sym (ap isRead e) ∙ h))
     go (some es) e = e
 
-pub held-stored : (buf : List ℕ) (n : ℕ) → Held buf n → Stored buf (inBook buf)
-held-stored buf n h = stored buf (inBook buf) (book-read buf (h .isIt))
+-- a book that was checked
+module _ {buf : List ℕ} {n : ℕ} (h : Held buf n) where
+  pub held-stored : Stored buf (inBook buf)
+  held-stored = stored buf (inBook buf) (book-read buf (h .isIt))
 
-pub held-valid : (buf : List ℕ) (n : ℕ) → Held buf n → Valid (inBook buf)
-held-valid buf n h = valid-of (inBook buf) (held-stored buf n h .ok)
+  pub held-valid : Valid (inBook buf)
+  held-valid = valid-of (inBook buf) (held-stored .ok)
+
+  pub held-few : n ≤ maxEntries
+  held-few = omega (arith, h .count, held-valid .few)
 
 -- a name is held exactly where the entry at its place has it
 pub found-there :

@@ -1,1 +1,1 @@
-// Definitions in specs/, laws in proofs/; no functions.
+// The book image: definitions in specs/, laws in proofs/. Its functions are in book_check, book_find and book_writer.

@@ -1,0 +1,57 @@
+-- `book_check::peaks_are` meets its contract. The loop's invariant: the blocks left decide as all of them did.
+-- The measure is the number of blocks left. Assumes nothing.
+use Prim.Native.Nat.{_-_}
+use native.Mathlib.Omega.{arith}
+use borrow.Author.Tests.{not-false, not-true}
+use Rattle.book_check.proofs.Loops.{Peaks, peaks-end, peaks-stale, peaks-start, peaks-turn}
+use Rattle.book_check.proofs.peaks_are.Statement.{statement}
+use Rattle.book_check.proofs.peaks_are.Tie as tie
+
+abbrev Inv-loop : tie.InvT-loop
+Inv-loop buf n blocks j₀ j = Peaks buf n j
+
+abbrev μ-loop : tie.MeasureT-loop
+μ-loop buf n blocks j₀ j = blocks - j
+
+add-blocks : tie.Need-add-blocks Inv-loop μ-loop
+add-blocks c = omega arith
+
+loop-holds : tie.Need-loop-holds Inv-loop μ-loop
+loop-holds c = peaks-start _ _
+
+peak-is-requires : tie.Need-peak-is-requires Inv-loop μ-loop
+peak-is-requires c κs = omega arith
+
+returns : tie.Need-returns Inv-loop μ-loop
+returns c =
+    let k = c .before .before in
+    peaks-stale (k .before .loop .inv) (k .loop-test .taken) (c .before .peak-is .ensures) (not-true _ (c .if1 .taken))
+
+add-j : tie.Need-add-j Inv-loop μ-loop
+add-j c = omega arith
+
+loop-less : tie.Need-loop-less Inv-loop μ-loop
+loop-less c = omega arith
+
+loop-again : tie.Need-loop-again Inv-loop μ-loop
+loop-again c =
+    let k = c .before .before in
+    peaks-turn (k .before .loop .inv) (k .loop-test .taken) (c .before .peak-is .ensures) (not-false _ (c .if1 .left))
+
+returns-2 : tie.Need-returns-2 Inv-loop μ-loop
+returns-2 c = peaks-end (c .before .loop .inv) (c .loop-test .left)
+
+pub peaks-are-spec : {M : Type 1} → statement M
+peaks-are-spec =
+    tie.close
+    (tie.spec
+    Inv-loop
+    μ-loop
+    add-blocks
+    loop-holds
+    peak-is-requires
+    returns
+    add-j
+    loop-less
+    loop-again
+    returns-2)

@@ -1,0 +1,122 @@
+-- A walk over the records of one bucket: the cursor holds the name of the record behind which it stands.
+use Prim.Native.Nat.{_*_, _+_, _-_, _<_, _≤_, min, ℕ}
+use mathlib.Core.Path.{_∙_, _≡_, sym}
+use mathlib.Core.Bool.{Bool, false, false≢true, true}
+use mathlib.Core.List.{List}
+use lib.Dec.{ltb}
+use lib.ListN.{length}
+use native.Mathlib.Omega.{arith}
+use borrow.Author.Tests.{ltb-false, ltb-true}
+use Rattle.octets.proofs.Tests.{by-test}
+use Rattle.entries.specs.Entries.{Entry, at, entry}
+use Rattle.entries.specs.Place.{isBefore, place}
+use Rattle.entries.proofs.Place.{place-unique}
+use Rattle.entries.proofs.Valid.{Valid}
+use Rattle.front_coding.specs.Cursor.{Sound, Stepped, nameIn}
+use Rattle.front_coding.specs.Records.{bucketSize}
+use Rattle.book.proofs.Ahead.{Ahead, ahead-bucket, ahead-sound, step-ahead, step-index, step-name}
+use Rattle.book.proofs.Stored.{Stored}
+use Rattle.book_find.specs.Find.{AtBucket, HeadsBefore}
+use Rattle.front_coding.specs.declared.Cursor.{Cursor}
+use Rattle.front_coding.specs.declared.Step.{Step}
+
+-- from position `first` on, at most up to `end`
+pub record Reached (es : List Entry) (buf : List ℕ) (first end : ℕ) (c : Cursor) : Type 0 where
+  pub ahead : Ahead es buf c
+  pub from : first ≤ c .index
+  pub upto : c .index ≤ end
+  pub name : first < c .index → nameIn c ≡ at es (c .index - 1) .name
+
+module _ {buf : List ℕ} {es : List Entry} where
+  pub reach-start :
+      {bucket end : ℕ} {c : Cursor} → Stored buf es → AtBucket es bucket c → bucketSize * bucket ≤ end → end ≤ length es
+      → Reached es buf (bucketSize * bucket) end c
+  reach-start {bucket} {end} {c} s a h k =
+      let q = a .index in
+      record {
+        ahead = ahead-bucket buf es s c bucket (omega arith) (a .stands) (a .index) (a .empty);
+        from = omega arith;
+        upto = omega arith;
+        name = λ l. absurd (omega arith);
+      }
+
+  -- one step
+  module _ {first end : ℕ} {c : Cursor} (v : Valid es) (w : Reached es buf first end c) (k : end ≤ length es) (l : c .index < end) where
+    pub reach-sound : Sound buf c
+    reach-sound = ahead-sound es v buf c (w .ahead) (omega arith)
+
+    pub reach-index : {r : Step} → Stepped buf c r → r .next .index ≡ c .index + 1
+    reach-index {r} t = step-index es v buf c (w .ahead) (omega arith) r t
+
+    reach-name : {r : Step} → Stepped buf c r → nameIn (r .next) ≡ at es (c .index) .name
+    reach-name {r} t = step-name es v buf c (w .ahead) (omega arith) r t
+
+    pub reach-on : {r : Step} → Stepped buf c r → Reached es buf first end (r .next)
+    reach-on {r} t =
+        let x = reach-index t in
+        let z : r .next .index - 1 ≡ c .index = omega arith in
+        record {
+          ahead = step-ahead es v buf c (w .ahead) (omega arith) r t;
+          from = omega (arith, w .from);
+          upto = omega arith;
+          name = λ m. rw z (reach-name t);
+        }
+
+  -- behind the record at position i
+  pub reach-end : {first i : ℕ} {c : Cursor} → Reached es buf first (i + 1) c → first ≤ i → i < c .index → nameIn c ≡ at es i .name
+  reach-end {first} {i} {c} w h l = let z : c .index - 1 ≡ i = omega (arith, w .upto) in rw z at (w .name (omega arith))
+
+-- the walk that looks for the place of a key: the name held, as all before it, is before the key
+pub record Passed (past : Bool) (key : List ℕ) (es : List Entry) (buf : List ℕ) (first end : ℕ) (c : Cursor) : Type 0 where
+  pub reached : Reached es buf first end c
+  pub before : first < c .index → isBefore past key (entry (nameIn c) 0) ≡ true
+
+module _ {past : Bool} {key buf : List ℕ} {es : List Entry} where
+  pub pass-start :
+      {bucket end : ℕ} {c : Cursor} → Stored buf es → AtBucket es bucket c → bucketSize * bucket ≤ end → end ≤ length es
+      → Passed past key es buf (bucketSize * bucket) end c
+  pass-start s a h k = record { reached = reach-start s a h k; before = λ l. absurd (omega (arith, a .index)) }
+
+  module _ {first end : ℕ} {c : Cursor} (v : Valid es) (p : Passed past key es buf first end c) (k : end ≤ length es) where
+    pub pass-on :
+        {r : Step} → c .index < end → Stepped buf c r → isBefore past key (entry (nameIn (r .next)) 0) ≡ true
+        → Passed past key es buf first end (r .next)
+    pass-on l t b = record { reached = reach-on v (p .reached) k l t; before = λ m. b }
+
+    -- the entry in front of the cursor is before the key
+    left : first < c .index → isBefore past key (at es (c .index - 1)) ≡ true
+    left l = rw (p .reached .name l) at (p .before l)
+
+    -- a name that is not before the key: the head is, so it is not the head
+    pub pass-stop :
+        {r : Step} → c .index < end → Stepped buf c r → isBefore past key (at es first) ≡ true
+        → isBefore past key (entry (nameIn (r .next)) 0) ≡ false → c .index ≡ place past key es
+    pass-stop l t h b =
+        let right : isBefore past key (at es (c .index)) ≡ false = rw (reach-name v (p .reached) k l t) at b in
+        sym
+        (place-unique past key es (v .order) (c .index) (omega arith)
+        (λ z.
+        by-test (ltb first (c .index))
+        (λ u. left (ltb-true first (c .index) u))
+        (λ u.
+        let o = ltb-false first (c .index) u in
+        let e : c .index ≡ first = omega (arith, p .reached .from) in
+        absurd (false≢true (sym right ∙ (rw e h)))))
+        (λ z. right))
+
+    -- the end of the bucket
+    pub pass-end :
+        first < end → end ≤ c .index → (end < length es → isBefore past key (at es end) ≡ false) → end ≡ place past key es
+    pass-end f l right =
+        let e : c .index ≡ end = omega (arith, p .reached .upto) in
+        sym (place-unique past key es (v .order) end k (λ z. rw e at (left (omega arith))) right)
+
+-- what the heads tell: the place where none is before the key, and the name behind the bucket of the last head that is
+module _ {past : Bool} {key : List ℕ} {es : List Entry} {heads : ℕ} (h : HeadsBefore past key es heads) where
+  pub none-before : Valid es → heads ≡ 0 → 0 ≡ place past key es
+  none-before v e = sym (place-unique past key es (v .order) 0 (omega arith) (λ z. absurd (omega arith)) (rw e at (h .right)))
+
+  pub behind-bucket :
+      {n end : ℕ} → n ≡ length es → end ≡ min n (bucketSize * (heads - 1) + bucketSize) → 0 < heads → end < length es
+      → isBefore past key (at es end) ≡ false
+  behind-bucket {n} {end} e m z l = let q : end ≡ bucketSize * heads = omega arith in rw q (h .right (omega arith))

@@ -1,0 +1,132 @@
+// Names in a book that was checked: by position, by bucket, and the place of a key among them.
+ghost use mathlib.Core.Path.{_≡_};
+ghost use Prim.Native.Nat.{_*_, _+_, _<_, _≤_, min};
+ghost use Rattle.entries.specs.Entries.{at, entry};
+ghost use Rattle.entries.specs.Names.{longestName};
+ghost use Rattle.entries.specs.Place.{isBefore, place};
+ghost use Rattle.front_coding.specs.Cursor.{nameIn};
+ghost use Rattle.front_coding.specs.Records.{bucketSize};
+ghost use Rattle.book.specs.Book.{inBook, layout21, offset};
+ghost use Rattle.book.specs.Held.{Held};
+ghost use Rattle.book_find.specs.Find.{AtBucket, HeadsBefore};
+
+// Where the record of a bucket's head begins.
+fn offset_of(buf: &[u8], n: usize, bucket: usize) -> usize
+    requires { ⌜ Held (now buf) n × (bucketSize * bucket < n) ⌝ }
+    ensures { λ r. ⌜ r ≡ offset layout21 (inBook (now (buf .entry))) bucket ⌝ }
+{
+    octets::read_u16(buf, 7 + 4 * n + 2 * bucket) as usize
+}
+
+// The head name of a bucket, a part of the book.
+pub fn head_name<'a>(buf: &'a [u8], n: usize, bucket: usize) -> &'a [u8]
+    requires { ⌜ Held (now buf) n × (bucketSize * bucket < n) ⌝ }
+    ensures { λ r. ⌜ now r ≡ at (inBook (now (buf .entry))) (bucketSize * bucket) .name ⌝ }
+{
+    let at = offset_of(buf, n, bucket);
+    let start = at + 1;
+    let end = start + buf[at] as usize;
+    &buf[start..end]
+}
+
+// The cursor in front of a bucket's head.
+fn bucket_start(buf: &[u8], n: usize, bucket: usize) -> front_coding::Cursor
+    requires { ⌜ Held (now buf) n × (bucketSize * bucket < n) ⌝ }
+    ensures { λ r. ⌜ AtBucket (inBook (now (buf .entry))) bucket r ⌝ }
+{
+    front_coding::Cursor {
+        at: offset_of(buf, n, bucket),
+        index: 8 * bucket,
+        name: [0; 48],
+        len: 0,
+    }
+}
+
+// The position behind a bucket's last name.
+fn bucket_end(n: usize, bucket: usize) -> usize
+    requires { ⌜ bucketSize * bucket < n ⌝ }
+    ensures { λ r. ⌜ r ≡ min n (bucketSize * bucket + bucketSize) ⌝ }
+{
+    let first = 8 * bucket;
+    if n - first < 8 {
+        return n;
+    }
+    first + 8
+}
+
+// The cursor behind the record at a position: it holds the name there.
+pub fn cursor_at(buf: &[u8], n: usize, i: usize) -> front_coding::Cursor
+    requires { ⌜ Held (now buf) n × (i < n) ⌝ }
+    ensures { λ r. ⌜ (nameIn r ≡ at (inBook (now (buf .entry))) i .name) × (r .len ≤ longestName) ⌝ }
+{
+    let mut c = bucket_start(buf, n, i / 8);
+    while c.index <= i {
+        let t = front_coding::advance(buf, c);
+        c = t.next;
+    }
+    c
+}
+
+// Whether a name is below a key or, with `past`, begun by it.
+fn is_before(name: &[u8], key: &[u8], past: bool) -> bool
+    ensures { λ r. ⌜ r ≡ isBefore past (now (key .entry)) (entry (now (name .entry)) 0) ⌝ }
+{
+    if octets::is_below(name, key) {
+        return true;
+    }
+    if past {
+        return octets::starts_with(name, key);
+    }
+    false
+}
+
+// The same of the name that a cursor holds.
+fn holds_before(c: front_coding::Cursor, key: &[u8], past: bool) -> bool
+    requires { ⌜ c .len ≤ longestName ⌝ }
+    ensures { λ r. ⌜ r ≡ isBefore past (now (key .entry)) (entry (nameIn c) 0) ⌝ }
+{
+    let name = c.name;
+    let len = c.len;
+    is_before(&name[..len], key, past)
+}
+
+// How many heads are before the key, by binary search.
+fn heads_before(buf: &[u8], n: usize, key: &[u8], past: bool) -> usize
+    requires { ⌜ Held (now buf) n ⌝ }
+    ensures { λ r. ⌜ HeadsBefore past (now (key .entry)) (inBook (now (buf .entry))) r ⌝ }
+{
+    let mut low = 0;
+    let mut high = (n + 7) / 8;
+    while low < high {
+        let mid = low + (high - low) / 2;
+        if is_before(head_name(buf, n, mid), key, past) {
+            low = mid + 1;
+        } else {
+            high = mid;
+        }
+    }
+    low
+}
+
+// How many names are below the key or, with `past`, below it or begun by it: bucket heads first, then the names of one bucket.
+pub fn place(buf: &[u8], n: usize, key: &[u8], past: bool) -> usize
+    requires { ⌜ Held (now buf) n ⌝ }
+    ensures { λ r. ⌜ r ≡ place past (now (key .entry)) (inBook (now (buf .entry))) ⌝ }
+{
+    let heads = heads_before(buf, n, key, past);
+    if heads == 0 {
+        return 0;
+    }
+    let bucket = heads - 1;
+    let end = bucket_end(n, bucket);
+    let mut c = bucket_start(buf, n, bucket);
+    while c.index < end {
+        let t = front_coding::advance(buf, c);
+        let next = t.next;
+        if !holds_before(next, key, past) {
+            return c.index;
+        }
+        c = next;
+    }
+    end
+}

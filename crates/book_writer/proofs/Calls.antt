@@ -1,0 +1,60 @@
+-- For a caller that puts the n entries es one after the other: what `start` gives is a book half written, which has room for the next entry;
+-- each call keeps it so, and once all are put `finish` leaves the image.
+use Prim.Native.Nat.{_+_, _<_, _≤_, ℕ}
+use mathlib.Core.Path.{_∙_, _≡_, ap, subst, sym}
+use mathlib.Core.Bool.{true}
+use mathlib.Core.List.{List}
+use lib.ListN.{length}
+use native.Mathlib.Omega.{arith}
+use Rattle.octets.specs.Octets.{overwrite}
+use Rattle.octets.proofs.Lists.{at-all}
+use Rattle.entries.specs.Entries.{Entry, at, noEntry, valid}
+use Rattle.entries.specs.Names.{isName}
+use Rattle.entries.proofs.Valid.{name-length, valid-of}
+use Rattle.front_coding.specs.Cursor.{nameIn}
+use Rattle.front_coding.specs.Records.{bucketHead, recordOf}
+use Rattle.book.specs.Book.{bookImage, imageIn, layout21, recordsAt}
+use Rattle.book.proofs.Size.{book-length}
+use Rattle.book_writer.specs.Calls.{Put, PutRoom, Started}
+use Rattle.book_writer.specs.Writing.{finished}
+use Rattle.book_writer.proofs.Partial.{Partial, partial-start}
+use Rattle.book_writer.proofs.Put.{partial-put, room}
+use Rattle.book_writer.proofs.Whole.{finished-whole}
+use Rattle.front_coding.specs.declared.Cursor.{Cursor}
+
+pub start-partial :
+    (es : List Entry) (d : List ℕ) {n : ℕ} {c : Cursor} → n ≡ length es → length (bookImage es) ≤ length d → Started n c → Partial es d c d
+unfolding bookImage
+start-partial es d {n} {c} many h s = partial-start es d c h (s .at ∙ ap (recordsAt layout21) many) (s .index) (s .len)
+
+module _ {es : List Entry} {d₀ : List ℕ} {c : Cursor} {d : List ℕ} (p : Partial es d₀ c d) {n : ℕ} (many : n ≡ length es) where
+  pub finish-whole :
+      {total : ℕ} → valid es ≡ true → c .index ≡ n → total ≡ length (bookImage es) → finished total n d ≡ overwrite d₀ (bookImage es)
+  finish-whole ok e t = rw (t, many) (finished-whole es ok d₀ c d p (e ∙ many))
+
+  -- the next entry, with the name w
+  module _ (h : c .index < length es) {w : List ℕ} (called : w ≡ at es (c .index) .name) where
+    pub partial-room : valid es ≡ true → PutRoom d n c w
+    unfolding bookImage
+    partial-room ok =
+        let v = valid-of es ok in
+        let few = v .few in
+        let f = p .fits in
+        let l : length (imageIn layout21 es) ≤ 55559 = book-length es ok in
+        let r : c .at + length (recordOf bucketHead (c .index) (nameIn c) w) ≤ length (imageIn layout21 es) =
+        rw called (room es d₀ c d p h)
+        in
+        record {
+          few = omega arith;
+          low = omega arith;
+          small = p .small;
+          near = omega arith;
+          short = rw called (name-length (at es (c .index) .name) (at-all (λ e. isName (e .name)) noEntry es (v .allowed) (c .index) h));
+          fits = omega arith;
+        }
+
+    pub put-partial :
+        {s : ℕ} {new : List ℕ} {r : Cursor} → s ≡ at es (c .index) .score → Put d new n c w s r → Partial es d₀ r new
+    put-partial {s} {new} {r} scored put =
+        subst (Partial es d₀ r) (sym (put .bytes ∙ rw (many, called, scored)))
+        (partial-put es d₀ c d p h r (put .index) (put .end ∙ rw called) (put .name ∙ called) (put .small))

@@ -1,0 +1,35 @@
+-- What the calls of the writer ask and give: a cursor at the first record, the room for an entry, the entry put.
+use Prim.Native.Nat.{_+_, _<_, _≤_, ℕ}
+use mathlib.Core.Path.{_≡_}
+use mathlib.Core.List.{List}
+use lib.ListN.{length}
+use Rattle.entries.specs.Entries.{entry, maxEntries}
+use Rattle.entries.specs.Names.{longestName}
+use Rattle.front_coding.specs.Cursor.{nameIn}
+use Rattle.front_coding.specs.Records.{bucketHead, recordOf}
+use Rattle.book.specs.Book.{layout21, recordsAt}
+use Rattle.book_writer.specs.Writing.{putEntry}
+use Rattle.front_coding.specs.declared.Cursor.{Cursor}
+
+-- the cursor at the first record of a book of n entries
+pub record Started (n : ℕ) (r : Cursor) : Type 0 where
+  pub at : r .at ≡ recordsAt layout21 n
+  pub index : r .index ≡ 0
+  pub len : r .len ≡ 0
+
+-- an entry named w can be put at the cursor c into d, which takes a book of n entries
+pub record PutRoom (d : List ℕ) (n : ℕ) (c : Cursor) (w : List ℕ) : Type 0 where
+  pub few : n ≤ maxEntries
+  pub low : c .index < maxEntries
+  pub small : c .len ≤ longestName
+  pub near : c .at < 65536
+  pub short : length w ≤ longestName
+  pub fits : c .at + length (recordOf bucketHead (c .index) (nameIn c) w) ≤ length d
+
+-- the entry named w with the score s was put at the cursor c: new is the buffer then, and r the cursor behind the entry's record
+pub record Put (d new : List ℕ) (n : ℕ) (c : Cursor) (w : List ℕ) (s : ℕ) (r : Cursor) : Type 0 where
+  pub bytes : new ≡ putEntry n (c .index) (nameIn c) (c .at) (entry w s) d
+  pub index : r .index ≡ c .index + 1
+  pub end : r .at ≡ c .at + length (recordOf bucketHead (c .index) (nameIn c) w)
+  pub name : nameIn r ≡ w
+  pub small : r .len ≤ longestName

@@ -1,0 +1,43 @@
+-- Each enum answer of the front door as document 01's: the refusal's number, or the values given.
+use Prim.Native.Nat.{ℕ}
+use mathlib.Core.Path.{_≡_}
+use mathlib.Core.List.{List, [], _∷_}
+use mathlib.Core.Option.{Option, none, some}
+use Rattle.entries.specs.Entries.{Entry}
+use Rattle.book.specs.Answers.{Answer, Outcome, Place, entryBytes, given, refused, writingImage}
+use Rattle.book.specs.Answers as answers
+use Rattle.label_book.specs.declared.Written.{Written}
+use Rattle.label_book.specs.declared.Written.the-variants as written
+use Rattle.label_book.specs.declared.Found.{Found}
+use Rattle.label_book.specs.declared.Found.the-variants as found
+use Rattle.label_book.specs.declared.Span.{Span}
+use Rattle.label_book.specs.declared.Span.the-variants as span
+use Rattle.label_book.specs.declared.HeadLength.{HeadLength}
+use Rattle.label_book.specs.declared.HeadLength.the-variants as head-length
+
+abbrev pub writtenOf : Written → Answer answers.Written
+writtenOf (written.Refused n) = refused n
+writtenOf (written.Wrote e b) = given (record { entries = e; bytes = b })
+
+-- plain finding of an absent name is "none", no refusal
+abbrev pub foundOf : Found → Answer (Option Place)
+foundOf (found.Refused n) = refused n
+foundOf (found.At i s) = given (some (record { position = i; score = s }))
+foundOf found.Absent = given none
+
+abbrev pub spanOf : Span → Answer answers.Span
+spanOf (span.Refused n) = refused n
+spanOf (span.Range i k) = given (record { first = i; count = k })
+
+abbrev pub lengthOf : HeadLength → Answer ℕ
+lengthOf (head-length.Refused n) = refused n
+lengthOf (head-length.Bytes k) = given k
+
+-- a call that writes answers r and leaves the destination dest, as its definition says
+pub record Answered (o : Outcome answers.Written) (r : Written) (dest : List ℕ) : Type 0 where
+  pub answer : writtenOf r ≡ o .answer
+  pub left : dest ≡ o .dest
+
+-- one answer entry written, where the destination has room
+abbrev pub oneEntry : Entry → List ℕ → Outcome answers.Written
+oneEntry e dst = writingImage [] (e ∷ []) (entryBytes e) dst

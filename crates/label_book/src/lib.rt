@@ -1,0 +1,177 @@
+// The label book's front door: every public call. No call asks anything of its arguments; a refusal returns its number and changes no
+// lent byte. What a call gives and leaves is the definition that its `ensures` names.
+ghost use mathlib.Core.Path.{_≡_};
+ghost use Prim.Native.Nat.{_≤_};
+ghost use lib.Dec.{ltb};
+ghost use lib.ListN.{length};
+ghost use Rattle.octets.specs.Lists.{ceil};
+ghost use Rattle.entries.specs.Entries.{entry, maxEntries};
+ghost use Rattle.entries.specs.Names.{longestName};
+ghost use Rattle.front_coding.specs.Records.{bucketSize};
+ghost use Rattle.book.specs.Answers.{given};
+ghost use Rattle.book.specs.Book.{inBook};
+ghost use Rattle.book.specs.Held.{Held};
+ghost use Rattle.book.specs.Lookups.{find, foundIn, headLength, headName, nameAt, nameAtByName, prefixRange};
+ghost use Rattle.label_book.specs.Calls.{Answered, foundOf, lengthOf, oneEntry, spanOf};
+
+// What a call that writes a book, a sheet or an entry reports.
+pub enum Written {
+    Refused(u8),
+    Wrote { entries: usize, bytes: usize },
+}
+
+// What finding reports.
+pub enum Found {
+    Refused(u8),
+    At { position: usize, score: u32 },
+    Absent,
+}
+
+// The positions that a prefix begins.
+pub enum Span {
+    Refused(u8),
+    Range { first: usize, count: usize },
+}
+
+// The length of a bucket's head name.
+pub enum HeadLength {
+    Refused(u8),
+    Bytes(usize),
+}
+
+// The position and score of a name in a book that was checked.
+fn find_in(book: &[u8], n: usize, name: &[u8]) -> Found
+    requires { ⌜ Held (now book) n ⌝ }
+    ensures { λ r. ⌜ foundOf r ≡ given (foundIn (now (name .entry)) (inBook (now (book .entry)))) ⌝ }
+{
+    let i = book_find::place(book, n, name, false);
+    if n <= i {
+        return Found::Absent;
+    }
+    let c = book_find::cursor_at(book, n, i);
+    let len = c.len;
+    let held = c.name;
+    if !octets::equal(&held[..len], name) {
+        return Found::Absent;
+    }
+    Found::At {
+        position: i,
+        score: book_check::score_at(book, i),
+    }
+}
+
+// Writes one answer entry, where the destination has room.
+fn write_entry(name: &[u8], score: u32, dst: &mut [u8]) -> Written
+    requires { ⌜ length (now name) ≤ longestName ⌝ }
+    ensures { λ r. ⌜ Answered (oneEntry (entry (now (name .entry)) score) (now (dst .entry))) r (now (dst .exit)) ⌝ }
+{
+    let bytes = name.len() + 5;
+    if dst.len() < bytes {
+        return Written::Refused(7);
+    }
+    answers::put_entry(dst, 0, name, score);
+    Written::Wrote {
+        entries: 1,
+        bytes: bytes,
+    }
+}
+
+// Whether a book of n names has a bucket.
+fn has_bucket(n: usize, bucket: usize) -> bool
+    requires { ⌜ n ≤ maxEntries ⌝ }
+    ensures { λ r. ⌜ r ≡ ltb bucket (ceil n bucketSize) ⌝ }
+{
+    bucket < (n + 7) / 8
+}
+
+// The position and score of a name, or that it is absent.
+pub fn find(book: &[u8], name: &[u8]) -> Found
+    ensures { λ r. ⌜ foundOf r ≡ find (now (book .entry)) (now (name .entry)) ⌝ }
+{
+    let book_check::Checked::Book(n) = book_check::check(book) else {
+        return Found::Refused(1);
+    };
+    if !entries::is_name(name) {
+        return Found::Refused(2);
+    }
+    find_in(book, n, name)
+}
+
+// Writes the entry at a position as one answer entry.
+pub fn name_at(book: &[u8], position: usize, dst: &mut [u8]) -> Written
+    ensures { λ r. ⌜ Answered (nameAt (now (book .entry)) position (now (dst .entry))) r (now (dst .exit)) ⌝ }
+{
+    let book_check::Checked::Book(n) = book_check::check(book) else {
+        return Written::Refused(1);
+    };
+    if n <= position {
+        return Written::Refused(6);
+    }
+    let c = book_find::cursor_at(book, n, position);
+    let len = c.len;
+    let name = c.name;
+    write_entry(&name[..len], book_check::score_at(book, position), dst)
+}
+
+// Writes the given name with its score as one answer entry.
+pub fn name_of(book: &[u8], name: &[u8], dst: &mut [u8]) -> Written
+    ensures { λ r. ⌜ Answered (nameAtByName (now (book .entry)) (now (name .entry)) (now (dst .entry))) r (now (dst .exit)) ⌝ }
+{
+    let book_check::Checked::Book(n) = book_check::check(book) else {
+        return Written::Refused(1);
+    };
+    if !entries::is_name(name) {
+        return Written::Refused(2);
+    }
+    let Found::At { position: _, score } = find_in(book, n, name) else {
+        return Written::Refused(4);
+    };
+    write_entry(name, score, dst)
+}
+
+// The first position that a prefix begins, 0 if there is none, and how many it begins.
+pub fn prefix_range(book: &[u8], prefix: &[u8]) -> Span
+    ensures { λ r. ⌜ spanOf r ≡ prefixRange (now (book .entry)) (now (prefix .entry)) ⌝ }
+{
+    let book_check::Checked::Book(n) = book_check::check(book) else {
+        return Span::Refused(1);
+    };
+    if !entries::is_prefix(prefix) {
+        return Span::Refused(2);
+    }
+    let first = book_find::place(book, n, prefix, false);
+    let end = book_find::place(book, n, prefix, true);
+    if end <= first {
+        return Span::Range { first: 0, count: 0 };
+    }
+    Span::Range {
+        first: first,
+        count: end - first,
+    }
+}
+
+// The head name of a bucket, a part of the book; empty where `head_length` refuses.
+pub fn head<'a>(book: &'a [u8], bucket: usize) -> &'a [u8]
+    ensures { λ r. ⌜ now r ≡ headName (now (book .entry)) bucket ⌝ }
+{
+    let book_check::Checked::Book(n) = book_check::check(book) else {
+        return &book[0..0];
+    };
+    if !has_bucket(n, bucket) {
+        return &book[0..0];
+    }
+    book_find::head_name(book, n, bucket)
+}
+
+// The length of that name, or the refusal.
+pub fn head_length(book: &[u8], bucket: usize) -> HeadLength
+    ensures { λ r. ⌜ lengthOf r ≡ headLength (now (book .entry)) bucket ⌝ }
+{
+    let book_check::Checked::Book(n) = book_check::check(book) else {
+        return HeadLength::Refused(1);
+    };
+    if !has_bucket(n, bucket) {
+        return HeadLength::Refused(6);
+    }
+    HeadLength::Bytes(book_find::head_name(book, n, bucket).len())
+}
