@@ -16,7 +16,7 @@ pub enum Checked {
 }
 
 // Where records end.
-enum Ended {
+pub enum Ended {
     Damaged,
     At(usize),
 }

@@ -1,10 +1,12 @@
 -- "Empty": refused below 7 bytes, else the book of no entries stands at the front.
 use Prim.Native.Nat.{_<_, _≤_, ℕ}
 use mathlib.Core.Path.{_≡_, ap, refl}
+use mathlib.Core.Bool.{true}
 use mathlib.Core.List.{List, [], _∷_}
 use lib.ListN.{length}
 use borrow.Author.Tests.{le-ltb, lt-ltb}
 use Rattle.octets.specs.Octets.{be, overwrite}
+use Rattle.entries.specs.Entries.{valid}
 use Rattle.book.specs.Answers.{given, refused, writing, writingImage}
 use Rattle.book.specs.Book.{bookImage, imageIn, offsets, peaks, scores}
 use Rattle.book.specs.Frame.{framed}
@@ -26,3 +28,7 @@ pub empty-given :
     → emptyBook a ≡ record { answer = given (record { entries = 0; bytes = 7 }); dest = overwrite a (bookImage []) }
 unfolding emptyBook writingImage writing
 empty-given a h = rw (empty-length, le-ltb (length a) 7 h)
+
+pub empty-valid : valid [] ≡ true
+unfolding valid
+empty-valid = refl

@@ -1,9 +1,9 @@
 -- One answer entry, written or refused; and where name-at and name-at-by-name come to it.
 use Rattle.book.specs.Answers as answers
 use Prim.Native.Nat.{_+_, _<_, _≤_, ℕ}
-use mathlib.Core.Path.{_∙_, _≡_, ap, sym}
+use mathlib.Core.Path.{_∙_, _≡_, ap, refl, sym}
 use mathlib.Core.Bool.{true}
-use mathlib.Core.List.{List}
+use mathlib.Core.List.{List, []}
 use lib.ListN.{length}
 use lib.Seq.{sets}
 use native.Mathlib.Omega.{arith}
@@ -13,14 +13,20 @@ use Rattle.entries.specs.Entries.{Entry, at, entry, holds, position}
 use Rattle.entries.specs.Names.{isName}
 use Rattle.entries.proofs.Same.{entry-eq}
 use Rattle.book.specs.Answers.{Outcome, entryBytes, given, writing, writingImage}
-use Rattle.book.specs.Book.{inBook, isBook}
+use Rattle.book.specs.Book.{inBook, isBook, layout21, recordsAt}
 use Rattle.book.specs.Check.{scoreAt}
 use Rattle.book.specs.Held.{Held}
 use Rattle.book.specs.Lookups.{foundIn, nameAt, nameAtByName}
 use Rattle.book.proofs.Lookups.{held-stored}
 use Rattle.book.proofs.Size.{length-entryBytes}
+use Rattle.edits.specs.Edits.{emptyBook}
+use Rattle.edits.proofs.Empty.{empty-given, empty-length, empty-refused, empty-valid}
+use Rattle.book_writer.specs.Calls.{Started}
+use Rattle.book_writer.specs.Writing.{finished}
+use Rattle.book_writer.proofs.Calls.{finish-whole, start-partial}
 use Rattle.label_book.specs.Calls.{Answered, foundOf, oneEntry}
 use Rattle.label_book.proofs.Finding.{found-entry}
+use Rattle.front_coding.specs.declared.Cursor.{Cursor}
 use Rattle.label_book.specs.declared.Found.{Found}
 use Rattle.label_book.specs.declared.Found.the-variants as found
 use Rattle.label_book.specs.declared.Written.{Written}
@@ -76,3 +82,18 @@ pub of-name :
 of-name b w dst {left} {n} i s h k e m a =
     let p = found-entry w (inBook b) i s (ap foundOf (sym m) ∙ e) in
     answered-as (name-of-entry b w dst (h .isIt) k (p .0) ∙ ap (λ x. oneEntry x dst) (sym (p .1))) a
+
+-- "empty"
+pub nothing-refused : (dst : List ℕ) → length dst < 7 → Answered (emptyBook dst) (written.Refused 7) dst
+nothing-refused dst h = let e = empty-refused dst h in record { answer = ap (λ o. o .answer) (sym e); left = ap (λ o. o .dest) (sym e) }
+
+pub nothing-written : (dst left : List ℕ) → 7 ≤ length dst → left ≡ finished 7 0 dst → Answered (emptyBook dst) (written.Wrote 0 7) left
+nothing-written dst left h p =
+    let e = empty-given dst h in
+    let c : Cursor = record { at = recordsAt layout21 0; index = 0; name = []; len = 0 } in
+    let s : Started 0 c = record { at = refl; index = refl; len = refl } in
+    let q = start-partial [] dst refl (rw empty-length h) s in
+    record {
+      answer = ap (λ o. o .answer) (sym e);
+      left = p ∙ finish-whole q refl empty-valid refl (sym empty-length) ∙ ap (λ o. o .dest) (sym e);
+    }

@@ -12,6 +12,7 @@ ghost use Rattle.book.specs.Answers.{given};
 ghost use Rattle.book.specs.Book.{inBook};
 ghost use Rattle.book.specs.Held.{Held};
 ghost use Rattle.book.specs.Lookups.{find, foundIn, headLength, headName, nameAt, nameAtByName, prefixRange};
+ghost use Rattle.edits.specs.Edits.{emptyBook};
 ghost use Rattle.label_book.specs.Calls.{Answered, foundOf, lengthOf, oneEntry, spanOf};
 
 // What a call that writes a book, a sheet or an entry reports.
@@ -82,6 +83,20 @@ fn has_bucket(n: usize, bucket: usize) -> bool
     ensures { λ r. ⌜ r ≡ ltb bucket (ceil n bucketSize) ⌝ }
 {
     bucket < (n + 7) / 8
+}
+
+// Writes the book of no entries.
+pub fn empty(dst: &mut [u8]) -> Written
+    ensures { λ r. ⌜ Answered (emptyBook (now (dst .entry))) r (now (dst .exit)) ⌝ }
+{
+    if dst.len() < 7 {
+        return Written::Refused(7);
+    }
+    book_writer::finish(dst, 0, 7);
+    Written::Wrote {
+        entries: 0,
+        bytes: 7,
+    }
 }
 
 // The position and score of a name, or that it is absent.

@@ -19,10 +19,11 @@ use Rattle.book.specs.Answers.{Answer, Written, given, onAnswer, refused, writi
 use Rattle.book.specs.Book.{bookImage, readBook}
 use Rattle.book.proofs.Answers.{clear}
 use Rattle.book.proofs.Reading.{readBook-of}
+use Rattle.book.proofs.Walk.{other}
 use Rattle.edits.specs.Edits.{setEntry, withdraw}
-use Rattle.edits.proofs.Empty.{empty-given, empty-length}
+use Rattle.edits.proofs.Empty.{empty-given, empty-length, empty-valid}
 use Rattle.ledger.specs.History.{Buffers, answers, buffersAfter, call, callStep, started}
-use Rattle.ledger.specs.Ledger.{Edit, held, ledgerAnswer, ledgerAnswers, ledgerChecks, ledgerStep, withdrawName, reported, result, scoreFits, setName}
+use Rattle.ledger.specs.Ledger.{Edit, held, ledgerAnswer, ledgerAnswers, ledgerChecks, ledgerStep, reported, result, scoreFits, setName, withdrawName}
 
 -- buffers of L bytes of which the first holds the book of the entries es
 pub record Holds (L : ℕ) (es : List Entry) (b : Buffers) : Type 0 where
@@ -103,10 +104,6 @@ history-answers L (c ∷ cs) es b h f =
     cc
 
 -- the start: an accepted "empty"
-empty-valid : valid [] ≡ true
-unfolding valid
-empty-valid = refl
-
 pub start-holds : (L : ℕ) (a b : List ℕ) → length a ≡ L → length b ≡ L → 7 ≤ L → Holds L [] (started a b)
 start-holds L a b p q h =
     let e = ap (λ o. o .dest) (empty-given a (omega arith)) in
