@@ -13,6 +13,7 @@ ghost use Rattle.book.specs.Book.{inBook};
 ghost use Rattle.book.specs.Held.{Held};
 ghost use Rattle.book.specs.Lookups.{find, foundIn, headLength, headName, nameAt, nameAtByName, prefixRange};
 ghost use Rattle.edits.specs.Edits.{emptyBook};
+ghost use Rattle.sheet.specs.Sheet.{buildBook, listBook};
 ghost use Rattle.label_book.specs.Calls.{Answered, foundOf, lengthOf, oneEntry, spanOf};
 
 // What a call that writes a book, a sheet or an entry reports.
@@ -189,4 +190,40 @@ pub fn head_length(book: &[u8], bucket: usize) -> HeadLength
         return HeadLength::Refused(6);
     }
     HeadLength::Bytes(book_find::head_name(book, n, bucket).len())
+}
+
+// Builds a book from a sheet.
+pub fn build(sheet: &[u8], dst: &mut [u8]) -> Written
+    ensures { λ r. ⌜ Answered (buildBook (now (sheet .entry)) (now (dst .entry))) r (now (dst .exit)) ⌝ }
+{
+    let book_check::Checked::Book(n) = sheet::check(sheet) else {
+        return Written::Refused(1);
+    };
+    let total = sheet::book_size(sheet, n);
+    if dst.len() < total {
+        return Written::Refused(7);
+    }
+    sheet::fill_book(sheet, n, total, dst);
+    Written::Wrote {
+        entries: n,
+        bytes: total,
+    }
+}
+
+// Lists a book into a sheet.
+pub fn list(book: &[u8], dst: &mut [u8]) -> Written
+    ensures { λ r. ⌜ Answered (listBook (now (book .entry)) (now (dst .entry))) r (now (dst .exit)) ⌝ }
+{
+    let book_check::Checked::Book(n) = book_check::check(book) else {
+        return Written::Refused(1);
+    };
+    let total = sheet::sheet_size(book, n);
+    if dst.len() < total {
+        return Written::Refused(7);
+    }
+    sheet::fill_sheet(book, n, total, dst);
+    Written::Wrote {
+        entries: n,
+        bytes: total,
+    }
 }

@@ -1,4 +1,10 @@
 pub mod Reading
 pub mod RoundTrip
 pub mod Rows
-pub mod Check
+pub mod Accepts
+pub mod Passing
+pub mod Answer
+pub mod Held
+pub mod Entries
+pub mod Building
+pub mod Listing

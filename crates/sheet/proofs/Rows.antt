@@ -15,7 +15,7 @@ use Rattle.octets.specs.Octets.{be, begins, below, fromBe, numberAt}
 use Rattle.octets.proofs.Numbers.{Bytes, bytes-drop, number-below, number-stands}
 use Rattle.octets.proofs.Order.{begins-at, begins-front, begins-length, begins-parts, front-of}
 use Rattle.octets.proofs.Tests.{and-true, by-test}
-use Rattle.entries.specs.Entries.{Entry, at, entry, names}
+use Rattle.entries.specs.Entries.{Entry, entry, names}
 use Rattle.entries.specs.Names.{isName, isScore}
 use Rattle.book.specs.Answers.{entriesBytes, entryBytes}
 use Rattle.book.proofs.Size.{length-entryBytes}
@@ -32,7 +32,7 @@ pub record Rows (prev : List ℕ) (at : ℕ) (es : List Entry) (buf : List ℕ) 
 abbrev rowEntry : List ℕ → Entry
 rowEntry bs = entry (rowName bs) (fromBe (take 4 (behindName bs)))
 
-row-parts :
+pub row-parts :
     (prev bs : List ℕ) → rowIs prev bs ≡ true
     → (rowLength bs ≤ length bs) × (isName (rowName bs) ≡ true) × (below prev (rowName bs) ≡ true)
 unfolding rowIs
@@ -121,7 +121,7 @@ rows-sound (suc m) prev at buf end b h =
     (λ t. let z : _≡_ {A = Option ℕ} none (some end) = rw t at h in let y : _≡_ {A = ℕ} 0 1 = cc in absurd (omega arith))
 
 -- and back: over entries that stand the walk comes to their end
-entry-at : (e : Entry) (bs : List ℕ) → begins (entryBytes e) bs ≡ true → (rowName bs ≡ e .name) × (getD bs 0 0 ≡ length (e .name))
+pub entry-at : (e : Entry) (bs : List ℕ) → begins (entryBytes e) bs ≡ true → (rowName bs ≡ e .name) × (getD bs 0 0 ≡ length (e .name))
 unfolding entryBytes
 entry-at e [] h = absurd (false≢true h)
 entry-at e (x ∷ bs) h =

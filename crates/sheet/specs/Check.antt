@@ -7,7 +7,7 @@ use lib.Dec.{eqb, leb}
 use lib.ListN.{drop, getD, length, take}
 use Rattle.octets.specs.Lists.{if_then_else_}
 use Rattle.octets.specs.Octets.{below, numberAt}
-use Rattle.entries.specs.Entries.{at, maxEntries}
+use Rattle.entries.specs.Entries.{maxEntries}
 use Rattle.entries.specs.Names.{isName}
 use Rattle.book.specs.Check.{endsAt}
 

@@ -1,3 +1,4 @@
 pub mod Sheet
 pub mod Check
+pub mod Held
 pub mod Worked

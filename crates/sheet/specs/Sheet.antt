@@ -6,7 +6,7 @@ use mathlib.Core.Option.{Option, some}
 use lib.ListN.{drop, getD, length, take}
 use Rattle.octets.specs.Octets.{fromBe, overwrite}
 use Rattle.entries.specs.Entries.{Entry, entry}
-use Rattle.book.specs.Answers.{Outcome, Written, converting, entriesBytes}
+use Rattle.book.specs.Answers.{Outcome, Written, converting, entriesBytes, entriesOf}
 use Rattle.book.specs.Book.{bookImage, readBook}
 use Rattle.book.specs.Frame.{countOf, framed, readAs}
 
@@ -27,6 +27,10 @@ sheetEntries buf = sheetFrom (countOf buf) (drop 7 buf)
 
 unfoldable pub readSheet : List ℕ → Option (List Entry)
 readSheet buf = readAs sheetEntries sheetImage buf
+
+-- its entries
+abbrev pub inSheet : List ℕ → List Entry
+inSheet buf = entriesOf (readSheet buf)
 
 -- build a book from a sheet
 unfoldable pub buildBook : List ℕ → List ℕ → Outcome Written

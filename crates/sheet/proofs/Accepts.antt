@@ -14,7 +14,6 @@ use Rattle.octets.proofs.Order.{begins-length}
 use Rattle.octets.proofs.Tests.{and-true, by-test}
 use Rattle.entries.specs.Entries.{Entry, maxEntries, valid}
 use Rattle.entries.specs.Names.{isName, isScore}
-use Rattle.entries.proofs.BestList.{above}
 use Rattle.entries.proofs.Valid.{name-above, valid-intro, valid-of}
 use Rattle.book.specs.Answers.{entriesBytes, isRead}
 use Rattle.book.specs.Frame.{framed}
