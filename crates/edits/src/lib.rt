@@ -1,1 +1,186 @@
-// Definitions in specs/, laws in proofs/; no functions.
+// A book with an entry put in, left out or replaced at one place of the name order: measured, and written into another buffer. One pass
+// over the result's entries does both: those in front of the place, the new one, those behind the one left out. Scores, offsets and peaks
+// are the result's own.
+ghost use mathlib.Core.Path.{_≡_};
+ghost use mathlib.Core.Bool.{true};
+ghost use mathlib.Core.List.{[], _∷_};
+ghost use lib.ListN.{length};
+ghost use Prim.Native.Nat.{_+_, _≤_};
+ghost use Rattle.octets.specs.Octets.{overwrite};
+ghost use Rattle.entries.specs.Entries.{entry, maxEntries};
+ghost use Rattle.book.specs.Book.{bookImage, inBook};
+ghost use Rattle.edits.specs.Splice.{Spliced, countAfter, leftOut, putIn, result};
+ghost use Rattle.edits.specs.Passing.{BookDone, Fits, Passed, Reads, RunDone, RunRoom};
+
+// The two cursors behind a run of entries: in the book that it was read from, and in the result.
+struct Run {
+    from: front_coding::Cursor,
+    to: front_coding::Cursor,
+}
+
+// Passes the next entry of n: puts it or, without `store`, only measures its record. The cursor behind it.
+fn pass_entry(
+    dst: &mut [u8],
+    n: usize,
+    c: front_coding::Cursor,
+    name: &[u8],
+    score: u32,
+    store: bool,
+) -> front_coding::Cursor
+    requires { ⌜ Fits store n c (entry (now name) score ∷ []) (now dst) ⌝ }
+    ensures { λ r. ⌜ Passed store n c (entry (now (name .entry)) score ∷ []) (now (dst .entry)) r (now (dst .exit)) ⌝ }
+{
+    if store {
+        return book_writer::put_entry(dst, n, c, name, score);
+    }
+    let at = c.at;
+    let index = c.index;
+    let len = c.len;
+    let mut held = c.name;
+    let size = front_coding::record_size(index, &held[..len], name);
+    octets::copy(&mut held, 0, name);
+    front_coding::Cursor {
+        at: at + size,
+        index: index + 1,
+        name: held,
+        len: name.len(),
+    }
+}
+
+// Passes the entries of a book, from a cursor on up to a position, as the next ones of the result's n.
+fn pass_run(
+    book: &[u8],
+    from: front_coding::Cursor,
+    end: usize,
+    dst: &mut [u8],
+    n: usize,
+    to: front_coding::Cursor,
+    store: bool,
+) -> Run
+    requires { ⌜ RunRoom (now book) from end (now dst) n to store ⌝ }
+    ensures { λ r. ⌜ RunDone (now (book .entry)) from end (now (dst .entry)) (now (dst .exit)) n to store r ⌝ }
+{
+    let mut c = from;
+    let mut w = to;
+    while c.index < end {
+        let t = front_coding::advance(book, c);
+        let next = t.next;
+        let i = c.index;
+        let len = next.len;
+        let name = next.name;
+        w = pass_entry(
+            dst,
+            n,
+            w,
+            &name[..len],
+            book_check::score_at(book, i),
+            store,
+        );
+        c = next;
+    }
+    Run { from: c, to: w }
+}
+
+// Passes the new entry, where there is one.
+fn pass_new(
+    dst: &mut [u8],
+    n: usize,
+    c: front_coding::Cursor,
+    name: &[u8],
+    score: u32,
+    fresh: bool,
+    store: bool,
+) -> front_coding::Cursor
+    requires { ⌜ Fits store n c (putIn fresh (now name) score) (now dst) ⌝ }
+    ensures { λ r. ⌜ Passed store n c (putIn fresh (now (name .entry)) score) (now (dst .entry)) r (now (dst .exit)) ⌝ }
+{
+    if fresh {
+        return pass_entry(dst, n, c, name, score, store);
+    }
+    c
+}
+
+// The cursor behind the entry that is left out, where there is one.
+fn leave_out(book: &[u8], c: front_coding::Cursor, skip: bool) -> front_coding::Cursor
+    requires { ⌜ Reads (now book) c × (c .index + leftOut skip ≤ length (inBook (now book))) ⌝ }
+    ensures { λ r. ⌜ Reads (now (book .entry)) r × (r .index ≡ c .index + leftOut skip) ⌝ }
+{
+    if skip {
+        let t = front_coding::advance(book, c);
+        return t.next;
+    }
+    c
+}
+
+// How many entries the result has.
+pub fn count_after(n: usize, skip: bool, fresh: bool) -> usize
+    requires { ⌜ (leftOut skip ≤ n) × (n ≤ maxEntries) ⌝ }
+    ensures { λ r. ⌜ r ≡ countAfter n skip fresh ⌝ }
+{
+    let left = if skip { n - 1 } else { n };
+    if fresh { left + 1 } else { left }
+}
+
+// One pass over the entries of the result: where its records end.
+fn pass(
+    book: &[u8],
+    n: usize,
+    place: usize,
+    skip: bool,
+    fresh: bool,
+    name: &[u8],
+    score: u32,
+    dst: &mut [u8],
+    store: bool,
+) -> usize
+    requires { ⌜ Spliced (now book) n place skip fresh (now name) score
+        × (store ≡ true → length (bookImage (result (now book) place skip fresh (now name) score)) ≤ length (now dst)) ⌝ }
+    ensures { λ r. ⌜ BookDone store (result (now (book .entry)) place skip fresh (now (name .entry)) score) (now (dst .entry)) (now (dst .exit)) r ⌝ }
+{
+    let count = count_after(n, skip, fresh);
+    let from = book_writer::start(n);
+    let to = book_writer::start(count);
+    let a = pass_run(book, from, place, dst, count, to, store);
+    let w = pass_new(dst, count, a.to, name, score, fresh, store);
+    let c = leave_out(book, a.from, skip);
+    let b = pass_run(book, c, n, dst, count, w, store);
+    let end = b.to;
+    end.at
+}
+
+// The bytes of the result's image.
+pub fn measure(
+    book: &[u8],
+    n: usize,
+    place: usize,
+    skip: bool,
+    fresh: bool,
+    name: &[u8],
+    score: u32,
+) -> usize
+    requires { ⌜ Spliced (now book) n place skip fresh (now name) score ⌝ }
+    ensures { λ r. ⌜ r ≡ length (bookImage (result (now (book .entry)) place skip fresh (now (name .entry)) score)) ⌝ }
+{
+    let mut none = [0u8; 1];
+    pass(book, n, place, skip, fresh, name, score, &mut none, false)
+}
+
+// Writes the result's image, for which there is room.
+pub fn write(
+    book: &[u8],
+    n: usize,
+    place: usize,
+    skip: bool,
+    fresh: bool,
+    name: &[u8],
+    score: u32,
+    total: usize,
+    dst: &mut [u8],
+)
+    requires { ⌜ Spliced (now book) n place skip fresh (now name) score
+        × (total ≡ length (bookImage (result (now book) place skip fresh (now name) score))) × (total ≤ length (now dst)) ⌝ }
+    ensures { λ _. ⌜ now (dst .exit) ≡ overwrite (now (dst .entry)) (bookImage (result (now (book .entry)) place skip fresh (now (name .entry)) score)) ⌝ }
+{
+    pass(book, n, place, skip, fresh, name, score, dst, true);
+    book_writer::finish(dst, count_after(n, skip, fresh), total);
+}

@@ -1,17 +1,15 @@
 -- What the front door's lookups learn of a book that was checked.
-use types.Run.{OneOf}
-use denote.Enum.Declared.{tagOf}
 use Rattle.label_book.proofs.Found.{the-type}
-use Rattle.label_book.specs.declared.Found.{Found}
-use Rattle.label_book.specs.declared.Found.the-variants as found
 use Prim.Native.Nat.{_-_, _<_, _≤_, ℕ}
 use mathlib.Core.Path.{_∙_, _≡_, ap, sym}
+use mathlib.Core.Logic.{inl, inr}
 use mathlib.Core.Bool.{false, true}
 use mathlib.Core.List.{List, [], _∷_}
-use mathlib.Core.Logic.{inl, inr}
 use mathlib.Core.Option.{Option, none, some}
 use lib.ListN.{length}
 use native.Mathlib.Omega.{arith}
+use denote.Enum.Declared.{tagOf}
+use types.Run.{OneOf}
 use Rattle.octets.specs.Octets.{same}
 use Rattle.octets.proofs.Count.{count}
 use Rattle.octets.proofs.Order.{same-eq}
@@ -19,46 +17,84 @@ use Rattle.octets.proofs.Tests.{by-test}
 use Rattle.entries.specs.Entries.{Entry, at, entry, holds, position}
 use Rattle.entries.specs.Names.{isPrefix}
 use Rattle.entries.specs.Place.{place}
-use Rattle.entries.proofs.Place.{position-at}
+use Rattle.entries.proofs.Place.{place-absent, place-held, position-at}
 use Rattle.entries.proofs.Same.{entry-eq}
 use Rattle.book.specs.Answers.{Answer, Place, Span, given, refused}
 use Rattle.book.specs.Book.{inBook}
 use Rattle.book.specs.Check.{scoreAt}
 use Rattle.book.specs.Held.{Held}
 use Rattle.book.specs.Lookups.{foundIn, prefixRange}
-use Rattle.book.proofs.Lookups.{found-none, found-there, held-stored, held-valid, range-none, range-some}
-use Rattle.label_book.specs.Calls.{foundOf}
+use Rattle.book.proofs.Lookups.{held-stored, held-valid, range-none, range-some}
+use Rattle.label_book.specs.Calls.{foundOf, placeAs}
+use Rattle.label_book.specs.declared.Place.the-variants as places
+use Rattle.label_book.specs.declared.Found.{Found}
+use Rattle.label_book.specs.declared.Found.the-variants as found
 
--- the place of a name is past the last entry, or has another name: it is absent
-pub found-past :
-    (b w : List ℕ) (n i : ℕ) → Held b n → i ≡ place false w (inBook b) → n ≤ i
-    → _≡_ {A = Answer (Option Place)} (given none) (given (foundIn w (inBook b)))
-found-past b w n i h p l =
+-- the place of a name is past the last entry, or has another name: a gap
+pub gap-past : (b w : List ℕ) (n i : ℕ) → Held b n → i ≡ place false w (inBook b) → n ≤ i → places.Gap i ≡ placeAs w (inBook b)
+gap-past b w n i h p l =
     let c = h .count in
-    ap given (sym (found-none w (inBook b) (held-valid h .order) (λ m. absurd (omega arith))))
+    rw (place-absent w (inBook b) (held-valid h .order) (λ m. absurd (omega arith)), p)
 
-pub found-other :
+pub gap-other :
     (b w u : List ℕ) (n i : ℕ) → Held b n → i ≡ place false w (inBook b) → u ≡ at (inBook b) i .name → same u w ≡ false
-    → _≡_ {A = Answer (Option Place)} (given none) (given (foundIn w (inBook b)))
-found-other b w u n i h p e s =
-    ap given (sym (found-none w (inBook b) (held-valid h .order) (λ m. rw (← p, ← e) s)))
+    → places.Gap i ≡ placeAs w (inBook b)
+gap-other b w u n i h p e s = rw (place-absent w (inBook b) (held-valid h .order) (λ m. rw (← p, ← e) s), p)
 
 -- it has that name
-pub found-here :
-    (b w u : List ℕ) (n i s : ℕ) → Held b n → i ≡ place false w (inBook b) → i < n → u ≡ at (inBook b) i .name → same u w ≡ true → s ≡ scoreAt b i
-    → _≡_ {A = Answer (Option Place)} (given (some (record { position = i; score = s }))) (given (foundIn w (inBook b)))
-found-here b w u n i s h p l e t z =
+pub held-here :
+    (b w u : List ℕ) (n i : ℕ) → Held b n → i ≡ place false w (inBook b) → i < n → u ≡ at (inBook b) i .name → same u w ≡ true
+    → places.Held i ≡ placeAs w (inBook b)
+held-here b w u n i h p l e t =
     let c = h .count in
     let m : i < length (inBook b) = omega arith in
     let q : at (inBook b) i .name ≡ w = sym e ∙ same-eq u w t in
-    let score : s ≡ at (inBook b) i .score = z ∙ held-stored h .scoredAt i m in
-    let f = found-there w (inBook b) (held-valid h .order) (rw (← p) m) (rw (← p) q) in
-    ap given (sym ((rw (← p) at f) ∙ ap some (λ k. record { position = i; score = sym score k })))
+    let f = place-held w (inBook b) (held-valid h .order) (rw (← p) m) (rw (← p) q) in
+    rw (f .0, f .1, ← p)
+
+-- taken apart: a position is that of a name that is held, a gap the place of one that is not
+pub at-held : (w : List ℕ) (es : List Entry) {i : ℕ} → places.Held i ≡ placeAs w es → (holds w es ≡ true) × (i ≡ position w es)
+at-held w es {i} e =
+    by-test (holds w es)
+    (λ t. (t, (let z : places.Held i ≡ places.Held (position w es) = rw t at e in cc)))
+    (λ t. let z : places.Held i ≡ places.Gap (place false w es) = rw t at e in let y : _≡_ {A = ℕ} 0 1 = cc in absurd (omega arith))
+
+pub at-gap : (w : List ℕ) (es : List Entry) {i : ℕ} → places.Gap i ≡ placeAs w es → (holds w es ≡ false) × (i ≡ place false w es)
+at-gap w es {i} e =
+    by-test (holds w es)
+    (λ t. let z : places.Gap i ≡ places.Held (position w es) = rw t at e in let y : _≡_ {A = ℕ} 0 1 = cc in absurd (omega arith))
+    (λ t. (t, (let z : places.Gap i ≡ places.Gap (place false w es) = rw t at e in cc)))
+
+pub held-low : (b w : List ℕ) (n : ℕ) {i : ℕ} → Held b n → places.Held i ≡ placeAs w (inBook b) → i < n
+held-low b w n {i} h e =
+    let f = at-held w (inBook b) e in
+    omega (arith, h .count, f .1, position-at w (inBook b) (f .0) .0)
+
+-- so finding gives the position with its score, or none
+pub found-at :
+    (b w : List ℕ) (n i s : ℕ) → Held b n → places.Held i ≡ placeAs w (inBook b) → s ≡ scoreAt b i
+    → _≡_ {A = Answer (Option Place)} (given (some (record { position = i; score = s }))) (given (foundIn w (inBook b)))
+unfolding foundIn
+found-at b w n i s h e z =
+    let f = at-held w (inBook b) e in
+    let m = position-at w (inBook b) (f .0) .0 in
+    let score : s ≡ at (inBook b) (position w (inBook b)) .score = z ∙ ap (scoreAt b) (f .1) ∙ held-stored h .scoredAt (position w (inBook b)) m in
+    rw (f .0, f .1, score)
+
+pub found-gap :
+    (b w : List ℕ) (i : ℕ) → places.Gap i ≡ placeAs w (inBook b) → _≡_ {A = Answer (Option Place)} (given none) (given (foundIn w (inBook b)))
+unfolding foundIn
+found-gap b w i e = rw (at-gap w (inBook b) e .0)
 
 scoreIn : Answer (Option Place) → ℕ
 scoreIn (refused n) = 0
 scoreIn (given none) = 0
 scoreIn (given (some p)) = p .score
+
+positionIn : Answer (Option Place) → ℕ
+positionIn (refused n) = 0
+positionIn (given none) = 0
+positionIn (given (some p)) = p .position
 
 -- a name that is found is the entry at its position
 pub found-entry :
@@ -74,6 +110,15 @@ found-entry w es i s h =
     here t e =
         let q : s ≡ at es (position w es) .score = ap scoreIn e in
         entry-eq (entry w s) (at es (position w es)) (sym (position-at w es t .1)) q
+
+pub found-position :
+    (w : List ℕ) (es : List Entry) (i s : ℕ) → _≡_ {A = Answer (Option Place)} (given (some (record { position = i; score = s }))) (given (foundIn w es))
+    → (holds w es ≡ true) × (i ≡ position w es)
+unfolding foundIn positionIn
+found-position w es i s h =
+    by-test (holds w es)
+    (λ t. (t, ap positionIn (rw t at h)))
+    (λ t. let y : _≡_ {A = Answer (Option Place)} (given (some (record { position = i; score = s }))) (given none) = rw t at h in let z : _≡_ {A = ℕ} 0 1 = cc in absurd (omega arith))
 
 pub found-not : (w : List ℕ) (es : List Entry) → _≡_ {A = Answer (Option Place)} (given none) (given (foundIn w es)) → holds w es ≡ false
 unfolding foundIn

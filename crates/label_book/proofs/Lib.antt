@@ -1,3 +1,4 @@
 pub mod Finding
 pub mod Writing
 pub mod Converting
+pub mod Editing

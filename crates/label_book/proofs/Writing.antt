@@ -62,7 +62,7 @@ unfolding nameAtByName writingImage writing
 name-of-entry b w dst h k l = rw (h, k, l)
 
 -- an outcome in another's place
-answered-as : {o p : Outcome answers.Written} {r : Written} {left : List ℕ} → o ≡ p → Answered p r left → Answered o r left
+pub answered-as : {o p : Outcome answers.Written} {r : Written} {left : List ℕ} → o ≡ p → Answered p r left → Answered o r left
 answered-as {o} {p} {r} {left} e a = record { answer = a .answer ∙ ap (λ x. x .answer) (sym e); left = a .left ∙ ap (λ x. x .dest) (sym e) }
 
 -- name-at: the entry at the position

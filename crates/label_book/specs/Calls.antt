@@ -1,10 +1,14 @@
 -- Each enum answer of the front door as document 01's: the refusal's number, or the values given.
 use Prim.Native.Nat.{ℕ}
 use mathlib.Core.Path.{_≡_}
+use mathlib.Core.Bool.{false}
 use mathlib.Core.List.{List, [], _∷_}
 use mathlib.Core.Option.{Option, none, some}
-use Rattle.entries.specs.Entries.{Entry}
-use Rattle.book.specs.Answers.{Answer, Outcome, Place, entryBytes, given, refused, writingImage}
+use Rattle.octets.specs.Lists.{if_then_else_}
+use Rattle.entries.specs.Entries.{Entry, holds, position}
+use Rattle.entries.specs.Place.{place}
+use Rattle.book.specs.Book.{bookImage}
+use Rattle.book.specs.Answers.{Answer, Outcome, entryBytes, given, refused, writingImage}
 use Rattle.book.specs.Answers as answers
 use Rattle.label_book.specs.declared.Written.{Written}
 use Rattle.label_book.specs.declared.Written.the-variants as written
@@ -12,6 +16,8 @@ use Rattle.label_book.specs.declared.Found.{Found}
 use Rattle.label_book.specs.declared.Found.the-variants as found
 use Rattle.label_book.specs.declared.Span.{Span}
 use Rattle.label_book.specs.declared.Span.the-variants as span
+use Rattle.label_book.specs.declared.Place.{Place}
+use Rattle.label_book.specs.declared.Place.the-variants as places
 use Rattle.label_book.specs.declared.HeadLength.{HeadLength}
 use Rattle.label_book.specs.declared.HeadLength.the-variants as head-length
 
@@ -20,7 +26,7 @@ writtenOf (written.Refused n) = refused n
 writtenOf (written.Wrote e b) = given (record { entries = e; bytes = b })
 
 -- plain finding of an absent name is "none", no refusal
-abbrev pub foundOf : Found → Answer (Option Place)
+abbrev pub foundOf : Found → Answer (Option answers.Place)
 foundOf (found.Refused n) = refused n
 foundOf (found.At i s) = given (some (record { position = i; score = s }))
 foundOf found.Absent = given none
@@ -41,3 +47,11 @@ pub record Answered (o : Outcome answers.Written) (r : Written) (dest : List ℕ
 -- one answer entry written, where the destination has room
 abbrev pub oneEntry : Entry → List ℕ → Outcome answers.Written
 oneEntry e dst = writingImage [] (e ∷ []) (entryBytes e) dst
+
+-- a whole book written, where the destination has room
+abbrev pub wholeBook : List Entry → List ℕ → Outcome answers.Written
+wholeBook es dst = writingImage [] es (bookImage es) dst
+
+-- where a name is among entries in name order: its position, or the gap that it would fill
+abbrev pub placeAs : List ℕ → List Entry → Place
+placeAs w es = if holds w es then places.Held (position w es) else places.Gap (place false w es)

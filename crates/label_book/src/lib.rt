@@ -12,9 +12,10 @@ ghost use Rattle.book.specs.Answers.{given};
 ghost use Rattle.book.specs.Book.{inBook};
 ghost use Rattle.book.specs.Held.{Held};
 ghost use Rattle.book.specs.Lookups.{find, foundIn, headLength, headName, nameAt, nameAtByName, prefixRange};
-ghost use Rattle.edits.specs.Edits.{emptyBook};
+ghost use Rattle.edits.specs.Edits.{emptyBook, setEntry, withdraw};
+ghost use Rattle.edits.specs.Splice.{Spliced, result};
 ghost use Rattle.sheet.specs.Sheet.{buildBook, listBook};
-ghost use Rattle.label_book.specs.Calls.{Answered, foundOf, lengthOf, oneEntry, spanOf};
+ghost use Rattle.label_book.specs.Calls.{Answered, foundOf, lengthOf, oneEntry, placeAs, spanOf, wholeBook};
 
 // What a call that writes a book, a sheet or an entry reports.
 pub enum Written {
@@ -41,21 +42,37 @@ pub enum HeadLength {
     Bytes(usize),
 }
 
-// The position and score of a name in a book that was checked.
-fn find_in(book: &[u8], n: usize, name: &[u8]) -> Found
+// Where a name is in a book that was checked: its position, or the gap that it would fill.
+enum Place {
+    Held(usize),
+    Gap(usize),
+}
+
+fn look_up(book: &[u8], n: usize, name: &[u8]) -> Place
     requires { ⌜ Held (now book) n ⌝ }
-    ensures { λ r. ⌜ foundOf r ≡ given (foundIn (now (name .entry)) (inBook (now (book .entry)))) ⌝ }
+    ensures { λ r. ⌜ r ≡ placeAs (now (name .entry)) (inBook (now (book .entry))) ⌝ }
 {
     let i = book_find::place(book, n, name, false);
     if n <= i {
-        return Found::Absent;
+        return Place::Gap(i);
     }
     let c = book_find::cursor_at(book, n, i);
     let len = c.len;
     let held = c.name;
     if !octets::equal(&held[..len], name) {
-        return Found::Absent;
+        return Place::Gap(i);
     }
+    Place::Held(i)
+}
+
+// The position and score of a name in a book that was checked.
+fn find_in(book: &[u8], n: usize, name: &[u8]) -> Found
+    requires { ⌜ Held (now book) n ⌝ }
+    ensures { λ r. ⌜ foundOf r ≡ given (foundIn (now (name .entry)) (inBook (now (book .entry)))) ⌝ }
+{
+    let Place::Held(i) = look_up(book, n, name) else {
+        return Found::Absent;
+    };
     Found::At {
         position: i,
         score: book_check::score_at(book, i),
@@ -98,6 +115,69 @@ pub fn empty(dst: &mut [u8]) -> Written
         entries: 0,
         bytes: 7,
     }
+}
+
+// Writes the book with one entry left out, or a new one put in, or both, at a place, where the destination has room.
+fn write_edit(
+    book: &[u8],
+    n: usize,
+    place: usize,
+    skip: bool,
+    fresh: bool,
+    name: &[u8],
+    score: u32,
+    dst: &mut [u8],
+) -> Written
+    requires { ⌜ Spliced (now book) n place skip fresh (now name) score ⌝ }
+    ensures { λ r. ⌜ Answered (wholeBook (result (now (book .entry)) place skip fresh (now (name .entry)) score) (now (dst .entry))) r (now (dst .exit)) ⌝ }
+{
+    let total = edits::measure(book, n, place, skip, fresh, name, score);
+    if dst.len() < total {
+        return Written::Refused(7);
+    }
+    edits::write(book, n, place, skip, fresh, name, score, total, dst);
+    Written::Wrote {
+        entries: edits::count_after(n, skip, fresh),
+        bytes: total,
+    }
+}
+
+// Adds a name, or gives it a new score: the result stands at the front of another buffer.
+pub fn set(book: &[u8], name: &[u8], score: u32, dst: &mut [u8]) -> Written
+    ensures { λ r. ⌜ Answered (setEntry (now (book .entry)) (now (name .entry)) score (now (dst .entry))) r (now (dst .exit)) ⌝ }
+{
+    let book_check::Checked::Book(n) = book_check::check(book) else {
+        return Written::Refused(1);
+    };
+    if !entries::is_name(name) {
+        return Written::Refused(2);
+    }
+    let place = look_up(book, n, name);
+    match place {
+        Place::Held(i) => write_edit(book, n, i, true, true, name, score, dst),
+        Place::Gap(i) => {
+            if 1024 <= n {
+                return Written::Refused(5);
+            }
+            write_edit(book, n, i, false, true, name, score, dst)
+        }
+    }
+}
+
+// Removes a name: the result stands at the front of another buffer.
+pub fn withdraw(book: &[u8], name: &[u8], dst: &mut [u8]) -> Written
+    ensures { λ r. ⌜ Answered (withdraw (now (book .entry)) (now (name .entry)) (now (dst .entry))) r (now (dst .exit)) ⌝ }
+{
+    let book_check::Checked::Book(n) = book_check::check(book) else {
+        return Written::Refused(1);
+    };
+    if !entries::is_name(name) {
+        return Written::Refused(2);
+    }
+    let Found::At { position, score: _ } = find_in(book, n, name) else {
+        return Written::Refused(4);
+    };
+    write_edit(book, n, position, true, false, name, 0, dst)
 }
 
 // The position and score of a name, or that it is absent.

@@ -1,73 +1,39 @@
--- `label_book::find_in` meets its contract: the name at the key's place is the key, or the key is absent.
+-- `label_book::find_in` meets its contract: a position with its score, or none for a gap.
 -- No loop, so no invariant. Assumes nothing.
 use mathlib.Core.Path.{_≡_, _∙_, sym}
-use lib.ListN.{length}
-use lib.Seq.{length-take-le}
 use native.Mathlib.Omega.{arith}
 use borrow.Author.Needs.{needs}
-use borrow.Author.Tests.{not-false, not-true}
-use Rattle.entries.specs.Names.{longestName}
-use Rattle.book.proofs.Lookups.{held-valid}
-use Rattle.label_book.proofs.Finding.{found-here, found-other, found-past}
+use Rattle.book.proofs.Lookups.{held-few}
+use Rattle.label_book.proofs.Finding.{found-at, found-gap, held-low}
 use Rattle.label_book.proofs.find_in.Statement.{statement}
 use Rattle.label_book.proofs.find_in.Tie as tie
 
--- the array is 48 bytes long
-long : (c : tie.After-cursor-at) → length (c .cursor-at .result .name) ≡ longestName
-long c = search needs
+look-up-requires : tie.Need-look-up-requires
+look-up-requires c κs = c .before .before .pre
 
-place-requires : tie.Need-place-requires
-place-requires c κs = c .before .before .pre
+enum-known-i : tie.Need-enum-known-i
+enum-known-i c = search needs
+
+enum-told : tie.Need-enum-told
+enum-told c = search needs
 
 returns : tie.Need-returns
-returns c = found-past _ _ _ _ (c .before .before .before .before .pre) (c .before .place .ensures) (c .if1 .taken)
-
-cursor-at-requires : tie.Need-cursor-at-requires
-cursor-at-requires c κs = (c .before .before .before .before .pre, c .if1 .left)
-
-array-share-prefix-held : tie.Need-array-share-prefix-held
-array-share-prefix-held c = omega (arith, long (c .before), c .before .cursor-at .ensures .1)
-
-slice-aggregate-equal : tie.Need-slice-aggregate-equal
-slice-aggregate-equal c =
-    let k = c .before .before in
-    sym (length-take-le (k .cursor-at .result .len) (k .cursor-at .result .name) (omega (arith, long k, k .cursor-at .ensures .1)))
-
-equal-requires : tie.Need-equal-requires
-equal-requires c κs = tt
-
-returns-2 : tie.Need-returns-2
-returns-2 c =
-    let k = c .before .before .before .before in
-    let p = k .before .before in
-    found-other _ _ _ _ _ (p .before .before .before .pre) (p .place .ensures) (k .cursor-at .ensures .0)
-    (sym (c .before .equal .ensures) ∙ not-true (c .before .equal .result) (c .if2 .taken))
+returns c = found-gap _ _ _ (sym (c .enum-told .given .1) ∙ c .before .before .look-up .ensures)
 
 score-at-requires : tie.Need-score-at-requires
 score-at-requires c κs =
-    let k = c .before .before .before .before in
-    let p = k .before .before in
-    let h = p .before .before .before .pre in
-    omega (arith, held-valid h .few, h .count, k .before .if1 .left)
+    let k = c .before in
+    let l = k .before .before in
+    let a = l .before .before .before in
+    omega (arith, held-few (a .pre), held-low (a .args .book .now) (a .args .name .now) _ (a .pre) (sym (k .i .given .1) ∙ l .look-up .ensures))
 
-returns-3 : tie.Need-returns-3
-returns-3 c =
-    let e = c .before .before in
-    let k = e .before .before .before in
-    let p = k .before .before in
-    found-here _ _ _ _ _ _ (p .before .before .before .pre) (p .place .ensures) (k .before .if1 .left) (k .cursor-at .ensures .0)
-    (sym (e .equal .ensures) ∙ not-false (e .equal .result) (c .before .if2 .left)) (c .score-at .ensures)
+returns-2 : tie.Need-returns-2
+returns-2 c =
+    let k = c .before .before in
+    let l = k .before .before in
+    found-at _ _ _ _ _ (l .before .before .before .pre) (sym (k .i .given .1) ∙ l .look-up .ensures) (c .score-at .ensures)
 
 pub find-in-spec : {M : Type 1} → statement M
 find-in-spec =
     tie.close
-    (tie.spec
-    place-requires
-    returns
-    cursor-at-requires
-    array-share-prefix-held
-    slice-aggregate-equal
-    equal-requires
-    returns-2
-    score-at-requires
-    returns-3)
+    (tie.spec look-up-requires enum-known-i enum-told returns score-at-requires returns-2)

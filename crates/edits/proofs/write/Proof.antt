@@ -1,0 +1,48 @@
+-- `edits::write` meets its contract: all entries of the result are put, and what is put is finished to the image (proofs/Book).
+-- No loop. Assumes nothing.
+use mathlib.Core.Path.{_∙_}
+use native.Mathlib.Omega.{arith}
+use borrow.Author.Needs.{needs}
+use Rattle.book.proofs.Size.{book-length}
+use Rattle.edits.specs.Splice.{result}
+use Rattle.edits.proofs.Splice.{result-count}
+use Rattle.edits.proofs.Book.{book-whole}
+use Rattle.edits.proofs.Parts.{parts-count, parts-few, parts-out}
+use Rattle.edits.proofs.write.Statement.{statement}
+use Rattle.edits.proofs.write.Tie as tie
+
+-- the entry, from where the buffer was passed over
+abbrev start : tie.After-pass → tie.Start
+start c = c .before .before .before .before .before
+
+pass-requires : tie.Need-pass-requires
+pass-requires c κs = let h = c .before .before .before .before .pre in (h .0, λ t. omega (arith, h .1, h .2))
+
+count-after-requires : tie.Need-count-after-requires
+count-after-requires c κs = let z = start (c .before .before .before) in (parts-out (z .pre .0), parts-few (z .pre .0))
+
+finish-requires : tie.Need-finish-requires
+finish-requires c κs =
+    let z = start (c .before .before .before .before) in
+    let a = z .args in (
+      parts-count (z .pre .0) (c .count-after .ensures),
+      omega (arith, z .pre .1, book-length (result (a .book .now) (a .place) (a .skip) (a .fresh) (a .name .now) (a .score)) (z .pre .0 .ok)),
+    )
+
+same-length : tie.Need-same-length
+same-length c = search needs
+
+returns : tie.Need-returns
+returns c =
+    let f = c .before .before in
+    let n = f .before in
+    let p = n .before .before .before .before in
+    let z = start p in
+    let a = z .args in
+    f .finish .ensures
+    ∙ book-whole (result (a .book .now) (a .place) (a .skip) (a .fresh) (a .name .now) (a .score)) (z .pre .0 .ok) (a .dst .now)
+    (omega (arith, z .pre .1, z .pre .2)) (n .count-after .ensures ∙ result-count (z .pre .0)) (z .pre .1) (p .pass .ensures .bytes)
+
+pub write-spec : {M : Type 1} → statement M
+write-spec =
+    tie.close (tie.spec pass-requires count-after-requires finish-requires same-length returns)
