@@ -46,7 +46,7 @@ pub fn score_at(buf: &[u8], i: usize) -> u32
 }
 
 // The better of two positions, the first at equal scores.
-fn better(buf: &[u8], b: usize, i: usize) -> usize
+pub fn better(buf: &[u8], b: usize, i: usize) -> usize
     requires { ⌜ (b ≤ maxEntries) × (i ≤ maxEntries) ⌝ }
     ensures { λ r. ⌜ r ≡ betterOf (now (buf .entry)) b i ⌝ }
 {
