@@ -18,24 +18,15 @@ use Rattle.entries.specs.Names.{allowedBytes, isName, isPrefix, longestName}
 use Rattle.entries.proofs.Span.{rising-at}
 use Rattle.entries.proofs.Valid.{Valid, length-names, name-above, valid-of}
 use Rattle.front_coding.specs.Cursor.{Sound, Stepped, nameIn}
-use Rattle.front_coding.specs.Records.{bucketHead, bucketSize, recordName, recordOf, records}
+use Rattle.front_coding.specs.Records.{bucketHead, bucketSize, lastOr, recordName, recordOf, records}
 use Rattle.front_coding.specs.Step.{recordIs}
-use Rattle.front_coding.proofs.Records.{lastOr}
+use Rattle.book.specs.Ahead.{Ahead}
 use Rattle.book.specs.Book.{imageIn, layout21, offset, recordsAt}
 use Rattle.book.proofs.Places.{offset-stands}
 use Rattle.book.proofs.Stored.{Stored, offset-within}
 use Rattle.book.proofs.Walk.{standing-length, standing-name}
 use Rattle.front_coding.specs.declared.Cursor.{Cursor}
 use Rattle.front_coding.specs.declared.Step.{Step}
-
--- the cursor stands at the record of the entry at its index
-pub record Ahead (es : List Entry) (s : List ℕ) (c : Cursor) : Type 0 where
-  pub rest : List ℕ
-  pub stands : drop (c .at) s ≡ records bucketHead (c .index) (nameIn c) (drop (c .index) (names es)) ++ rest
-  pub above : c .index < length es → below (nameIn c) (at es (c .index) .name) ≡ true
-  pub allowed : isPrefix (nameIn c) ≡ true
-  pub small : c .len ≤ longestName
-  pub inside : c .at ≤ length s
 
 pub names-at : (es : List Entry) (i : ℕ) → i < length es → getD (names es) i [] ≡ at es i .name
 names-at [] i h = absurd (omega arith)

@@ -11,8 +11,8 @@ use Rattle.octets.proofs.Tests.{by-test}
 use Rattle.entries.specs.Entries.{Entry, best, names}
 use Rattle.entries.proofs.Span.{span, span-best}
 use Rattle.entries.proofs.Valid.{length-names}
-use Rattle.front_coding.specs.Records.{bucketSize, records}
-use Rattle.front_coding.proofs.Records.{lastOr, records-append}
+use Rattle.front_coding.specs.Records.{bucketSize, lastOr, records}
+use Rattle.front_coding.proofs.Records.{records-append}
 use Rattle.book.specs.Book.{Layout, blockSize, imageIn, offset, peak, recordsAt}
 use Rattle.book.proofs.Reading.{image-records}
 

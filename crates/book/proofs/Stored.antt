@@ -15,8 +15,8 @@ use Rattle.octets.proofs.Order.{begins-length}
 use Rattle.entries.specs.Entries.{Entry, at, names, noEntry, valid}
 use Rattle.entries.specs.Names.{isScore}
 use Rattle.entries.proofs.Valid.{valid-of}
-use Rattle.front_coding.specs.Records.{bucketSize, records}
-use Rattle.front_coding.proofs.Records.{lastOr, records-append}
+use Rattle.front_coding.specs.Records.{bucketSize, lastOr, records}
+use Rattle.front_coding.proofs.Records.{records-append}
 use Rattle.book.specs.Book.{Layout, blockSize, bookImage, imageIn, layout21, offset, offsets, peak, peaks, readBook, recordsAt, scores}
 use Rattle.book.specs.Check.{peaksStart, scoreAt}
 use Rattle.book.proofs.Places.{peak-inside}

@@ -6,3 +6,4 @@ pub mod Check
 pub mod Shown
 pub mod Worked
 pub mod Held
+pub mod Ahead

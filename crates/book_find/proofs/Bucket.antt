@@ -14,7 +14,8 @@ use Rattle.entries.proofs.Place.{place-unique}
 use Rattle.entries.proofs.Valid.{Valid}
 use Rattle.front_coding.specs.Cursor.{Sound, Stepped, nameIn}
 use Rattle.front_coding.specs.Records.{bucketSize}
-use Rattle.book.proofs.Ahead.{Ahead, ahead-bucket, ahead-sound, step-ahead, step-index, step-name}
+use Rattle.book.specs.Ahead.{Ahead}
+use Rattle.book.proofs.Ahead.{ahead-bucket, ahead-sound, step-ahead, step-index, step-name}
 use Rattle.book.proofs.Stored.{Stored}
 use Rattle.book_find.specs.Find.{AtBucket, HeadsBefore}
 use Rattle.front_coding.specs.declared.Cursor.{Cursor}

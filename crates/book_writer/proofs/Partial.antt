@@ -12,8 +12,8 @@ use Rattle.entries.specs.Entries.{Entry, at, names}
 use Rattle.entries.specs.Names.{longestName}
 use Rattle.entries.proofs.Valid.{length-names}
 use Rattle.front_coding.specs.Cursor.{nameIn}
-use Rattle.front_coding.specs.Records.{bucketHead, bucketSize, recordOf, records}
-use Rattle.front_coding.proofs.Records.{lastOr, records-append}
+use Rattle.front_coding.specs.Records.{bucketHead, bucketSize, lastOr, recordOf, records}
+use Rattle.front_coding.proofs.Records.{records-append}
 use Rattle.book.specs.Book.{imageIn, layout21, offset, recordsAt}
 use Rattle.book.proofs.Ahead.{names-at}
 use Rattle.book.proofs.Reading.{image-length}

@@ -18,8 +18,7 @@ use Rattle.octets.proofs.Tests.{and-intro, by-test}
 use Rattle.entries.specs.Entries.{Entry, at, names}
 use Rattle.entries.specs.Names.{longestName}
 use Rattle.front_coding.specs.Cursor.{nameIn}
-use Rattle.front_coding.specs.Records.{bucketHead, bucketSize, recordOf, records}
-use Rattle.front_coding.proofs.Records.{lastOr}
+use Rattle.front_coding.specs.Records.{bucketHead, bucketSize, lastOr, recordOf, records}
 use Rattle.book.specs.Book.{imageIn, layout21, offset, recordsAt}
 use Rattle.book.proofs.Walk.{other}
 use Rattle.book_writer.specs.Writing.{putEntry, putOffset}

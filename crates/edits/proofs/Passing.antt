@@ -12,9 +12,9 @@ use Rattle.entries.specs.Entries.{Entry, entry, names}
 use Rattle.entries.specs.Names.{isName, longestName}
 use Rattle.entries.proofs.Valid.{length-names, name-length}
 use Rattle.front_coding.specs.Cursor.{nameIn}
-use Rattle.front_coding.specs.Records.{bucketHead, recordOf, records}
+use Rattle.front_coding.specs.Records.{bucketHead, lastOr, recordOf, records}
 use Rattle.front_coding.specs.Written.{Sized}
-use Rattle.front_coding.proofs.Records.{lastOr, records-append}
+use Rattle.front_coding.proofs.Records.{records-append}
 use Rattle.front_coding.proofs.Steps.{take-sets}
 use Rattle.book_writer.specs.Calls.{Put, PutRoom}
 use Rattle.book_writer.specs.Writing.{putEntry, putOffset}

@@ -9,10 +9,9 @@ use Rattle.octets.specs.Lists.{all, if_then_else_}
 use Rattle.entries.specs.Entries.{Entry, maxEntries, names}
 use Rattle.entries.specs.Names.{isName, longestName}
 use Rattle.front_coding.specs.Cursor.{nameIn}
-use Rattle.front_coding.specs.Records.{bucketHead, recordOf, records}
-use Rattle.front_coding.proofs.Records.{lastOr}
+use Rattle.front_coding.specs.Records.{bucketHead, lastOr, recordOf, records}
 use Rattle.book.specs.Book.{bookImage, inBook, isBook, layout21, recordsAt}
-use Rattle.book.proofs.Ahead.{Ahead}
+use Rattle.book.specs.Ahead.{Ahead}
 use Rattle.book_writer.specs.Writing.{putEntry}
 use Rattle.edits.specs.declared.Run.{Run}
 use Rattle.front_coding.specs.declared.Cursor.{Cursor}

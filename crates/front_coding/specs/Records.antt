@@ -27,6 +27,11 @@ abbrev pub records : (ℕ → Bool) → ℕ → List ℕ → List (List ℕ) →
 records isHead i prev [] = []
 records isHead i prev (w ∷ ws) = recordOf isHead i prev w ++ records isHead (suc i) w ws
 
+-- the last of names, prev where there is none: what a run of records goes on behind
+abbrev pub lastOr : List ℕ → List (List ℕ) → List ℕ
+lastOr prev [] = prev
+lastOr prev (w ∷ ws) = lastOr w ws
+
 -- Reading: the name that the record at the front of bs would say, and the record's length.
 unfoldable pub recordName : (ℕ → Bool) → ℕ → List ℕ → List ℕ → List ℕ
 recordName isHead i prev bs =

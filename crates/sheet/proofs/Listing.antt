@@ -17,7 +17,8 @@ use Rattle.book.specs.Book.{inBook}
 use Rattle.book.specs.Check.{scoreAt}
 use Rattle.book.specs.Frame.{framed}
 use Rattle.book.specs.Held.{Held}
-use Rattle.book.proofs.Ahead.{Ahead, ahead-first, ahead-sound, step-ahead, step-index, step-name}
+use Rattle.book.specs.Ahead.{Ahead}
+use Rattle.book.proofs.Ahead.{ahead-first, ahead-sound, step-ahead, step-index, step-name}
 use Rattle.book.proofs.Frame.{framed-length}
 use Rattle.book.proofs.Lookups.{held-stored, held-valid}
 use Rattle.book.proofs.Size.{entriesBytes-most, length-entryBytes}
