@@ -1,0 +1,70 @@
+-- What the functions ask and ensure, through the definitions of a run.
+use Rattle.book.specs.Answers as answers
+use Prim.Native.Nat.{_*_, _+_, _≤_, ℕ}
+use mathlib.Core.Path.{_≡_}
+use mathlib.Core.Bool.{true}
+use mathlib.Core.List.{List}
+use mathlib.Core.Option.{Option, none, some}
+use lib.ListN.{length}
+use Rattle.octets.specs.Lists.{if_then_else_}
+use Rattle.octets.specs.Octets.{overwrite}
+use Rattle.book.specs.Answers.{Answer, counts, given, noneWritten, number, refused}
+use Rattle.ledger.specs.History.{Buffers, call}
+use Rattle.ledger.specs.Ledger.{Edit}
+use Rattle.label_book.specs.Calls.{Answered, writtenOf}
+use Rattle.histories.specs.Run.{Bench, Finish, benchAfter, benchCall, benchStep, told}
+use Rattle.histories.specs.Script.{callLength, calls, callsOf, isCall, isLaid}
+use Rattle.label_book.specs.declared.Written.{Written}
+use Rattle.histories.specs.declared.Counted.{Counted}
+use Rattle.histories.specs.declared.Counted.the-variants as counted
+use Rattle.histories.specs.declared.Told.{Told}
+use Rattle.histories.specs.declared.Ran.{Ran}
+use Rattle.histories.specs.declared.Ran.the-variants as ran
+
+-- the length of the call at the front of bytes, 0 where there is none
+abbrev pub foundLength : List ℕ → ℕ
+foundLength bs = if isCall bs then callLength bs else 0
+
+-- n calls and those that are left
+abbrev pub countedAs : ℕ → Option (List Edit) → Counted
+countedAs n none = counted.Damaged
+countedAs n (some cs) = counted.Calls (n + length cs)
+
+-- the counts of an answer fit in their bytes
+pub record Small (a : Answer answers.Written) : Type 0 where
+  pub entries : counts noneWritten a .entries ≤ 1024
+  pub bytes : counts noneWritten a .bytes ≤ 55559
+
+-- the three numbers of an answer
+pub record Tells (a : Answer answers.Written) (t : Told) : Type 0 where
+  pub code : t .number ≡ number a
+  pub entries : t .entries ≡ counts noneWritten a .entries
+  pub bytes : t .bytes ≡ counts noneWritten a .bytes
+
+-- a call on two buffers answered r and left its destination so
+pub record Called (c : Edit) (b : Buffers) (r : Written) (left : List ℕ) : Type 0 where
+  pub answered : Answered (call c b) r left
+  pub small : Small (writtenOf r)
+
+-- a call on the bench b answered r and left these buffers
+pub record Performed (c : Edit) (b : Bench) (r : Written) (one two : List ℕ) : Type 0 where
+  pub answer : writtenOf r ≡ benchCall c b .answer
+  pub first : one ≡ benchStep c b .first
+  pub second : two ≡ benchStep c b .second
+  pub small : Small (writtenOf r)
+
+-- a script whose answers have room
+pub record Playable (script out : List ℕ) : Type 0 where
+  pub laid : isLaid (calls script) ≡ true
+  pub room : 7 * length (callsOf (calls script)) ≤ length out
+
+-- all calls of it performed
+pub record AllPlayed (script : List ℕ) (b : Bench) (out : List ℕ) (end : Bench) (left : List ℕ) : Type 0 where
+  pub bench : end ≡ benchAfter (callsOf (calls script)) b
+  pub answers : left ≡ overwrite out (told (callsOf (calls script)) b)
+
+-- what a run returned and left
+abbrev pub finishOf : Ran → List ℕ → List ℕ → List ℕ → Finish
+finishOf (ran.Refused n) a b out = record { answer = refused n; first = a; second = b; out = out }
+finishOf (ran.Done n t) a b out =
+    record { answer = given (record { count = n; turned = t }); first = a; second = b; out = out }

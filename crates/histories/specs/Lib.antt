@@ -1,0 +1,4 @@
+pub mod Script
+pub mod Run
+pub mod Theorem
+pub mod Code
