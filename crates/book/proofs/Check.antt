@@ -15,7 +15,7 @@ use Rattle.octets.specs.Octets.{begins, below, fromBe, numberAt}
 use Rattle.octets.proofs.Lists.{all-at, all-both, all-imp, counted-at, length-countFrom}
 use Rattle.octets.proofs.Numbers.{Bytes, fields-stand, number-below, number-stands}
 use Rattle.octets.proofs.Tests.{and-true, by-test}
-use Rattle.entries.specs.Entries.{Entry, at, maxEntries, nameBelow, names, noEntry, rising, valid}
+use Rattle.entries.specs.Entries.{Entry, at, nameBelow, names, noEntry, rising, valid}
 use Rattle.entries.specs.Names.{isName, isScore}
 use Rattle.entries.proofs.BestList.{above}
 use Rattle.entries.proofs.Valid.{length-names, name-above, rising-head, rising-tail, valid-intro, valid-of}
@@ -23,6 +23,7 @@ use Rattle.front_coding.specs.Records.{bucketHead, bucketSize, namesFrom, recor
 use Rattle.book.specs.Answers.{isRead}
 use Rattle.book.specs.Book.{blockSize, bookImage, entriesFrom, imageIn, isBook, layout21, offset, offsets, peak, peaks, readBook, recordsAt, scores, scoresFrom}
 use Rattle.book.specs.Check.{bestBetween, checks, endsAt, peaksAre, peaksStart, recordsEnd, scoreAt}
+use Rattle.book.proofs.Frame.{FrameTests, frame-passes, frame-tests}
 use Rattle.book.proofs.Places.{peak-span}
 use Rattle.book.proofs.Reading.{book-exact, image-length}
 use Rattle.book.proofs.Scores.{best-between}
@@ -114,10 +115,7 @@ peaks-complete (suc m) n j buf h =
 
 -- the tests that have been passed
 record Tests (buf : List ℕ) : Type 0 where
-  long : 7 ≤ length buf
-  version : getD buf 0 0 ≡ 0x21
-  few : numberAt 2 buf 5 ≤ maxEntries
-  fits : numberAt 4 buf 1 ≤ length buf
+  frame : FrameTests 0x21 buf
   room : recordsAt layout21 (numberAt 2 buf 5) ≤ length buf
   ends : recordsEnd (numberAt 2 buf 5) (numberAt 2 buf 5) 0 [] (recordsAt layout21 (numberAt 2 buf 5)) buf ≡ some (numberAt 4 buf 1)
   peaked : peaksAre (ceil (numberAt 2 buf 5) blockSize) (numberAt 2 buf 5) 0 buf ≡ true
@@ -132,27 +130,18 @@ tests-of buf h =
     let a = and-true _ _ h in
     let b = and-true _ _ (a .1) in
     let c = and-true _ _ (b .1) in
-    let d = and-true _ _ (c .1) in
-    let e = and-true _ _ (d .1) in
-    let f = and-true _ _ (e .1) in
     record {
-      long = leb-true 7 (length buf) (a .0);
-      version = eqb-true (getD buf 0 0) 0x21 (b .0);
-      few = leb-true (numberAt 2 buf 5) maxEntries (c .0);
-      fits = leb-true (numberAt 4 buf 1) (length buf) (d .0);
-      room = leb-true (recordsAt layout21 (numberAt 2 buf 5)) (length buf) (e .0);
-      ends = ends-some (numberAt 4 buf 1) _ (f .0);
-      peaked = f .1;
+      frame = frame-tests 0x21 buf (a .0);
+      room = leb-true (recordsAt layout21 (numberAt 2 buf 5)) (length buf) (b .0);
+      ends = ends-some (numberAt 4 buf 1) _ (c .0);
+      peaked = c .1;
     }
 
 of-tests : (buf : List ℕ) → Tests buf → checks buf ≡ true
 unfolding checks
 of-tests buf t =
     rw (
-      le-leb 7 (length buf) (t .long),
-      t .version,
-      le-leb (numberAt 2 buf 5) maxEntries (t .few),
-      le-leb (numberAt 4 buf 1) (length buf) (t .fits),
+      frame-passes 0x21 buf (t .frame),
       le-leb (recordsAt layout21 (numberAt 2 buf 5)) (length buf) (t .room),
       t .ends,
       eq-eqb (numberAt 4 buf 1) (numberAt 4 buf 1) refl,
@@ -203,7 +192,7 @@ module _ (buf : List ℕ) (b : Bytes buf) (t : Tests buf) where
   unfolding isScore scoreAt recordsAt
   es-valid =
       let m = es-length in
-      let f = t .few in
+      let f = t .frame .few in
       let r = t .room in
       valid-intro es (omega arith)
       (all-both (λ e. isName (e .name)) (λ e. isScore (e .score)) es
@@ -233,7 +222,7 @@ module _ (buf : List ℕ) (b : Bytes buf) (t : Tests buf) where
   es-sections =
       let m = es-length in
       let r = t .room in
-      let g = t .long in
+      let g = t .frame .long in
       let i = image-length layout21 es in
       let e : length (records bucketHead 0 [] (names es)) ≡ length (records bucketHead 0 [] ws) =
       ap (λ vs. length (records bucketHead 0 [] vs)) es-names
@@ -242,7 +231,7 @@ module _ (buf : List ℕ) (b : Bytes buf) (t : Tests buf) where
       let bs = length-countFrom 0 (ceil (length es) bucketSize) in
       let ps = length-countFrom 0 (ceil (length es) blockSize) in
       record {
-        hasVersion = version-stands 0x21 (omega arith) buf (t .version);
+        hasVersion = version-stands 0x21 (omega arith) buf (t .frame .version);
         hasTotal = number-stands 4 buf 1 b (omega arith) (length (imageIn layout21 es)) (omega arith);
         hasCount = number-stands 2 buf 5 b (omega arith) (length es) (sym m);
         hasScores = fields-stand 4 (λ (f : Entry). f .score) noEntry es buf 7 b (omega arith) es-score′;
@@ -283,10 +272,12 @@ module _ (buf : List ℕ) (es : List Entry) (s : Stored buf es) where
       rw (length-names es, ← i) at (walk-complete (names es) (length es) 0 [] (recordsAt layout21 (length es)) buf read-walked)
       in
       record {
-        long = omega arith;
-        version = version-there 0x21 buf (sections-of layout21 es buf (s .front) .hasVersion);
-        few = rw c few;
-        fits = rw (s .total) inside;
+        frame = record {
+          long = omega arith;
+          version = version-there 0x21 buf (sections-of layout21 es buf (s .front) .hasVersion);
+          few = rw c few;
+          fits = rw (s .total) inside;
+        };
         room = rw c (omega arith);
         ends = rw (c, s .total) w;
         peaked = rw c (peaks-complete (ceil (length es) blockSize) (length es) 0 buf read-peak);

@@ -4,13 +4,14 @@ use mathlib.Core.Bool.{Bool, _&&_, false, true}
 use mathlib.Core.List.{List, []}
 use mathlib.Core.Option.{Option, none, some}
 use lib.Dec.{eqb, leb, ltb}
-use lib.ListN.{drop, getD, length}
+use lib.ListN.{drop, length}
 use Rattle.octets.specs.Lists.{ceil, if_then_else_}
 use Rattle.octets.specs.Octets.{numberAt}
-use Rattle.entries.specs.Entries.{at, maxEntries}
+use Rattle.entries.specs.Entries.{at}
 use Rattle.front_coding.specs.Records.{bucketHead, bucketSize, recordLength, recordName}
 use Rattle.front_coding.specs.Step.{recordIs}
 use Rattle.book.specs.Book.{blockSize, layout21, recordsAt}
+use Rattle.book.specs.Frame.{frameIs}
 
 -- the score of position i, and where the peaks begin
 unfoldable pub scoreAt : List ℕ → ℕ → ℕ
@@ -52,14 +53,12 @@ abbrev pub endsAt : ℕ → Option ℕ → Bool
 endsAt total none = false
 endsAt total (some end) = eqb end total
 
-unfoldable pub checks : List ℕ → Bool
-checks buf =
+-- the tests behind the frame: room for scores, offsets and peaks, the records up to the total length, the peaks
+abbrev pub bodyIs : List ℕ → Bool
+bodyIs buf =
     let n = numberAt 2 buf 5 in
-    let total = numberAt 4 buf 1 in
-    leb 7 (length buf)
-    && (eqb (getD buf 0 0) (layout21 .version)
-    && (leb n maxEntries
-    && (leb total (length buf)
-    && (leb (recordsAt layout21 n) (length buf)
-    && (endsAt total (recordsEnd n n 0 [] (recordsAt layout21 n) buf)
-    && peaksAre (ceil n blockSize) n 0 buf)))))
+    leb (recordsAt layout21 n) (length buf)
+    && (endsAt (numberAt 4 buf 1) (recordsEnd n n 0 [] (recordsAt layout21 n) buf) && peaksAre (ceil n blockSize) n 0 buf)
+
+unfoldable pub checks : List ℕ → Bool
+checks buf = frameIs (layout21 .version) buf && bodyIs buf

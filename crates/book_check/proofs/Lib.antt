@@ -1,3 +1,4 @@
 pub mod Loops
+pub mod Frame
 pub mod Answer
 pub mod Held

@@ -4,21 +4,21 @@ use mathlib.Core.Path.{_∙_, _≡_, ap, refl, sym}
 use mathlib.Core.Bool.{false, false≢true, true}
 use mathlib.Core.List.{List, [], _∷_}
 use mathlib.Core.Option.{Option, none, some}
-use lib.ListN.{drop, getD, length}
+use lib.ListN.{drop, length}
 use native.Mathlib.Omega.{arith}
-use borrow.Author.Tests.{eq-eqb, eqb-true, le-leb, leb-true}
+use borrow.Author.Tests.{eq-eqb}
 use Rattle.octets.specs.Octets.{be, begins, below, numberAt}
 use Rattle.octets.proofs.Lists.{all-both, all-imp}
 use Rattle.octets.proofs.Numbers.{Bytes, number-stands, stands-number}
 use Rattle.octets.proofs.Order.{begins-length}
 use Rattle.octets.proofs.Tests.{and-true, by-test}
-use Rattle.entries.specs.Entries.{Entry, maxEntries, valid}
+use Rattle.entries.specs.Entries.{Entry, valid}
 use Rattle.entries.specs.Names.{isName, isScore}
 use Rattle.entries.proofs.Valid.{name-above, valid-intro, valid-of}
 use Rattle.book.specs.Answers.{entriesBytes, isRead}
 use Rattle.book.specs.Frame.{framed}
 use Rattle.book.proofs.Check.{chained-rising, ends-some, rising-chained, version-stands, version-there}
-use Rattle.book.proofs.Frame.{framed-length, framed-parts}
+use Rattle.book.proofs.Frame.{FrameTests, frame-passes, frame-tests, framed-length, framed-parts}
 use Rattle.book.proofs.Size.{entriesBytes-most}
 use Rattle.sheet.specs.Check.{rowsEnd, sheetChecks}
 use Rattle.sheet.specs.Sheet.{behindName, readSheet, sheetFrom, sheetImage}
@@ -31,38 +31,19 @@ length-sheetFrom (suc n) bs = ap suc (length-sheetFrom n (drop 4 (behindName bs)
 
 -- the tests that have been passed
 record Tests (buf : List ℕ) : Type 0 where
-  long : 7 ≤ length buf
-  version : getD buf 0 0 ≡ 0x11
-  few : numberAt 2 buf 5 ≤ maxEntries
-  fits : numberAt 4 buf 1 ≤ length buf
+  frame : FrameTests 0x11 buf
   ends : rowsEnd (numberAt 2 buf 5) [] 7 buf ≡ some (numberAt 4 buf 1)
 
 tests-of : (buf : List ℕ) → sheetChecks buf ≡ true → Tests buf
 unfolding sheetChecks
 tests-of buf h =
     let a = and-true _ _ h in
-    let b = and-true _ _ (a .1) in
-    let c = and-true _ _ (b .1) in
-    let d = and-true _ _ (c .1) in
-    record {
-      long = leb-true 7 (length buf) (a .0);
-      version = eqb-true (getD buf 0 0) 0x11 (b .0);
-      few = leb-true (numberAt 2 buf 5) maxEntries (c .0);
-      fits = leb-true (numberAt 4 buf 1) (length buf) (d .0);
-      ends = ends-some (numberAt 4 buf 1) _ (d .1);
-    }
+    record { frame = frame-tests 0x11 buf (a .0); ends = ends-some (numberAt 4 buf 1) _ (a .1) }
 
 of-tests : (buf : List ℕ) → Tests buf → sheetChecks buf ≡ true
 unfolding sheetChecks
 of-tests buf t =
-    rw (
-      le-leb 7 (length buf) (t .long),
-      t .version,
-      le-leb (numberAt 2 buf 5) maxEntries (t .few),
-      le-leb (numberAt 4 buf 1) (length buf) (t .fits),
-      t .ends,
-    )
-    (eq-eqb (numberAt 4 buf 1) (numberAt 4 buf 1) refl)
+    rw (frame-passes 0x11 buf (t .frame), t .ends) (eq-eqb (numberAt 4 buf 1) (numberAt 4 buf 1) refl)
 
 -- a buffer that passes is read
 module _ (buf : List ℕ) (b : Bytes buf) (t : Tests buf) where
@@ -78,7 +59,7 @@ module _ (buf : List ℕ) (b : Bytes buf) (t : Tests buf) where
   passes-valid : valid es ≡ true
   passes-valid =
       let r = rows-sound n [] 7 buf (numberAt 4 buf 1) b (t .ends) in
-      let f = t .few in
+      let f = t .frame .few in
       let m = es-length in
       valid-intro es (omega arith) (all-both (λ e. isName (e .name)) (λ e. isScore (e .score)) es (r .0 .allowed) (r .1))
       (chained-rising [] es (r .0 .above))
@@ -87,14 +68,14 @@ module _ (buf : List ℕ) (b : Bytes buf) (t : Tests buf) where
   unfolding sheetImage
   passes-read =
       let r = rows-sound n [] 7 buf (numberAt 4 buf 1) b (t .ends) in
-      let g = t .long in
+      let g = t .frame .long in
       let m = es-length in
       let l = framed-length 0x11 (length es) (entriesBytes es) in
       let e = r .2 in
       sheet-exact .complete es buf passes-valid
       (framed-parts 0x11 (length es) (entriesBytes es) buf
       ∙ rw (
-        version-stands 0x11 (omega arith) buf (t .version),
+        version-stands 0x11 (omega arith) buf (t .frame .version),
         number-stands 4 buf 1 b (omega arith) (length (framed 0x11 (length es) (entriesBytes es))) (omega arith),
         number-stands 2 buf 5 b (omega arith) (length es) (sym m),
       )
@@ -151,10 +132,12 @@ module _ (buf : List ℕ) (es : List Entry) (h : readSheet buf ≡ some es) wher
       let i = inside in
       let total : numberAt 4 buf 1 ≡ length image = stands-number 4 buf 1 (length image) sheet-small (parts .1) (omega arith) in
       record {
-        long = omega arith;
-        version = version-there 0x11 buf (parts .0);
-        few = rw sheet-count (v .few);
-        fits = rw total i;
+        frame = record {
+          long = omega arith;
+          version = version-there 0x11 buf (parts .0);
+          few = rw sheet-count (v .few);
+          fits = rw total i;
+        };
         ends = rw (sheet-count, total, l) (rows-complete es [] 7 buf sheet-rows);
       }
 

@@ -3,13 +3,13 @@ use Prim.Native.Nat.{_+_, suc, zero, ℕ}
 use mathlib.Core.Bool.{Bool, _&&_}
 use mathlib.Core.List.{List, []}
 use mathlib.Core.Option.{Option, none, some}
-use lib.Dec.{eqb, leb}
+use lib.Dec.{leb}
 use lib.ListN.{drop, getD, length, take}
 use Rattle.octets.specs.Lists.{if_then_else_}
 use Rattle.octets.specs.Octets.{below, numberAt}
-use Rattle.entries.specs.Entries.{maxEntries}
 use Rattle.entries.specs.Names.{isName}
 use Rattle.book.specs.Check.{endsAt}
+use Rattle.book.specs.Frame.{frameIs}
 
 -- the name of the entry at the front of bs
 abbrev pub rowName : List ℕ → List ℕ
@@ -29,9 +29,9 @@ rowsEnd zero prev at buf = some at
 rowsEnd (suc m) prev at buf =
     if rowIs prev (drop at buf) then rowsEnd m (rowName (drop at buf)) (at + rowLength (drop at buf)) buf else none
 
+-- behind the frame: the entries up to the total length
+abbrev pub sheetBodyIs : List ℕ → Bool
+sheetBodyIs buf = endsAt (numberAt 4 buf 1) (rowsEnd (numberAt 2 buf 5) [] 7 buf)
+
 unfoldable pub sheetChecks : List ℕ → Bool
-sheetChecks buf =
-    let n = numberAt 2 buf 5 in
-    let total = numberAt 4 buf 1 in
-    leb 7 (length buf)
-    && (eqb (getD buf 0 0) 0x11 && (leb n maxEntries && (leb total (length buf) && endsAt total (rowsEnd n [] 7 buf))))
+sheetChecks buf = frameIs 0x11 buf && sheetBodyIs buf

@@ -5,7 +5,8 @@ use native.Mathlib.Omega.{arith}
 use borrow.Author.Needs.{needs}
 use borrow.Author.Tests.{not-false, not-true}
 use Rattle.octets.proofs.Numbers.{Bytes}
-use Rattle.book_check.proofs.Answer.{Front, cut-off, is-book, no-end, no-room, other-end, other-version, stale, too-many, too-short}
+use Rattle.book_check.proofs.Answer.{Front, book-format, is-book, no-end, no-room, other-end, stale}
+use Rattle.book_check.proofs.Frame.{cut-off, other-version, too-many, too-short}
 use Rattle.book_check.proofs.check.Statement.{statement}
 use Rattle.book_check.proofs.check.Tie as tie
 
@@ -29,23 +30,25 @@ front :
 front a =
     record {
       bytes = bytes (after-start a);
-      count = a .before .before .before .before .read-u16 .ensures;
-      whole = a .before .before .read-u32 .ensures;
+      frame = record {
+        count = a .before .before .before .before .read-u16 .ensures;
+        whole = a .before .before .read-u32 .ensures;
+        long = omega arith;
+        version = a .before .before .before .before .before .if2 .left;
+        few = omega arith;
+        fits = omega arith;
+      };
       from = a .records-at .ensures;
-      long = omega arith;
-      version = a .before .before .before .before .before .if2 .left;
-      few = omega arith;
-      fits = omega arith;
     }
 
 returns : tie.Need-returns
-returns c = too-short _ (bytes (c .before)) (c .if1 .taken)
+returns c = too-short book-format _ (bytes (c .before)) (c .if1 .taken)
 
 shared-slice-read-if2 : tie.Need-shared-slice-read-if2
 shared-slice-read-if2 c = omega arith
 
 returns-2 : tie.Need-returns-2
-returns-2 c = other-version _ (bytes (c .before .before .before)) (c .if2 .taken)
+returns-2 c = other-version book-format _ (bytes (c .before .before .before)) (c .if2 .taken)
 
 read-u16-requires : tie.Need-read-u16-requires
 read-u16-requires c κs = search needs
@@ -54,7 +57,7 @@ cast-n : tie.Need-cast-n
 cast-n c = search needs
 
 returns-3 : tie.Need-returns-3
-returns-3 c = too-many _ (bytes (after-count (c .before))) (c .before .read-u16 .ensures) (c .if3 .taken)
+returns-3 c = too-many book-format _ (bytes (after-count (c .before))) (c .before .read-u16 .ensures) (c .if3 .taken)
 
 read-u32-requires : tie.Need-read-u32-requires
 read-u32-requires c κs = search needs
@@ -63,7 +66,7 @@ cast-total : tie.Need-cast-total
 cast-total c = search needs
 
 returns-4 : tie.Need-returns-4
-returns-4 c = cut-off _ (bytes (after-total (c .before))) (c .before .read-u32 .ensures) (c .if4 .taken)
+returns-4 c = cut-off book-format _ (bytes (after-total (c .before))) (c .before .read-u32 .ensures) (c .if4 .taken)
 
 records-at-requires : tie.Need-records-at-requires
 records-at-requires c κs = omega arith

@@ -3,7 +3,8 @@
 use native.Mathlib.Omega.{arith}
 use borrow.Author.Needs.{needs}
 use Rattle.octets.proofs.Numbers.{Bytes}
-use Rattle.sheet.proofs.Answer.{Front, cut-off, is-sheet, no-end, other-end, other-version, too-many, too-short}
+use Rattle.book_check.proofs.Frame.{Framed, cut-off, other-version, too-many, too-short}
+use Rattle.sheet.proofs.Answer.{is-sheet, no-end, other-end, sheet-format}
 use Rattle.sheet.proofs.check.Statement.{statement}
 use Rattle.sheet.proofs.check.Tie as tie
 
@@ -19,10 +20,9 @@ after-total r = after-count (r .before .before)
 
 front :
     (a : tie.Else4)
-    → Front (after-total (a .before) .before .args .buf .now) (a .before .before .before .read-u16 .result) (a .before .read-u32 .result)
+    → Framed 0x11 (after-total (a .before) .before .args .buf .now) (a .before .before .before .read-u16 .result) (a .before .read-u32 .result)
 front a =
     record {
-      bytes = bytes (after-total (a .before));
       count = a .before .before .before .read-u16 .ensures;
       whole = a .before .read-u32 .ensures;
       long = omega arith;
@@ -32,13 +32,13 @@ front a =
     }
 
 returns : tie.Need-returns
-returns c = too-short _ (bytes (c .before)) (c .if1 .taken)
+returns c = too-short sheet-format _ (bytes (c .before)) (c .if1 .taken)
 
 shared-slice-read-if2 : tie.Need-shared-slice-read-if2
 shared-slice-read-if2 c = omega arith
 
 returns-2 : tie.Need-returns-2
-returns-2 c = other-version _ (bytes (c .before .before .before)) (c .if2 .taken)
+returns-2 c = other-version sheet-format _ (bytes (c .before .before .before)) (c .if2 .taken)
 
 read-u16-requires : tie.Need-read-u16-requires
 read-u16-requires c κs = tt
@@ -47,7 +47,7 @@ cast-n : tie.Need-cast-n
 cast-n c = search needs
 
 returns-3 : tie.Need-returns-3
-returns-3 c = too-many _ (bytes (after-count (c .before))) (c .before .read-u16 .ensures) (c .if3 .taken)
+returns-3 c = too-many sheet-format _ (bytes (after-count (c .before))) (c .before .read-u16 .ensures) (c .if3 .taken)
 
 read-u32-requires : tie.Need-read-u32-requires
 read-u32-requires c κs = tt
@@ -56,7 +56,7 @@ cast-total : tie.Need-cast-total
 cast-total c = search needs
 
 returns-4 : tie.Need-returns-4
-returns-4 c = cut-off _ (bytes (after-total (c .before))) (c .before .read-u32 .ensures) (c .if4 .taken)
+returns-4 c = cut-off sheet-format _ (bytes (after-total (c .before))) (c .before .read-u32 .ensures) (c .if4 .taken)
 
 rows-end-requires : tie.Need-rows-end-requires
 rows-end-requires c κs = omega arith
@@ -68,7 +68,7 @@ enum-told : tie.Need-enum-told
 enum-told c = search needs
 
 returns-5 : tie.Need-returns-5
-returns-5 c = let e = c .before .before in no-end (front (e .before)) (e .rows-end .ensures) (c .enum-told .given .1)
+returns-5 c = let e = c .before .before in no-end (bytes (after-total (e .before .before))) (front (e .before)) (e .rows-end .ensures) (c .enum-told .given .1)
 
 -- from the place where the entries' end is known: the walk over them
 abbrev walk : tie.After-known-told → tie.After-rows-end
@@ -77,12 +77,12 @@ walk k = k .before .before .before
 returns-6 : tie.Need-returns-6
 returns-6 c =
     let k = c .before in
-    other-end (front (walk k .before)) (walk k .rows-end .ensures) (k .before .end .given .1) (c .if5 .taken)
+    other-end (bytes (after-total (walk k .before .before))) (front (walk k .before)) (walk k .rows-end .ensures) (k .before .end .given .1) (c .if5 .taken)
 
 returns-7 : tie.Need-returns-7
 returns-7 c =
     let k = c .before in
-    is-sheet (front (walk k .before)) (walk k .rows-end .ensures) (k .before .end .given .1) (c .if5 .left)
+    is-sheet (bytes (after-total (walk k .before .before))) (front (walk k .before)) (walk k .rows-end .ensures) (k .before .end .given .1) (c .if5 .left)
 
 pub check-spec : {M : Type 1} → statement M
 check-spec =
