@@ -11,6 +11,8 @@ use Rattle.entries.specs.Names.{isPrefix}
 use Rattle.book.specs.Answers.{Answer, Offered, Outcome, _when_, entriesBytes, given, refused, writing}
 use Rattle.book.specs.Book.{inBook, isBook}
 use Rattle.completion.specs.Machine.{machine}
+use Rattle.completion.specs.declared.Completion.{Completion}
+use Rattle.completion.specs.declared.Completion.the-variants as answer
 
 -- the bytes that the destination must have for each entry asked for
 abbrev pub entryRoom : ℕ
@@ -43,3 +45,13 @@ completeBook book p k dst ranges =
 abbrev pub Lent : {A R : Type 0} → Answer A → List R → List R → Type 0
 Lent (refused n) before after = after ≡ before
 Lent (given a) before after = length after ≡ length before
+
+-- the enum answer as document 01's: the refusal's number, or the three counts
+abbrev pub offeredOf : Completion → Answer Offered
+offeredOf (answer.Refused n) = refused n
+offeredOf (answer.Offered offered bytes looks) = given (record { offered = offered; bytes = bytes; looks = looks })
+
+-- a call that completes answers r and leaves the destination dest, as its definition says
+pub record Completed (o : Outcome Offered) (r : Completion) (dest : List ℕ) : Type 0 where
+  pub answer : offeredOf r ≡ o .answer
+  pub left : dest ≡ o .dest
