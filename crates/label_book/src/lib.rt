@@ -15,7 +15,7 @@ ghost use Rattle.book.specs.Lookups.{find, foundIn, headLength, headName, nameA
 ghost use Rattle.edits.specs.Edits.{emptyBook, setEntry, withdraw};
 ghost use Rattle.edits.specs.Splice.{Spliced, result};
 ghost use Rattle.sheet.specs.Sheet.{buildBook, listBook};
-ghost use Rattle.label_book.specs.Calls.{Answered, foundOf, lengthOf, oneEntry, placeAs, spanOf, wholeBook};
+ghost use Rattle.label_book.specs.Calls.{Answered, checkBook, checkedOf, foundOf, lengthOf, oneEntry, placeAs, spanOf, wholeBook};
 
 // What a call that writes a book, a sheet or an entry reports.
 pub enum Written {
@@ -40,6 +40,12 @@ pub enum Span {
 pub enum HeadLength {
     Refused(u8),
     Bytes(usize),
+}
+
+// Whether a buffer holds a book: the refusal, or how many entries it has.
+pub enum Checked {
+    Refused(u8),
+    Entries(usize),
 }
 
 // Where a name is in a book that was checked: its position, or the gap that it would fill.
@@ -101,6 +107,16 @@ fn has_bucket(n: usize, bucket: usize) -> bool
     ensures { λ r. ⌜ r ≡ ltb bucket (ceil n bucketSize) ⌝ }
 {
     bucket < (n + 7) / 8
+}
+
+// Checks the book at the front of a buffer, in one pass.
+pub fn check(book: &[u8]) -> Checked
+    ensures { λ r. ⌜ checkedOf r ≡ checkBook (now (book .entry)) ⌝ }
+{
+    let book_check::Checked::Book(n) = book_check::check(book) else {
+        return Checked::Refused(1);
+    };
+    Checked::Entries(n)
 }
 
 // Writes the book of no entries.
