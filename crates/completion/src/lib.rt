@@ -1,6 +1,7 @@
 // Completion's open ranges and its answer, from a book or from a trie. The rest of this crate is definitions and laws.
 
 // An open range of positions: its first, the position and the score of its best, its last.
+#[repr(C)]
 pub struct Range {
     pub first: usize,
     pub best: usize,
