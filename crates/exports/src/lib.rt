@@ -1,10 +1,11 @@
 // The label book for C: each call of the front door under a C name (include/label_book.h). A call returns 0 or the refusal's number, and
 // tells its counts through pointers, all of them 0 with a refusal.
+ghost use mathlib.Core.Path.{_≡_};
 ghost use Rattle.book.specs.Lookups.{find, nameAt, nameAtByName, prefixRange};
 ghost use Rattle.edits.specs.Edits.{emptyBook, setEntry, withdraw};
 ghost use Rattle.sheet.specs.Sheet.{buildBook, listBook};
 ghost use Rattle.label_book.specs.Calls.{foundOf, spanOf, writtenOf};
-ghost use Rattle.exports.specs.Told.{FoundTold, Left, SpanTold, WrittenTold};
+ghost use Rattle.exports.specs.Told.{FoundTold, HasBucket, HeadTold, Left, SpanTold, WrittenTold, headAt};
 
 // Tells what was written.
 fn tell_written(w: label_book::Written, entries: &mut usize, bytes: &mut usize) -> u8
@@ -190,4 +191,38 @@ pub extern "C" fn label_book_prefix_range(
     ensures { λ r. ⌜ SpanTold (prefixRange (now (book .entry)) (now (prefix .entry))) r (now (first .exit)) (now (count .exit)) ⌝ }
 {
     tell_span(label_book::prefix_range(book, prefix), first, count)
+}
+
+// Where the head name of a bucket begins: behind the length byte at the bucket's offset.
+fn head_start(book: &[u8], bucket: usize) -> usize
+    requires { ⌜ HasBucket (now book) bucket ⌝ }
+    ensures { λ r. ⌜ r ≡ headAt (now (book .entry)) bucket ⌝ }
+{
+    let n = octets::read_u16(book, 5) as usize;
+    octets::read_u16(book, 7 + 4 * n + 2 * bucket) as usize + 1
+}
+
+// Where in the book the head name of a bucket begins, and its length.
+#[no_mangle]
+pub extern "C" fn label_book_head(
+    book: &[u8],
+    bucket: usize,
+    start: &mut usize,
+    length: &mut usize,
+) -> u8
+    ensures { λ r. ⌜ HeadTold (now (book .entry)) bucket r (now (start .exit)) (now (length .exit)) ⌝ }
+{
+    let answer = label_book::head_length(book, bucket);
+    match answer {
+        label_book::HeadLength::Refused(n) => {
+            *start = 0;
+            *length = 0;
+            n
+        }
+        label_book::HeadLength::Bytes(k) => {
+            *start = head_start(book, bucket);
+            *length = k;
+            0
+        }
+    }
 }
