@@ -11,12 +11,10 @@ ghost use Rattle.exports.specs.Told.{FoundTold, HasBucket, HeadTold, Lef
 fn tell_written(w: label_book::Written, entries: &mut usize, bytes: &mut usize) -> u8
     ensures { λ r. ⌜ WrittenTold (writtenOf w) r (now (entries .exit)) (now (bytes .exit)) ⌝ }
 {
+    *entries = 0;
+    *bytes = 0;
     match w {
-        label_book::Written::Refused(n) => {
-            *entries = 0;
-            *bytes = 0;
-            n
-        }
+        label_book::Written::Refused(n) => n,
         label_book::Written::Wrote {
             entries: e,
             bytes: b,
@@ -32,13 +30,11 @@ fn tell_written(w: label_book::Written, entries: &mut usize, bytes: &mut usize) 
 fn tell_found(w: label_book::Found, found: &mut usize, position: &mut usize, score: &mut u32) -> u8
     ensures { λ r. ⌜ FoundTold (foundOf w) r (now (found .exit)) (now (position .exit)) (now (score .exit)) ⌝ }
 {
+    *found = 0;
+    *position = 0;
+    *score = 0;
     match w {
-        label_book::Found::Refused(n) => {
-            *found = 0;
-            *position = 0;
-            *score = 0;
-            n
-        }
+        label_book::Found::Refused(n) => n,
         label_book::Found::At {
             position: i,
             score: s,
@@ -48,12 +44,7 @@ fn tell_found(w: label_book::Found, found: &mut usize, position: &mut usize, sco
             *score = s;
             0
         }
-        label_book::Found::Absent => {
-            *found = 0;
-            *position = 0;
-            *score = 0;
-            0
-        }
+        label_book::Found::Absent => 0,
     }
 }
 
@@ -61,12 +52,10 @@ fn tell_found(w: label_book::Found, found: &mut usize, position: &mut usize, sco
 fn tell_span(w: label_book::Span, first: &mut usize, count: &mut usize) -> u8
     ensures { λ r. ⌜ SpanTold (spanOf w) r (now (first .exit)) (now (count .exit)) ⌝ }
 {
+    *first = 0;
+    *count = 0;
     match w {
-        label_book::Span::Refused(n) => {
-            *first = 0;
-            *count = 0;
-            n
-        }
+        label_book::Span::Refused(n) => n,
         label_book::Span::Range { first: i, count: k } => {
             *first = i;
             *count = k;
@@ -212,13 +201,10 @@ pub extern "C" fn label_book_head(
 ) -> u8
     ensures { λ r. ⌜ HeadTold (now (book .entry)) bucket r (now (start .exit)) (now (length .exit)) ⌝ }
 {
-    let answer = label_book::head_length(book, bucket);
-    match answer {
-        label_book::HeadLength::Refused(n) => {
-            *start = 0;
-            *length = 0;
-            n
-        }
+    *start = 0;
+    *length = 0;
+    match label_book::head_length(book, bucket) {
+        label_book::HeadLength::Refused(n) => n,
         label_book::HeadLength::Bytes(k) => {
             *start = head_start(book, bucket);
             *length = k;

@@ -10,19 +10,19 @@ use Rattle.exports.proofs.label_book_head.Tie as tie
 
 -- the companion's answer, taken apart
 gave :
-    (c : tie.After-answer2)
+    (c : tie.After-k)
     → let z = c .before .before .before .before .args in
-    headLength (z .book .now) (z .bucket) ≡ given (c .answer2 .given .0 .0)
-gave c = sym (c .before .before .head-length .ensures) ∙ ap lengthOf (c .answer2 .given .1)
+    headLength (z .book .now) (z .bucket) ≡ given (c .k .given .0 .0)
+gave c = sym (c .before .before .head-length .ensures) ∙ ap lengthOf (c .k .given .1)
 
 head-length-requires : tie.Need-head-length-requires
 head-length-requires c κs = tt
 
-enum-known-answer : tie.Need-enum-known-answer
-enum-known-answer c = search needs
+enum-known-n : tie.Need-enum-known-n
+enum-known-n c = search needs
 
-enum-known-answer-2 : tie.Need-enum-known-answer-2
-enum-known-answer-2 c = search needs
+enum-known-k : tie.Need-enum-known-k
+enum-known-k c = search needs
 
 head-start-requires : tie.Need-head-start-requires
 head-start-requires c κs = has-bucket _ _ _ (gave (c .before))
@@ -30,7 +30,7 @@ head-start-requires c κs = has-bucket _ _ _ (gave (c .before))
 returns : tie.Need-returns
 returns c =
     let a = c .before in
-    told-refused _ _ _ (sym (a .before .before .head-length .ensures) ∙ ap lengthOf (a .answer .given .1))
+    told-refused _ _ _ (sym (a .before .before .head-length .ensures) ∙ ap lengthOf (a .n .given .1))
 
 returns-2 : tie.Need-returns-2
 returns-2 c = rw (c .head-start .ensures) (told-part _ _ _ (gave (c .before .before)))
@@ -40,8 +40,8 @@ label-book-head-spec =
     tie.close
     (tie.spec
     head-length-requires
-    enum-known-answer
-    enum-known-answer-2
+    enum-known-n
+    enum-known-k
     head-start-requires
     returns
     returns-2)
