@@ -1,0 +1,6 @@
+//! Tests of the label book through its C interface, against a second implementation of its document.
+pub mod calls;
+pub mod compare;
+pub mod make;
+pub mod random;
+pub mod reference;
