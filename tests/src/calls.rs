@@ -1,6 +1,6 @@
-//! The calls of the static library, each behind a safe function. What a call tells is its number and its out values in order; these are
-//! other numbers before the call, so that one that is not told shows.
-pub type Told = (u8, Vec<u64>);
+//! The calls of the static library, each behind a safe function. What a call tells is its number and its out values in order, with
+//! zeros up to three; they are other numbers before the call, so that one that is not told shows.
+pub type Told = (u8, [u64; 3]);
 
 const BEFORE: usize = 0x5A5A_5A5A_5A5A_5A5A;
 const BEFORE_SCORE: u32 = 0x5A5A_5A5A;
@@ -43,7 +43,7 @@ pub struct Range {
 fn two(call: impl FnOnce(*mut usize, *mut usize) -> u8) -> Told {
     let (mut a, mut b) = (BEFORE, BEFORE);
     let number = call(&mut a, &mut b);
-    (number, vec![a as u64, b as u64])
+    (number, [a as u64, b as u64, 0])
 }
 
 /// The number, and three counts through pointers.
@@ -51,7 +51,7 @@ fn two(call: impl FnOnce(*mut usize, *mut usize) -> u8) -> Told {
 fn three(call: impl FnOnce(*mut usize, *mut usize, *mut usize) -> u8) -> Told {
     let (mut a, mut b, mut c) = (BEFORE, BEFORE, BEFORE);
     let number = call(&mut a, &mut b, &mut c);
-    (number, vec![a as u64, b as u64, c as u64])
+    (number, [a as u64, b as u64, c as u64])
 }
 
 // Each call's pointers and lengths are those of slices, and its out pointers those of locals.
@@ -77,7 +77,7 @@ pub fn find(book: &[u8], name: &[u8]) -> Told {
     let (number, mut told) = two(|found, position| unsafe {
         c::label_book_find(book.as_ptr(), book.len(), name.as_ptr(), name.len(), found, position, &mut score)
     });
-    told.push(score as u64);
+    told[2] = score as u64;
     (number, told)
 }
 
@@ -154,5 +154,5 @@ pub fn complete_trie(trie: &[u8], prefix: &[u8], k: usize, dst: &mut [u8]) -> To
 pub fn press(book: &[u8], panel: &mut crate::reference::panel::Panel, key: u8) -> Told {
     let mut rows = BEFORE;
     let number = unsafe { c::label_book_press(book.as_ptr(), book.len(), panel, key, &mut rows) };
-    (number, vec![rows as u64])
+    (number, [rows as u64, 0, 0])
 }

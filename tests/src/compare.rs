@@ -40,23 +40,23 @@ fn hex(bytes: &[u8]) -> String {
 
 fn told_written(answer: Written) -> Told {
     match answer {
-        Ok((entries, bytes)) => (0, vec![entries as u64, bytes as u64]),
-        Err(number) => (number, vec![0, 0]),
+        Ok((entries, bytes)) => (0, [entries as u64, bytes as u64, 0]),
+        Err(number) => (number, [0; 3]),
     }
 }
 
 fn told_offered(answer: Offered) -> Told {
     match answer {
-        Ok((offered, bytes, looks)) => (0, vec![offered as u64, bytes as u64, looks as u64]),
-        Err(number) => (number, vec![0, 0, 0]),
+        Ok((offered, bytes, looks)) => (0, [offered as u64, bytes as u64, looks as u64]),
+        Err(number) => (number, [0; 3]),
     }
 }
 
 fn told_found(answer: Result<Option<(usize, u32)>, u8>) -> Told {
     match answer {
-        Ok(Some((position, score))) => (0, vec![1, position as u64, score as u64]),
-        Ok(None) => (0, vec![0, 0, 0]),
-        Err(number) => (number, vec![0, 0, 0]),
+        Ok(Some((position, score))) => (0, [1, position as u64, score as u64]),
+        Ok(None) => (0, [0; 3]),
+        Err(number) => (number, [0; 3]),
     }
 }
 
@@ -207,8 +207,8 @@ impl Compare {
             let mut lent = before.clone();
             let told = calls::press(book, &mut lent, key);
             let expected = match answer {
-                Ok(rows) => (0, vec![rows as u64]),
-                Err(number) => (number, vec![0]),
+                Ok(rows) => (0, [rows as u64, 0, 0]),
+                Err(number) => (number, [0; 3]),
             };
             self.case("press", told == expected && lent == *panel, told.0, || {
                 format!(

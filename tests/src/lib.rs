@@ -2,5 +2,6 @@
 pub mod calls;
 pub mod compare;
 pub mod make;
+pub mod plain;
 pub mod random;
 pub mod reference;

@@ -81,7 +81,7 @@ pub fn score(random: &mut Random, scores: Scores) -> u32 {
         Scores::Equal => 7,
         Scores::Extreme => random.pick(&[0, 1, u32::MAX - 1, u32::MAX]),
         Scores::Few => random.pick(&[0, 1, 255, 256, 257, 65_535, 65_536]),
-        Scores::Any => random.next() as u32,
+        Scores::Any => random.any() as u32,
     }
 }
 

@@ -216,10 +216,10 @@ fn history(compare: &mut Compare, random: &mut Random, buffer: usize, steps: usi
         other = left;
         match answer {
             Ok((entries, bytes)) => {
-                assert_eq!(told, (0, vec![entries as u64, bytes as u64]), "the ledger's answer");
+                assert_eq!(told, (0, [entries as u64, bytes as u64, 0]), "the ledger's answer");
                 std::mem::swap(&mut current, &mut other);
             }
-            Err(number) => assert_eq!(told, (number, vec![0, 0]), "the ledger's refusal"),
+            Err(number) => assert_eq!(told, (number, [0; 3]), "the ledger's refusal"),
         }
         assert!(current.starts_with(&book::image(&ledger.held)), "the ledger's image");
     }
