@@ -18,13 +18,13 @@ mod c {
         pub fn label_book_head(book: *const u8, book_len: usize, bucket: usize, start: *mut usize, length: *mut usize) -> u8;
         pub fn label_book_build(sheet: *const u8, sheet_len: usize, dst: *mut u8, dst_len: usize, entries: *mut usize, bytes: *mut usize) -> u8;
         pub fn label_book_list(book: *const u8, book_len: usize, dst: *mut u8, dst_len: usize, entries: *mut usize, bytes: *mut usize) -> u8;
-        #[cfg(feature = "completion")]
+        #[cfg(feature = "complete")]
         pub fn label_book_complete(book: *const u8, book_len: usize, prefix: *const u8, prefix_len: usize, k: usize, dst: *mut u8, dst_len: usize, ranges: *mut super::Range, ranges_len: usize, offered: *mut usize, bytes: *mut usize, looks: *mut usize) -> u8;
-        #[cfg(feature = "trie")]
+        #[cfg(feature = "write_trie")]
         pub fn label_book_write_trie(book: *const u8, book_len: usize, dst: *mut u8, dst_len: usize, entries: *mut usize, bytes: *mut usize) -> u8;
-        #[cfg(feature = "trie")]
+        #[cfg(feature = "complete_trie")]
         pub fn label_book_complete_trie(trie: *const u8, trie_len: usize, prefix: *const u8, prefix_len: usize, k: usize, dst: *mut u8, dst_len: usize, offered: *mut usize, bytes: *mut usize, looks: *mut usize) -> u8;
-        #[cfg(feature = "panel")]
+        #[cfg(feature = "press")]
         pub fn label_book_press(book: *const u8, book_len: usize, panel: *mut crate::reference::panel::Panel, key: u8, rows: *mut usize) -> u8;
     }
 }
@@ -47,7 +47,7 @@ fn two(call: impl FnOnce(*mut usize, *mut usize) -> u8) -> Told {
 }
 
 /// The number, and three counts through pointers.
-#[cfg(any(feature = "completion", feature = "trie"))]
+#[cfg(any(feature = "complete", feature = "complete_trie"))]
 fn three(call: impl FnOnce(*mut usize, *mut usize, *mut usize) -> u8) -> Told {
     let (mut a, mut b, mut c) = (BEFORE, BEFORE, BEFORE);
     let number = call(&mut a, &mut b, &mut c);
@@ -107,7 +107,7 @@ pub fn list(book: &[u8], dst: &mut [u8]) -> Told {
     two(|a, b| unsafe { c::label_book_list(book.as_ptr(), book.len(), dst.as_mut_ptr(), dst.len(), a, b) })
 }
 
-#[cfg(feature = "completion")]
+#[cfg(feature = "complete")]
 pub fn complete(book: &[u8], prefix: &[u8], k: usize, dst: &mut [u8], ranges: &mut [Range]) -> Told {
     three(|a, b, l| unsafe {
         c::label_book_complete(
@@ -127,12 +127,12 @@ pub fn complete(book: &[u8], prefix: &[u8], k: usize, dst: &mut [u8], ranges: &m
     })
 }
 
-#[cfg(feature = "trie")]
+#[cfg(feature = "write_trie")]
 pub fn write_trie(book: &[u8], dst: &mut [u8]) -> Told {
     two(|a, b| unsafe { c::label_book_write_trie(book.as_ptr(), book.len(), dst.as_mut_ptr(), dst.len(), a, b) })
 }
 
-#[cfg(feature = "trie")]
+#[cfg(feature = "complete_trie")]
 pub fn complete_trie(trie: &[u8], prefix: &[u8], k: usize, dst: &mut [u8]) -> Told {
     three(|a, b, l| unsafe {
         c::label_book_complete_trie(
@@ -150,7 +150,7 @@ pub fn complete_trie(trie: &[u8], prefix: &[u8], k: usize, dst: &mut [u8]) -> To
     })
 }
 
-#[cfg(feature = "panel")]
+#[cfg(feature = "press")]
 pub fn press(book: &[u8], panel: &mut crate::reference::panel::Panel, key: u8) -> Told {
     let mut rows = BEFORE;
     let number = unsafe { c::label_book_press(book.as_ptr(), book.len(), panel, key, &mut rows) };

@@ -124,7 +124,7 @@ impl<'a> Book<'a> {
         let mut best = first;
         let mut i = first;
         while i < end {
-            if i % 16 == 0 && i + 16 <= end {
+            if i.is_multiple_of(16) && i + 16 <= end {
                 best = self.better(best, u16_at(self.image, self.peaks_at() + i / 8));
                 i += 16;
             } else {
@@ -147,7 +147,7 @@ impl<'a> Book<'a> {
     /// Unpacks the record at a place; gives the place behind it.
     fn unpack(&self, i: usize, mut at: usize, name: &mut Name) -> usize {
         let mut kept = 0;
-        if i % 8 != 0 {
+        if !i.is_multiple_of(8) {
             kept = self.image[at] as usize;
             at += 1;
         }

@@ -282,9 +282,45 @@ fn panels(compare: &mut Compare, random: &mut Random, rounds: usize) {
     }
 }
 
+fn bytes(hex: &str) -> Vec<u8> {
+    hex.split_whitespace().map(|b| u8::from_str_radix(b, 16).unwrap()).collect()
+}
+
+/// The cases that the document works out, made by the calls themselves.
+fn worked(compare: &mut Compare) {
+    let (told, mut book) = compare.empty(&[0xEE; 200]);
+    assert_eq!((told, &book[..7]), ((0, [0, 7, 0]), &bytes("21 00 00 00 07 00 00")[..]));
+    for (name, score) in [("rc step", 9), ("rl", 12), ("ac", 5), ("rc", 9)] {
+        book = compare.set(&book, name.as_bytes(), score, &[0xEE; 200]).1;
+    }
+    let p3 = "21 00 00 00 2C 00 04 00 00 00 05 00 00 00 09 00 00 00 09 00 00 00 0C 00 1B 00 03 02 61 63 00 02 72 63 02 05 20 73 74 65 70 01 01 6C";
+    assert_eq!(book[..44], bytes(p3));
+    let (told, trie) = compare.write_trie(&book, &[0xEE; 28]);
+    assert_eq!(told, (0, [4, 28, 0]));
+    assert_eq!(trie, bytes("31 00 00 00 1C 00 04 51 0C 08 72 4A 07 61 63 01 6C 59 03 06 63 00 0D 20 73 74 65 70"));
+    for (prefix, k, offered, looks) in [("r", 2, 2, 2), ("rc", 5, 2, 2), ("q", 3, 0, 0)] {
+        let (told, list) = compare.complete(&book, prefix.as_bytes(), k, &vec![0; 53 * k], k);
+        assert_eq!((told.0, told.1[0], told.1[2]), (0, offered, looks));
+        let (told, same) = compare.complete_trie(&trie, prefix.as_bytes(), k, &vec![0; 53 * k]);
+        assert_eq!((told.0, told.1[0], told.1[2], same), (0, offered, 0, list));
+    }
+    let three: Entries = [(b"a".to_vec(), 1), (b"b".to_vec(), 9), (b"c".to_vec(), 1)].into();
+    assert_eq!(compare.complete(&book::image(&three), b"", 2, &[0; 106], 2).0 .1[2], 3);
+    let mut ten: Entries = (b'1'..=b'8').map(|digit| (vec![digit], 0)).collect();
+    ten.insert(vec![b'x'; 47], 0);
+    ten.insert(vec![b'x'; 48], 0);
+    let book = book::image(&ten);
+    assert_eq!(book.len(), 127);
+    assert_eq!(compare.withdraw(&book, b"1", &[0; 130]).0, (7, [0; 3]));
+    assert_eq!(compare.withdraw(&book, b"1", &[0; 167]).0, (0, [9, 167, 0]));
+    assert_eq!(compare.set(&book, &[b'y'; 48], 1, &[0; 400]).0 .0, 0);
+    assert_eq!(compare.set(&book, &[b'y'; 49], 1, &[0; 400]).0 .0, 2);
+}
+
 /// One round of everything.
 fn round(compare: &mut Compare, seed: u64) {
     let mut random = Random::new(seed);
+    worked(compare);
     sizes(compare, &mut random, 40);
     every_place(compare, &mut random, 6);
     damage(compare, &mut random, 600);

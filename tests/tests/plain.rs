@@ -18,7 +18,7 @@ fn ask(random: &mut Random, buffer: &[u8], page: &[u8], held: &Entries) {
     let dst = &whole[..make::room(random, book::image(held).len())];
     let short = &whole[..make::room(random, 53)];
     let answer = &whole[..make::room(random, 53 * k.min(17))];
-    same(dst, |d| plain::empty(d), |d| calls::empty(d));
+    same(dst, plain::empty, calls::empty);
     same(dst, |d| plain::set(buffer, &name, 9, d), |d| calls::set(buffer, &name, 9, d));
     same(dst, |d| plain::withdraw(buffer, &name, d), |d| calls::withdraw(buffer, &name, d));
     same(dst, |d| plain::list(buffer, d), |d| calls::list(buffer, d));
