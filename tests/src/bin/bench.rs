@@ -113,6 +113,27 @@ fn size(n: usize) {
     reads!(head, n, image, image, n / 16);
     writes!(build, n, page, page);
     writes!(list, n, image, image);
+    #[cfg(feature = "complete")]
+    {
+        let mut ranges = [calls::Range { first: 0, best: 0, score: 0, last: 0 }; 16];
+        let (mut one, mut two) = (vec![0; LONG_BUFFER], vec![0; LONG_BUFFER]);
+        let ours = &mut || consume(calls::complete(black_box(image), prefix, 5, &mut one, &mut ranges));
+        line("complete", n, image, ours, &mut || consume(plain::complete(black_box(image), prefix, 5, &mut two, 16)));
+    }
+    #[cfg(feature = "write_trie")]
+    writes!(write_trie, n, image, image);
+    #[cfg(feature = "complete_trie")]
+    {
+        let trie = &label_book_tests::reference::trie::image(&held)[..];
+        writes!(complete_trie, n, trie, trie, prefix, 5);
+    }
+    #[cfg(feature = "press")]
+    {
+        let typed = label_book_tests::reference::panel::Panel { text: [0; 48], len: 0, highlight: 0, rows: 0 };
+        let (mut one, mut two) = (typed.clone(), typed);
+        let ours = &mut || consume(calls::press(black_box(image), &mut one, 0x02));
+        line("press", n, image, ours, &mut || consume(plain::press(black_box(image), &mut two, 0x02)));
+    }
 }
 
 fn main() {

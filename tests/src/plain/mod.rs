@@ -1,5 +1,11 @@
 //! The calls again, written straightforwardly in safe Rust over the image where it lies, with the same checks: what the benchmark compares
 //! the static library with. The comparison runs them too.
+mod panel;
+mod trie;
+
+pub use panel::press;
+pub use trie::{complete_trie, write_trie};
+
 use crate::reference::calls::{Offered, Written};
 use crate::reference::{is_name, is_prefix, LONGEST_NAME, MOST_ENTRIES, MOST_OFFERED};
 
