@@ -1,0 +1,20 @@
+-- `label_book_name_at` meets its contract: what the front door's call answered is told. No loop. Assumes nothing.
+use borrow.Author.Needs.{needs}
+use Rattle.exports.proofs.Told.{left}
+use Rattle.exports.proofs.label_book_name_at.Statement.{statement}
+use Rattle.exports.proofs.label_book_name_at.Tie as tie
+
+name-at-requires : tie.Need-name-at-requires
+name-at-requires c κs = tt
+
+tell-written-requires : tie.Need-tell-written-requires
+tell-written-requires c κs = tt
+
+same-length : tie.Need-same-length
+same-length c = search needs
+
+returns : tie.Need-returns
+returns c = left (c .before .before .before .before .before .name-at .ensures) (c .tell-written .ensures)
+
+pub label-book-name-at-spec : {M : Type 1} → statement M
+label-book-name-at-spec = tie.close (tie.spec name-at-requires tell-written-requires same-length returns)

@@ -1,0 +1,60 @@
+-- An answer as C gets it: the number returned, and the values told through pointers, all of them 0 with a refusal.
+use Prim.Native.Nat.{_*_, _+_, _<_, ℕ}
+use mathlib.Core.Path.{_≡_}
+use mathlib.Core.Bool.{true}
+use mathlib.Core.List.{List}
+use mathlib.Core.Option.{Option, none, some}
+use lib.ListN.{drop, length, take}
+use Rattle.front_coding.specs.Records.{bucketSize}
+use Rattle.book.specs.Answers.{Answer, Outcome, Place, Span, Written, counts, noPlace, noSpan, noneWritten, number, onAnswer}
+use Rattle.book.specs.Book.{inBook, isBook, layout21, offset}
+use Rattle.book.specs.Lookups.{headLength, headName}
+
+-- the entries and bytes that a call reports
+pub record WrittenTold (a : Answer Written) (r e b : ℕ) : Type 0 where
+  pub returned : r ≡ number a
+  pub entries : e ≡ counts noneWritten a .entries
+  pub bytes : b ≡ counts noneWritten a .bytes
+
+-- the same, and the destination that the call leaves
+pub record Left (o : Outcome Written) (r e b : ℕ) (dst : List ℕ) : Type 0 where
+  pub told : WrittenTold (o .answer) r e b
+  pub dest : dst ≡ o .dest
+
+-- finding as C gets it: whether there is a place, 1 or 0, and the place, zeros where there is none
+abbrev pub isThere : Option Place → ℕ
+isThere none = 0
+isThere (some p) = 1
+
+abbrev pub placeIn : Option Place → Place
+placeIn none = noPlace
+placeIn (some p) = p
+
+pub record FoundTold (a : Answer (Option Place)) (r f i s : ℕ) : Type 0 where
+  pub returned : r ≡ number a
+  pub found : f ≡ isThere (counts none a)
+  pub position : i ≡ placeIn (counts none a) .position
+  pub score : s ≡ placeIn (counts none a) .score
+
+-- a range of positions
+pub record SpanTold (a : Answer Span) (r i k : ℕ) : Type 0 where
+  pub returned : r ≡ number a
+  pub first : i ≡ counts noSpan a .first
+  pub count : k ≡ counts noSpan a .count
+
+-- a book that has a bucket
+pub record HasBucket (book : List ℕ) (j : ℕ) : Type 0 where
+  pub isIt : isBook book ≡ true
+  pub there : bucketSize * j < length (inBook book)
+
+-- where its head name begins: behind the length byte at the bucket's offset
+abbrev pub headAt : List ℕ → ℕ → ℕ
+headAt book j = offset layout21 (inBook book) j + 1
+
+-- a bucket's head name, told by where it begins in the book and its length
+pub record HeadTold (book : List ℕ) (j r s k : ℕ) : Type 0 where
+  pub returned : r ≡ number (headLength book j)
+  pub start : s ≡ onAnswer (headLength book j) 0 (headAt book j)
+  pub length : k ≡ counts 0 (headLength book j)
+  -- that part of the book is the name, and empty with a refusal
+  pub part : take k (drop s book) ≡ headName book j

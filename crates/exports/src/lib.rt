@@ -1,0 +1,214 @@
+// The label book for C: each call of the front door under a C name (include/label_book.h). A call returns 0 or the refusal's number, and
+// tells its counts through pointers, all of them 0 with a refusal.
+ghost use mathlib.Core.Path.{_≡_};
+ghost use Rattle.book.specs.Lookups.{find, nameAt, nameAtByName, prefixRange};
+ghost use Rattle.edits.specs.Edits.{emptyBook, setEntry, withdraw};
+ghost use Rattle.sheet.specs.Sheet.{buildBook, listBook};
+ghost use Rattle.label_book.specs.Calls.{foundOf, spanOf, writtenOf};
+ghost use Rattle.exports.specs.Told.{FoundTold, HasBucket, HeadTold, Left, SpanTold, WrittenTold, headAt};
+
+// Tells what was written.
+fn tell_written(w: label_book::Written, entries: &mut usize, bytes: &mut usize) -> u8
+    ensures { λ r. ⌜ WrittenTold (writtenOf w) r (now (entries .exit)) (now (bytes .exit)) ⌝ }
+{
+    *entries = 0;
+    *bytes = 0;
+    match w {
+        label_book::Written::Refused(n) => n,
+        label_book::Written::Wrote {
+            entries: e,
+            bytes: b,
+        } => {
+            *entries = e;
+            *bytes = b;
+            0
+        }
+    }
+}
+
+// Tells a place that was found, or that there is none.
+fn tell_found(w: label_book::Found, found: &mut usize, position: &mut usize, score: &mut u32) -> u8
+    ensures { λ r. ⌜ FoundTold (foundOf w) r (now (found .exit)) (now (position .exit)) (now (score .exit)) ⌝ }
+{
+    *found = 0;
+    *position = 0;
+    *score = 0;
+    match w {
+        label_book::Found::Refused(n) => n,
+        label_book::Found::At {
+            position: i,
+            score: s,
+        } => {
+            *found = 1;
+            *position = i;
+            *score = s;
+            0
+        }
+        label_book::Found::Absent => 0,
+    }
+}
+
+// Tells a range of positions.
+fn tell_span(w: label_book::Span, first: &mut usize, count: &mut usize) -> u8
+    ensures { λ r. ⌜ SpanTold (spanOf w) r (now (first .exit)) (now (count .exit)) ⌝ }
+{
+    *first = 0;
+    *count = 0;
+    match w {
+        label_book::Span::Refused(n) => n,
+        label_book::Span::Range { first: i, count: k } => {
+            *first = i;
+            *count = k;
+            0
+        }
+    }
+}
+
+// Writes the book of no entries.
+#[no_mangle]
+pub extern "C" fn label_book_empty(dst: &mut [u8], entries: &mut usize, bytes: &mut usize) -> u8
+    ensures { λ r. ⌜ Left (emptyBook (now (dst .entry))) r (now (entries .exit)) (now (bytes .exit)) (now (dst .exit)) ⌝ }
+{
+    tell_written(label_book::empty(dst), entries, bytes)
+}
+
+// Adds a name, or gives it a new score: the result stands at the front of another buffer.
+#[no_mangle]
+pub extern "C" fn label_book_set(
+    book: &[u8],
+    name: &[u8],
+    score: u32,
+    dst: &mut [u8],
+    entries: &mut usize,
+    bytes: &mut usize,
+) -> u8
+    ensures { λ r. ⌜ Left (setEntry (now (book .entry)) (now (name .entry)) score (now (dst .entry))) r (now (entries .exit)) (now (bytes .exit)) (now (dst .exit)) ⌝ }
+{
+    tell_written(label_book::set(book, name, score, dst), entries, bytes)
+}
+
+// Removes a name: the result stands at the front of another buffer.
+#[no_mangle]
+pub extern "C" fn label_book_withdraw(
+    book: &[u8],
+    name: &[u8],
+    dst: &mut [u8],
+    entries: &mut usize,
+    bytes: &mut usize,
+) -> u8
+    ensures { λ r. ⌜ Left (withdraw (now (book .entry)) (now (name .entry)) (now (dst .entry))) r (now (entries .exit)) (now (bytes .exit)) (now (dst .exit)) ⌝ }
+{
+    tell_written(label_book::withdraw(book, name, dst), entries, bytes)
+}
+
+// Writes the entry at a position as one answer entry.
+#[no_mangle]
+pub extern "C" fn label_book_name_at(
+    book: &[u8],
+    position: usize,
+    dst: &mut [u8],
+    entries: &mut usize,
+    bytes: &mut usize,
+) -> u8
+    ensures { λ r. ⌜ Left (nameAt (now (book .entry)) position (now (dst .entry))) r (now (entries .exit)) (now (bytes .exit)) (now (dst .exit)) ⌝ }
+{
+    tell_written(label_book::name_at(book, position, dst), entries, bytes)
+}
+
+// Writes the given name with its score as one answer entry.
+#[no_mangle]
+pub extern "C" fn label_book_name_of(
+    book: &[u8],
+    name: &[u8],
+    dst: &mut [u8],
+    entries: &mut usize,
+    bytes: &mut usize,
+) -> u8
+    ensures { λ r. ⌜ Left (nameAtByName (now (book .entry)) (now (name .entry)) (now (dst .entry))) r (now (entries .exit)) (now (bytes .exit)) (now (dst .exit)) ⌝ }
+{
+    tell_written(label_book::name_of(book, name, dst), entries, bytes)
+}
+
+// Builds a book from a sheet.
+#[no_mangle]
+pub extern "C" fn label_book_build(
+    sheet: &[u8],
+    dst: &mut [u8],
+    entries: &mut usize,
+    bytes: &mut usize,
+) -> u8
+    ensures { λ r. ⌜ Left (buildBook (now (sheet .entry)) (now (dst .entry))) r (now (entries .exit)) (now (bytes .exit)) (now (dst .exit)) ⌝ }
+{
+    tell_written(label_book::build(sheet, dst), entries, bytes)
+}
+
+// Lists a book into a sheet.
+#[no_mangle]
+pub extern "C" fn label_book_list(
+    book: &[u8],
+    dst: &mut [u8],
+    entries: &mut usize,
+    bytes: &mut usize,
+) -> u8
+    ensures { λ r. ⌜ Left (listBook (now (book .entry)) (now (dst .entry))) r (now (entries .exit)) (now (bytes .exit)) (now (dst .exit)) ⌝ }
+{
+    tell_written(label_book::list(book, dst), entries, bytes)
+}
+
+// The position and score of a name, or that it is absent.
+#[no_mangle]
+pub extern "C" fn label_book_find(
+    book: &[u8],
+    name: &[u8],
+    found: &mut usize,
+    position: &mut usize,
+    score: &mut u32,
+) -> u8
+    ensures { λ r. ⌜ FoundTold (find (now (book .entry)) (now (name .entry))) r (now (found .exit)) (now (position .exit)) (now (score .exit)) ⌝ }
+{
+    tell_found(label_book::find(book, name), found, position, score)
+}
+
+// The first position that a prefix begins, 0 if there is none, and how many it begins.
+#[no_mangle]
+pub extern "C" fn label_book_prefix_range(
+    book: &[u8],
+    prefix: &[u8],
+    first: &mut usize,
+    count: &mut usize,
+) -> u8
+    ensures { λ r. ⌜ SpanTold (prefixRange (now (book .entry)) (now (prefix .entry))) r (now (first .exit)) (now (count .exit)) ⌝ }
+{
+    tell_span(label_book::prefix_range(book, prefix), first, count)
+}
+
+// Where the head name of a bucket begins: behind the length byte at the bucket's offset.
+fn head_start(book: &[u8], bucket: usize) -> usize
+    requires { ⌜ HasBucket (now book) bucket ⌝ }
+    ensures { λ r. ⌜ r ≡ headAt (now (book .entry)) bucket ⌝ }
+{
+    let n = octets::read_u16(book, 5) as usize;
+    octets::read_u16(book, 7 + 4 * n + 2 * bucket) as usize + 1
+}
+
+// Where in the book the head name of a bucket begins, and its length.
+#[no_mangle]
+pub extern "C" fn label_book_head(
+    book: &[u8],
+    bucket: usize,
+    start: &mut usize,
+    length: &mut usize,
+) -> u8
+    ensures { λ r. ⌜ HeadTold (now (book .entry)) bucket r (now (start .exit)) (now (length .exit)) ⌝ }
+{
+    *start = 0;
+    *length = 0;
+    match label_book::head_length(book, bucket) {
+        label_book::HeadLength::Refused(n) => n,
+        label_book::HeadLength::Bytes(k) => {
+            *start = head_start(book, bucket);
+            *length = k;
+            0
+        }
+    }
+}

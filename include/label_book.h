@@ -1,0 +1,74 @@
+/*
+ * The label book, for C: link target/staticlib/libexports.a (rt staticlib exports), x86-64.
+ *
+ * A book is an image of at most 1,024 entries, each a name of 1 to 48 bytes from 20 to 7E and a score; a sheet lists the same entries in
+ * plain. An image stands at the front of a lent buffer; the bytes behind it are neither read nor changed. Positions count from 0 in name
+ * order, which is byte order.
+ *
+ * A buffer is a pointer and a length in bytes. A pointer is never null, not with length 0 either. A destination and the out values
+ * overlap nothing else that is lent; two sources may be the same bytes. A call keeps no pointer and allocates nothing.
+ *
+ * Every call returns 0 or the number of its refusal, the smallest that applies:
+ *   1  a book or sheet that is not laid out as such, or is cut off by its buffer
+ *   2  a name or prefix that is not allowed
+ *   4  withdraw, name_of: a name that the book does not hold
+ *   5  set: a new name where 1,024 are held
+ *   6  a position or bucket that the book does not have
+ *   7  a destination that is shorter than the bytes needed
+ * With a refusal every out value is 0 and no lent byte has changed. With 0 the out values are as said at each call, and a destination
+ * has changed only where the answer was written, at its front.
+ *
+ * The numbers, out values and bytes said here are proved of the functions in crates/exports/src/lib.rt. That this file declares those
+ * functions as they are is not proved; the tests call them by the same declarations.
+ */
+#ifndef LABEL_BOOK_H
+#define LABEL_BOOK_H
+
+#include <stddef.h>
+#include <stdint.h>
+
+#ifdef __cplusplus
+extern "C" {
+#endif
+
+/* Writes the book of no entries: 0 entries, 7 bytes. Reads nothing. Refusal 7. */
+uint8_t label_book_empty(uint8_t *dst, size_t dst_len, size_t *entries, size_t *bytes);
+
+/* Writes the book with the name added, or given a new score; tells the entries in it and its bytes. Refusals 1, 2, 5, 7. */
+uint8_t label_book_set(const uint8_t *book, size_t book_len, const uint8_t *name, size_t name_len, uint32_t score,
+                       uint8_t *dst, size_t dst_len, size_t *entries, size_t *bytes);
+
+/* Writes the book without the name; tells the entries in it and its bytes, which may be more than before. Refusals 1, 2, 4, 7. */
+uint8_t label_book_withdraw(const uint8_t *book, size_t book_len, const uint8_t *name, size_t name_len,
+                            uint8_t *dst, size_t dst_len, size_t *entries, size_t *bytes);
+
+/* Tells whether the book holds the name, 1 or 0, and its position and score, both 0 if not. Refusals 1, 2. */
+uint8_t label_book_find(const uint8_t *book, size_t book_len, const uint8_t *name, size_t name_len,
+                        size_t *found, size_t *position, uint32_t *score);
+
+/* Writes the entry at a position: length byte, name, 4-byte score, big-endian; tells 1 entry and its bytes. Refusals 1, 6, 7. */
+uint8_t label_book_name_at(const uint8_t *book, size_t book_len, size_t position,
+                           uint8_t *dst, size_t dst_len, size_t *entries, size_t *bytes);
+
+/* Writes the given name with its score in the same way. Refusals 1, 2, 4, 7. */
+uint8_t label_book_name_of(const uint8_t *book, size_t book_len, const uint8_t *name, size_t name_len,
+                           uint8_t *dst, size_t dst_len, size_t *entries, size_t *bytes);
+
+/* Tells the first position whose name the prefix begins, 0 if there is none, and how many there are. Refusals 1, 2. */
+uint8_t label_book_prefix_range(const uint8_t *book, size_t book_len, const uint8_t *prefix, size_t prefix_len,
+                                size_t *first, size_t *count);
+
+/* Tells where in the book the head name of a bucket of 8 begins, and its length: book[start] to book[start + length - 1]. Refusals 1, 6. */
+uint8_t label_book_head(const uint8_t *book, size_t book_len, size_t bucket, size_t *start, size_t *length);
+
+/* Writes the book of a sheet's entries; tells them and its bytes. Refusals 1, 7. */
+uint8_t label_book_build(const uint8_t *sheet, size_t sheet_len, uint8_t *dst, size_t dst_len, size_t *entries, size_t *bytes);
+
+/* Writes the sheet of a book's entries; tells them and its bytes. Refusals 1, 7. */
+uint8_t label_book_list(const uint8_t *book, size_t book_len, uint8_t *dst, size_t dst_len, size_t *entries, size_t *bytes);
+
+#ifdef __cplusplus
+}
+#endif
+
+#endif

@@ -1,0 +1,158 @@
+//! The calls of the static library, each behind a safe function. What a call tells is its number and its out values in order, with
+//! zeros up to three; they are other numbers before the call, so that one that is not told shows.
+pub type Told = (u8, [u64; 3]);
+
+const BEFORE: usize = 0x5A5A_5A5A_5A5A_5A5A;
+const BEFORE_SCORE: u32 = 0x5A5A_5A5A;
+
+#[rustfmt::skip]
+mod c {
+    extern "C" {
+        pub fn label_book_empty(dst: *mut u8, dst_len: usize, entries: *mut usize, bytes: *mut usize) -> u8;
+        pub fn label_book_set(book: *const u8, book_len: usize, name: *const u8, name_len: usize, score: u32, dst: *mut u8, dst_len: usize, entries: *mut usize, bytes: *mut usize) -> u8;
+        pub fn label_book_withdraw(book: *const u8, book_len: usize, name: *const u8, name_len: usize, dst: *mut u8, dst_len: usize, entries: *mut usize, bytes: *mut usize) -> u8;
+        pub fn label_book_find(book: *const u8, book_len: usize, name: *const u8, name_len: usize, found: *mut usize, position: *mut usize, score: *mut u32) -> u8;
+        pub fn label_book_name_at(book: *const u8, book_len: usize, position: usize, dst: *mut u8, dst_len: usize, entries: *mut usize, bytes: *mut usize) -> u8;
+        pub fn label_book_name_of(book: *const u8, book_len: usize, name: *const u8, name_len: usize, dst: *mut u8, dst_len: usize, entries: *mut usize, bytes: *mut usize) -> u8;
+        pub fn label_book_prefix_range(book: *const u8, book_len: usize, prefix: *const u8, prefix_len: usize, first: *mut usize, count: *mut usize) -> u8;
+        pub fn label_book_head(book: *const u8, book_len: usize, bucket: usize, start: *mut usize, length: *mut usize) -> u8;
+        pub fn label_book_build(sheet: *const u8, sheet_len: usize, dst: *mut u8, dst_len: usize, entries: *mut usize, bytes: *mut usize) -> u8;
+        pub fn label_book_list(book: *const u8, book_len: usize, dst: *mut u8, dst_len: usize, entries: *mut usize, bytes: *mut usize) -> u8;
+        #[cfg(feature = "complete")]
+        pub fn label_book_complete(book: *const u8, book_len: usize, prefix: *const u8, prefix_len: usize, k: usize, dst: *mut u8, dst_len: usize, ranges: *mut super::Range, ranges_len: usize, offered: *mut usize, bytes: *mut usize, looks: *mut usize) -> u8;
+        #[cfg(feature = "write_trie")]
+        pub fn label_book_write_trie(book: *const u8, book_len: usize, dst: *mut u8, dst_len: usize, entries: *mut usize, bytes: *mut usize) -> u8;
+        #[cfg(feature = "complete_trie")]
+        pub fn label_book_complete_trie(trie: *const u8, trie_len: usize, prefix: *const u8, prefix_len: usize, k: usize, dst: *mut u8, dst_len: usize, offered: *mut usize, bytes: *mut usize, looks: *mut usize) -> u8;
+        #[cfg(feature = "press")]
+        pub fn label_book_press(book: *const u8, book_len: usize, panel: *mut crate::reference::panel::Panel, key: u8, rows: *mut usize) -> u8;
+    }
+}
+
+/// An open range that completion lends.
+#[repr(C)]
+#[derive(Clone, Copy, Debug, PartialEq, Eq)]
+pub struct Range {
+    pub first: usize,
+    pub best: usize,
+    pub score: u32,
+    pub last: usize,
+}
+
+/// The number, and two counts through pointers.
+fn two(call: impl FnOnce(*mut usize, *mut usize) -> u8) -> Told {
+    let (mut a, mut b) = (BEFORE, BEFORE);
+    let number = call(&mut a, &mut b);
+    (number, [a as u64, b as u64, 0])
+}
+
+/// The number, and three counts through pointers.
+#[cfg(any(feature = "complete", feature = "complete_trie"))]
+fn three(call: impl FnOnce(*mut usize, *mut usize, *mut usize) -> u8) -> Told {
+    let (mut a, mut b, mut c) = (BEFORE, BEFORE, BEFORE);
+    let number = call(&mut a, &mut b, &mut c);
+    (number, [a as u64, b as u64, c as u64])
+}
+
+// Each call's pointers and lengths are those of slices, and its out pointers those of locals.
+
+pub fn empty(dst: &mut [u8]) -> Told {
+    two(|a, b| unsafe { c::label_book_empty(dst.as_mut_ptr(), dst.len(), a, b) })
+}
+
+pub fn set(book: &[u8], name: &[u8], score: u32, dst: &mut [u8]) -> Told {
+    two(|a, b| unsafe {
+        c::label_book_set(book.as_ptr(), book.len(), name.as_ptr(), name.len(), score, dst.as_mut_ptr(), dst.len(), a, b)
+    })
+}
+
+pub fn withdraw(book: &[u8], name: &[u8], dst: &mut [u8]) -> Told {
+    two(|a, b| unsafe {
+        c::label_book_withdraw(book.as_ptr(), book.len(), name.as_ptr(), name.len(), dst.as_mut_ptr(), dst.len(), a, b)
+    })
+}
+
+pub fn find(book: &[u8], name: &[u8]) -> Told {
+    let mut score = BEFORE_SCORE;
+    let (number, mut told) = two(|found, position| unsafe {
+        c::label_book_find(book.as_ptr(), book.len(), name.as_ptr(), name.len(), found, position, &mut score)
+    });
+    told[2] = score as u64;
+    (number, told)
+}
+
+pub fn name_at(book: &[u8], position: usize, dst: &mut [u8]) -> Told {
+    two(|a, b| unsafe { c::label_book_name_at(book.as_ptr(), book.len(), position, dst.as_mut_ptr(), dst.len(), a, b) })
+}
+
+pub fn name_of(book: &[u8], name: &[u8], dst: &mut [u8]) -> Told {
+    two(|a, b| unsafe {
+        c::label_book_name_of(book.as_ptr(), book.len(), name.as_ptr(), name.len(), dst.as_mut_ptr(), dst.len(), a, b)
+    })
+}
+
+pub fn prefix_range(book: &[u8], prefix: &[u8]) -> Told {
+    two(|a, b| unsafe { c::label_book_prefix_range(book.as_ptr(), book.len(), prefix.as_ptr(), prefix.len(), a, b) })
+}
+
+pub fn head(book: &[u8], bucket: usize) -> Told {
+    two(|a, b| unsafe { c::label_book_head(book.as_ptr(), book.len(), bucket, a, b) })
+}
+
+pub fn build(sheet: &[u8], dst: &mut [u8]) -> Told {
+    two(|a, b| unsafe { c::label_book_build(sheet.as_ptr(), sheet.len(), dst.as_mut_ptr(), dst.len(), a, b) })
+}
+
+pub fn list(book: &[u8], dst: &mut [u8]) -> Told {
+    two(|a, b| unsafe { c::label_book_list(book.as_ptr(), book.len(), dst.as_mut_ptr(), dst.len(), a, b) })
+}
+
+#[cfg(feature = "complete")]
+pub fn complete(book: &[u8], prefix: &[u8], k: usize, dst: &mut [u8], ranges: &mut [Range]) -> Told {
+    three(|a, b, l| unsafe {
+        c::label_book_complete(
+            book.as_ptr(),
+            book.len(),
+            prefix.as_ptr(),
+            prefix.len(),
+            k,
+            dst.as_mut_ptr(),
+            dst.len(),
+            ranges.as_mut_ptr(),
+            ranges.len(),
+            a,
+            b,
+            l,
+        )
+    })
+}
+
+#[cfg(feature = "write_trie")]
+pub fn write_trie(book: &[u8], dst: &mut [u8]) -> Told {
+    two(|a, b| unsafe { c::label_book_write_trie(book.as_ptr(), book.len(), dst.as_mut_ptr(), dst.len(), a, b) })
+}
+
+#[cfg(feature = "complete_trie")]
+pub fn complete_trie(trie: &[u8], prefix: &[u8], k: usize, dst: &mut [u8]) -> Told {
+    three(|a, b, l| unsafe {
+        c::label_book_complete_trie(
+            trie.as_ptr(),
+            trie.len(),
+            prefix.as_ptr(),
+            prefix.len(),
+            k,
+            dst.as_mut_ptr(),
+            dst.len(),
+            a,
+            b,
+            l,
+        )
+    })
+}
+
+#[cfg(feature = "press")]
+pub fn press(book: &[u8], panel: &mut crate::reference::panel::Panel, key: u8) -> Told {
+    let mut rows = BEFORE;
+    let number = unsafe { c::label_book_press(book.as_ptr(), book.len(), panel, key, &mut rows) };
+    (number, [rows as u64, 0, 0])
+}

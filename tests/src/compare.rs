@@ -1,0 +1,233 @@
+//! A call of the static library and the same call of the second implementation: number, out values and every lent byte must agree.
+use crate::calls::{self, Told};
+use crate::fence::Fence;
+use crate::reference::calls::{self as reference, Offered, Written};
+use std::collections::BTreeMap;
+
+/// How many cases of each call agreed, by the number returned.
+pub struct Compare {
+    agreed: BTreeMap<&'static str, BTreeMap<u8, u64>>,
+    sources: [Fence; 2],
+    destination: Fence,
+}
+
+/// Room for every image.
+const PAGES: usize = 20;
+
+impl Default for Compare {
+    fn default() -> Compare {
+        Compare { agreed: BTreeMap::new(), sources: [Fence::new(PAGES), Fence::new(PAGES)], destination: Fence::new(PAGES) }
+    }
+}
+
+fn hex(bytes: &[u8]) -> String {
+    bytes.iter().map(|b| format!("{b:02X}")).collect::<Vec<_>>().join(" ")
+}
+
+fn told_written(answer: Written) -> Told {
+    match answer {
+        Ok((entries, bytes)) => (0, [entries as u64, bytes as u64, 0]),
+        Err(number) => (number, [0; 3]),
+    }
+}
+
+fn told_offered(answer: Offered) -> Told {
+    match answer {
+        Ok((offered, bytes, looks)) => (0, [offered as u64, bytes as u64, looks as u64]),
+        Err(number) => (number, [0; 3]),
+    }
+}
+
+fn told_found(answer: Result<Option<(usize, u32)>, u8>) -> Told {
+    match answer {
+        Ok(Some((position, score))) => (0, [1, position as u64, score as u64]),
+        Ok(None) => (0, [0; 3]),
+        Err(number) => (number, [0; 3]),
+    }
+}
+
+/// Counts one case, or reports the difference and ends.
+fn count(
+    agreed: &mut BTreeMap<&'static str, BTreeMap<u8, u64>>,
+    call: &'static str,
+    agrees: bool,
+    number: u8,
+    difference: impl FnOnce() -> String,
+) {
+    if !agrees {
+        panic!("{call}: a difference\n{}", difference());
+    }
+    *agreed.entry(call).or_default().entry(number).or_default() += 1;
+}
+
+impl Compare {
+    /// A call on sources and a destination, each lent with its end at a fence. `ours` is given them, `other` the destination.
+    fn writes(
+        &mut self,
+        call: &'static str,
+        sources: [&[u8]; 2],
+        numbers: &[usize],
+        dst: &[u8],
+        ours: impl FnOnce([&[u8]; 2], &mut [u8]) -> Told,
+        other: impl FnOnce(&mut [u8]) -> Told,
+    ) -> (Told, Vec<u8>) {
+        let [first, second] = &mut self.sources;
+        let told = ours([first.lend(sources[0]), second.lend(sources[1])], self.destination.lend(dst));
+        let mut wanted = dst.to_vec();
+        let expected = other(&mut wanted);
+        let left = self.destination.lent(dst.len());
+        let agrees = told == expected
+            && left == wanted
+            && self.destination.front_holds(dst.len())
+            && first.lent(sources[0].len()) == sources[0]
+            && second.lent(sources[1].len()) == sources[1];
+        let difference = || {
+            let (a, b) = (hex(sources[0]), hex(sources[1]));
+            let (lent, left, wanted) = (hex(dst), hex(left), hex(&wanted));
+            format!("sources\n{a}\n{b}\nnumbers {numbers:?}\ndestination {lent}\nours   {told:?} {left}\nsecond {expected:?} {wanted}")
+        };
+        count(&mut self.agreed, call, agrees, told.0, difference);
+        (told, wanted)
+    }
+
+    /// A call that has no destination.
+    fn reads(
+        &mut self,
+        call: &'static str,
+        sources: [&[u8]; 2],
+        numbers: &[usize],
+        ours: impl FnOnce([&[u8]; 2]) -> Told,
+        other: Told,
+    ) {
+        self.writes(call, sources, numbers, &[], |sources, _| ours(sources), |_| other);
+    }
+
+    pub fn empty(&mut self, dst: &[u8]) -> (Told, Vec<u8>) {
+        self.writes("empty", [&[], &[]], &[], dst, |_, d| calls::empty(d), |d| told_written(reference::empty(d)))
+    }
+
+    pub fn set(&mut self, book: &[u8], name: &[u8], score: u32, dst: &[u8]) -> (Told, Vec<u8>) {
+        let ours = |[book, name]: [&[u8]; 2], d: &mut [u8]| calls::set(book, name, score, d);
+        let other = |d: &mut [u8]| told_written(reference::set(book, name, score, d));
+        self.writes("set", [book, name], &[score as usize], dst, ours, other)
+    }
+
+    pub fn withdraw(&mut self, book: &[u8], name: &[u8], dst: &[u8]) -> (Told, Vec<u8>) {
+        let other = |d: &mut [u8]| told_written(reference::withdraw(book, name, d));
+        self.writes("withdraw", [book, name], &[], dst, |[book, name], d| calls::withdraw(book, name, d), other)
+    }
+
+    pub fn name_at(&mut self, book: &[u8], position: usize, dst: &[u8]) {
+        let other = |d: &mut [u8]| told_written(reference::name_at(book, position, d));
+        self.writes("name_at", [book, &[]], &[position], dst, |[book, _], d| calls::name_at(book, position, d), other);
+    }
+
+    pub fn name_of(&mut self, book: &[u8], name: &[u8], dst: &[u8]) {
+        let other = |d: &mut [u8]| told_written(reference::name_of(book, name, d));
+        self.writes("name_of", [book, name], &[], dst, |[book, name], d| calls::name_of(book, name, d), other);
+    }
+
+    pub fn build(&mut self, sheet: &[u8], dst: &[u8]) -> (Told, Vec<u8>) {
+        let other = |d: &mut [u8]| told_written(reference::build(sheet, d));
+        self.writes("build", [sheet, &[]], &[], dst, |[sheet, _], d| calls::build(sheet, d), other)
+    }
+
+    pub fn list(&mut self, book: &[u8], dst: &[u8]) -> (Told, Vec<u8>) {
+        let other = |d: &mut [u8]| told_written(reference::list(book, d));
+        self.writes("list", [book, &[]], &[], dst, |[book, _], d| calls::list(book, d), other)
+    }
+
+    pub fn find(&mut self, book: &[u8], name: &[u8]) {
+        let other = told_found(reference::find(book, name));
+        self.reads("find", [book, name], &[], |[book, name]| calls::find(book, name), other);
+    }
+
+    pub fn prefix_range(&mut self, book: &[u8], prefix: &[u8]) {
+        let other = told_written(reference::prefix_range(book, prefix));
+        self.reads("prefix_range", [book, prefix], &[], |[book, prefix]| calls::prefix_range(book, prefix), other);
+    }
+
+    pub fn head(&mut self, book: &[u8], bucket: usize) {
+        let other = told_written(reference::head(book, bucket));
+        self.reads("head", [book, &[]], &[bucket], |[book, _]| calls::head(book, bucket), other);
+    }
+
+    /// Completion from a book; the lent ranges are free after an answer and unchanged after a refusal.
+    #[cfg(feature = "complete")]
+    pub fn complete(&mut self, book: &[u8], prefix: &[u8], k: usize, dst: &[u8], ranges: usize) -> (Told, Vec<u8>) {
+        let before = calls::Range { first: 77, best: usize::MAX, score: 0x5A5A_5A5A, last: 3 };
+        let mut lent = vec![before; ranges + 2];
+        let other = |d: &mut [u8]| told_offered(reference::complete(book, prefix, k, d, ranges));
+        let ours = |[book, prefix]: [&[u8]; 2], d: &mut [u8]| calls::complete(book, prefix, k, d, &mut lent[1..=ranges]);
+        let answer = self.writes("complete", [book, prefix], &[k, ranges], dst, ours, other);
+        let same = |range: &calls::Range| *range == before;
+        assert!(same(&lent[0]) && same(&lent[ranges + 1]), "complete: a range that was not lent changed");
+        assert!(answer.0 .0 == 0 || lent.iter().all(same), "complete: a refusal changed a range");
+        answer
+    }
+
+    #[cfg(not(feature = "complete"))]
+    pub fn complete(&mut self, book: &[u8], prefix: &[u8], k: usize, dst: &[u8], ranges: usize) -> (Told, Vec<u8>) {
+        let mut wanted = dst.to_vec();
+        (told_offered(reference::complete(book, prefix, k, &mut wanted, ranges)), wanted)
+    }
+
+    #[cfg(feature = "write_trie")]
+    pub fn write_trie(&mut self, book: &[u8], dst: &[u8]) -> (Told, Vec<u8>) {
+        let other = |d: &mut [u8]| told_written(reference::write_trie(book, d));
+        self.writes("write_trie", [book, &[]], &[], dst, |[book, _], d| calls::write_trie(book, d), other)
+    }
+
+    #[cfg(not(feature = "write_trie"))]
+    pub fn write_trie(&mut self, book: &[u8], dst: &[u8]) -> (Told, Vec<u8>) {
+        let mut wanted = dst.to_vec();
+        (told_written(reference::write_trie(book, &mut wanted)), wanted)
+    }
+
+    #[cfg(feature = "complete_trie")]
+    pub fn complete_trie(&mut self, trie: &[u8], prefix: &[u8], k: usize, dst: &[u8]) -> (Told, Vec<u8>) {
+        let other = |d: &mut [u8]| told_offered(reference::complete_trie(trie, prefix, k, d));
+        let ours = |[trie, prefix]: [&[u8]; 2], d: &mut [u8]| calls::complete_trie(trie, prefix, k, d);
+        self.writes("complete_trie", [trie, prefix], &[k], dst, ours, other)
+    }
+
+    #[cfg(not(feature = "complete_trie"))]
+    pub fn complete_trie(&mut self, trie: &[u8], prefix: &[u8], k: usize, dst: &[u8]) -> (Told, Vec<u8>) {
+        let mut wanted = dst.to_vec();
+        (told_offered(reference::complete_trie(trie, prefix, k, &mut wanted)), wanted)
+    }
+
+    /// A key of the panel, which is then as the second implementation leaves it.
+    pub fn press(&mut self, book: &[u8], panel: &mut crate::reference::panel::Panel, key: u8) {
+        let before = panel.clone();
+        let answer = crate::reference::panel::press(book, panel, key);
+        #[cfg(feature = "press")]
+        {
+            let mut lent = before.clone();
+            let told = calls::press(self.sources[0].lend(book), &mut lent, key);
+            let expected = match answer {
+                Ok(rows) => (0, [rows as u64, 0, 0]),
+                Err(number) => (number, [0; 3]),
+            };
+            count(&mut self.agreed, "press", told == expected && lent == *panel, told.0, || {
+                format!(
+                    "book {}\npanel {before:?}\nkey {key:02X}\nours   {told:?} {lent:?}\nsecond {expected:?} {panel:?}",
+                    hex(book)
+                )
+            });
+        }
+        assert!(answer.is_ok() || *panel == before);
+    }
+
+    pub fn cases(&self) -> u64 {
+        self.agreed.values().flat_map(|by_number| by_number.values()).sum()
+    }
+
+    pub fn report(&self) {
+        for (call, by_number) in &self.agreed {
+            let all: u64 = by_number.values().sum();
+            let each: Vec<String> = by_number.iter().map(|(number, cases)| format!("{number}: {cases}")).collect();
+            println!("{call:<14} {all:>9} cases ({})", each.join(", "));
+        }
+    }
+}

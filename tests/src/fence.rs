@@ -1,0 +1,53 @@
+//! Lent buffers that end where memory ends: a call that reads or writes past one ends the test. (Linux on x86-64, as the static library.)
+use std::ffi::c_void;
+
+extern "C" {
+    fn mmap(at: *mut c_void, length: usize, protection: i32, flags: i32, file: i32, offset: i64) -> *mut c_void;
+    fn mprotect(at: *mut c_void, length: usize, protection: i32) -> i32;
+}
+
+const NO_ACCESS: i32 = 0;
+const READ_AND_WRITE: i32 = 3;
+const PRIVATE_AND_ANONYMOUS: i32 = 0x22;
+const PAGE: usize = 4096;
+const FRONT: usize = 64;
+const FRONT_BYTE: u8 = 0xA5;
+
+pub struct Fence {
+    memory: &'static mut [u8],
+}
+
+impl Fence {
+    /// Memory for buffers of up to so many pages less one, with a page behind it that cannot be touched.
+    pub fn new(pages: usize) -> Fence {
+        let length = pages * PAGE;
+        let memory = unsafe {
+            let start = mmap(std::ptr::null_mut(), length + PAGE, READ_AND_WRITE, PRIVATE_AND_ANONYMOUS, -1, 0);
+            assert_ne!(start as isize, -1, "no memory");
+            let start = start as *mut u8;
+            assert_eq!(mprotect(start.add(length).cast(), PAGE, NO_ACCESS), 0);
+            std::slice::from_raw_parts_mut(start, length)
+        };
+        Fence { memory }
+    }
+
+    /// The bytes, at the end of the memory.
+    pub fn lend(&mut self, bytes: &[u8]) -> &mut [u8] {
+        let start = self.memory.len() - bytes.len();
+        self.memory[start - FRONT..start].fill(FRONT_BYTE);
+        let lent = &mut self.memory[start..];
+        lent.copy_from_slice(bytes);
+        lent
+    }
+
+    /// What stands there now.
+    pub fn lent(&self, length: usize) -> &[u8] {
+        &self.memory[self.memory.len() - length..]
+    }
+
+    /// Whether the bytes in front of a buffer of this length are as they were.
+    pub fn front_holds(&self, length: usize) -> bool {
+        let start = self.memory.len() - length;
+        self.memory[start - FRONT..start].iter().all(|b| *b == FRONT_BYTE)
+    }
+}

@@ -1,0 +1,8 @@
+//! Tests of the label book through its C interface, against a second implementation of its document.
+pub mod calls;
+pub mod compare;
+pub mod fence;
+pub mod make;
+pub mod plain;
+pub mod random;
+pub mod reference;

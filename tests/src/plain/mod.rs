@@ -1,0 +1,461 @@
+//! The calls again, written straightforwardly in safe Rust over the image where it lies, with the same checks: what the benchmark compares
+//! the static library with. The comparison runs them too.
+mod panel;
+mod trie;
+
+pub use panel::press;
+pub use trie::{complete_trie, write_trie};
+
+use crate::reference::calls::{Offered, Written};
+use crate::reference::{is_name, is_prefix, LONGEST_NAME, MOST_ENTRIES, MOST_OFFERED};
+
+/// A book that was checked.
+#[derive(Clone, Copy)]
+struct Book<'a> {
+    image: &'a [u8],
+    n: usize,
+}
+
+fn u16_at(bytes: &[u8], at: usize) -> usize {
+    u16::from_be_bytes([bytes[at], bytes[at + 1]]) as usize
+}
+
+fn u32_at(bytes: &[u8], at: usize) -> u32 {
+    u32::from_be_bytes([bytes[at], bytes[at + 1], bytes[at + 2], bytes[at + 3]])
+}
+
+fn records_at(n: usize) -> usize {
+    7 + 4 * n + 2 * n.div_ceil(8) + 2 * n.div_ceil(16)
+}
+
+/// The count and the bytes of an image, by its first seven bytes.
+fn frame(version: u8, buffer: &[u8]) -> Option<(usize, &[u8])> {
+    if buffer.len() < 7 || buffer[0] != version {
+        return None;
+    }
+    let n = u16_at(buffer, 5);
+    if n > MOST_ENTRIES {
+        return None;
+    }
+    Some((n, buffer.get(..u32_at(buffer, 1) as usize)?))
+}
+
+/// A name as it is unpacked, record after record.
+#[derive(Clone, Copy)]
+struct Name {
+    bytes: [u8; LONGEST_NAME],
+    len: usize,
+}
+
+impl Name {
+    fn new() -> Name {
+        Name { bytes: [0; LONGEST_NAME], len: 0 }
+    }
+
+    fn get(&self) -> &[u8] {
+        &self.bytes[..self.len]
+    }
+
+    fn put(&mut self, kept: usize, rest: &[u8]) {
+        self.bytes[kept..kept + rest.len()].copy_from_slice(rest);
+        self.len = kept + rest.len();
+    }
+}
+
+fn allowed(bytes: &[u8]) -> bool {
+    bytes.iter().all(|b| (0x20..=0x7E).contains(b))
+}
+
+/// The book at the front of a buffer, checked in one pass over its records and one over its scores.
+fn check(buffer: &[u8]) -> Option<Book<'_>> {
+    let (n, image) = frame(0x21, buffer)?;
+    let mut at = records_at(n);
+    if at > image.len() {
+        return None;
+    }
+    let mut name = Name::new();
+    for i in 0..n {
+        let mut kept = 0;
+        if i % 8 == 0 {
+            if u16_at(image, 7 + 4 * n + i / 4) != at {
+                return None;
+            }
+        } else {
+            kept = *image.get(at)? as usize;
+            at += 1;
+        }
+        let added = *image.get(at)? as usize;
+        at += 1;
+        let rest = image.get(at..at + added)?;
+        at += added;
+        if added == 0 || kept > name.len || kept + added > LONGEST_NAME || !allowed(rest) {
+            return None;
+        }
+        let rises = if i % 8 == 0 { name.get() < rest } else { kept == name.len || name.bytes[kept] < rest[0] };
+        if !rises {
+            return None;
+        }
+        name.put(kept, rest);
+    }
+    let book = Book { image, n };
+    let peaks_hold =
+        (0..n).step_by(16).all(|first| u16_at(image, book.peaks_at() + first / 8) == book.best_of(first, n.min(first + 16)));
+    (at == image.len() && peaks_hold).then_some(book)
+}
+
+impl<'a> Book<'a> {
+    fn score(&self, i: usize) -> u32 {
+        u32_at(self.image, 7 + 4 * i)
+    }
+
+    fn peaks_at(&self) -> usize {
+        7 + 4 * self.n + 2 * self.n.div_ceil(8)
+    }
+
+    fn better(&self, a: usize, b: usize) -> usize {
+        if self.score(b) > self.score(a) {
+            b
+        } else {
+            a
+        }
+    }
+
+    /// The best position from first to end, by its scores.
+    fn best_of(&self, first: usize, end: usize) -> usize {
+        (first + 1..end).fold(first, |best, i| self.better(best, i))
+    }
+
+    /// The same, by peaks for whole blocks.
+    fn best_in(&self, first: usize, end: usize) -> usize {
+        let mut best = first;
+        let mut i = first;
+        while i < end {
+            if i.is_multiple_of(16) && i + 16 <= end {
+                best = self.better(best, u16_at(self.image, self.peaks_at() + i / 8));
+                i += 16;
+            } else {
+                best = self.better(best, i);
+                i += 1;
+            }
+        }
+        best
+    }
+
+    fn head_at(&self, bucket: usize) -> usize {
+        u16_at(self.image, 7 + 4 * self.n + 2 * bucket) + 1
+    }
+
+    fn head(&self, bucket: usize) -> &'a [u8] {
+        let start = self.head_at(bucket);
+        &self.image[start..start + self.image[start - 1] as usize]
+    }
+
+    /// Unpacks the record at a place; gives the place behind it.
+    fn unpack(&self, i: usize, mut at: usize, name: &mut Name) -> usize {
+        let mut kept = 0;
+        if !i.is_multiple_of(8) {
+            kept = self.image[at] as usize;
+            at += 1;
+        }
+        let added = self.image[at] as usize;
+        name.put(kept, &self.image[at + 1..at + 1 + added]);
+        at + 1 + added
+    }
+
+    fn name_at(&self, position: usize) -> Name {
+        let mut name = Name::new();
+        let first = position / 8 * 8;
+        let mut at = self.head_at(position / 8) - 1;
+        for i in first..=position {
+            at = self.unpack(i, at, &mut name);
+        }
+        name
+    }
+
+    /// How many names are before: those for which the test holds, which are the first ones.
+    fn place(&self, before: impl Fn(&[u8]) -> bool) -> usize {
+        let (mut low, mut high) = (0, self.n.div_ceil(8));
+        while low < high {
+            let mid = (low + high) / 2;
+            if before(self.head(mid)) {
+                low = mid + 1;
+            } else {
+                high = mid;
+            }
+        }
+        if low == 0 {
+            return 0;
+        }
+        let first = 8 * (low - 1);
+        let end = self.n.min(first + 8);
+        let mut name = Name::new();
+        let mut at = self.head_at(low - 1) - 1;
+        for i in first..end {
+            at = self.unpack(i, at, &mut name);
+            if !before(name.get()) {
+                return i;
+            }
+        }
+        end
+    }
+
+    /// The position of a name, or the gap that it would fill.
+    fn look_up(&self, name: &[u8]) -> Result<usize, usize> {
+        let i = self.place(|held| held < name);
+        if i < self.n && self.name_at(i).get() == name {
+            Ok(i)
+        } else {
+            Err(i)
+        }
+    }
+
+    fn range(&self, prefix: &[u8]) -> (usize, usize) {
+        let first = self.place(|held| held < prefix);
+        (first, self.place(|held| held < prefix || held.starts_with(prefix)))
+    }
+
+    /// Each entry of the book with one left out, or a new one put in, or both, at a place.
+    fn each_spliced(&self, place: usize, skip: bool, fresh: Option<(&[u8], u32)>, mut each: impl FnMut(&[u8], u32)) {
+        let mut name = Name::new();
+        let mut at = records_at(self.n);
+        for i in 0..self.n {
+            if i == place {
+                if let Some((name, score)) = fresh {
+                    each(name, score);
+                }
+            }
+            at = self.unpack(i, at, &mut name);
+            if !(skip && i == place) {
+                each(name.get(), self.score(i));
+            }
+        }
+        if place == self.n {
+            if let Some((name, score)) = fresh {
+                each(name, score);
+            }
+        }
+    }
+
+    fn splice(&self, place: usize, skip: bool, fresh: Option<(&[u8], u32)>, dst: &mut [u8]) -> Written {
+        let n = self.n + fresh.is_some() as usize - skip as usize;
+        write_book(n, dst, |each| self.each_spliced(place, skip, fresh, each))
+    }
+}
+
+/// Writes the book of n entries that `entries` goes through, measured first.
+fn write_book(n: usize, dst: &mut [u8], entries: impl Fn(&mut dyn FnMut(&[u8], u32))) -> Written {
+    let mut total = records_at(n);
+    let mut before = Name::new();
+    let mut i = 0;
+    entries(&mut |name, _| {
+        let kept = if i % 8 == 0 { 0 } else { common(before.get(), name) };
+        total += 1 + (i % 8 != 0) as usize + name.len() - kept;
+        before.put(0, name);
+        i += 1;
+    });
+    let dst = dst.get_mut(..total).ok_or(7)?;
+    header(0x21, total, n, dst);
+    let mut at = records_at(n);
+    let mut i = 0;
+    entries(&mut |name, score| {
+        dst[7 + 4 * i..11 + 4 * i].copy_from_slice(&score.to_be_bytes());
+        let mut kept = 0;
+        if i % 8 == 0 {
+            let offset = 7 + 4 * n + i / 4;
+            dst[offset..offset + 2].copy_from_slice(&(at as u16).to_be_bytes());
+        } else {
+            kept = common(before.get(), name);
+            dst[at] = kept as u8;
+            at += 1;
+        }
+        let rest = &name[kept..];
+        dst[at] = rest.len() as u8;
+        dst[at + 1..at + 1 + rest.len()].copy_from_slice(rest);
+        at += 1 + rest.len();
+        before.put(0, name);
+        i += 1;
+    });
+    for first in (0..n).step_by(16) {
+        let book = Book { image: dst, n };
+        let (best, peak) = (book.best_of(first, n.min(first + 16)), book.peaks_at() + first / 8);
+        dst[peak..peak + 2].copy_from_slice(&(best as u16).to_be_bytes());
+    }
+    Ok((n, total))
+}
+
+fn common(a: &[u8], b: &[u8]) -> usize {
+    a.iter().zip(b).take_while(|(x, y)| x == y).count()
+}
+
+fn header(version: u8, total: usize, n: usize, dst: &mut [u8]) {
+    dst[0] = version;
+    dst[1..5].copy_from_slice(&(total as u32).to_be_bytes());
+    dst[5..7].copy_from_slice(&(n as u16).to_be_bytes());
+}
+
+fn put_entry(name: &[u8], score: u32, dst: &mut [u8]) -> Written {
+    let bytes = name.len() + 5;
+    let dst = dst.get_mut(..bytes).ok_or(7)?;
+    dst[0] = name.len() as u8;
+    dst[1..bytes - 4].copy_from_slice(name);
+    dst[bytes - 4..].copy_from_slice(&score.to_be_bytes());
+    Ok((1, bytes))
+}
+
+pub fn empty(dst: &mut [u8]) -> Written {
+    write_book(0, dst, |_| {})
+}
+
+pub fn set(book: &[u8], name: &[u8], score: u32, dst: &mut [u8]) -> Written {
+    let book = check(book).ok_or(1)?;
+    if !is_name(name) {
+        return Err(2);
+    }
+    match book.look_up(name) {
+        Ok(i) => book.splice(i, true, Some((name, score)), dst),
+        Err(_) if book.n == MOST_ENTRIES => Err(5),
+        Err(i) => book.splice(i, false, Some((name, score)), dst),
+    }
+}
+
+pub fn withdraw(book: &[u8], name: &[u8], dst: &mut [u8]) -> Written {
+    let book = check(book).ok_or(1)?;
+    if !is_name(name) {
+        return Err(2);
+    }
+    let i = book.look_up(name).map_err(|_| 4)?;
+    book.splice(i, true, None, dst)
+}
+
+pub fn find(book: &[u8], name: &[u8]) -> Result<Option<(usize, u32)>, u8> {
+    let book = check(book).ok_or(1)?;
+    if !is_name(name) {
+        return Err(2);
+    }
+    Ok(book.look_up(name).ok().map(|i| (i, book.score(i))))
+}
+
+pub fn name_at(book: &[u8], position: usize, dst: &mut [u8]) -> Written {
+    let book = check(book).ok_or(1)?;
+    if position >= book.n {
+        return Err(6);
+    }
+    put_entry(book.name_at(position).get(), book.score(position), dst)
+}
+
+pub fn name_of(book: &[u8], name: &[u8], dst: &mut [u8]) -> Written {
+    let (_, score) = find(book, name)?.ok_or(4)?;
+    put_entry(name, score, dst)
+}
+
+pub fn prefix_range(book: &[u8], prefix: &[u8]) -> Result<(usize, usize), u8> {
+    let book = check(book).ok_or(1)?;
+    if !is_prefix(prefix) {
+        return Err(2);
+    }
+    let (first, end) = book.range(prefix);
+    Ok(if first < end { (first, end - first) } else { (0, 0) })
+}
+
+pub fn head(book: &[u8], bucket: usize) -> Result<(usize, usize), u8> {
+    let book = check(book).ok_or(1)?;
+    if bucket >= book.n.div_ceil(8) {
+        return Err(6);
+    }
+    Ok((book.head_at(bucket), book.head(bucket).len()))
+}
+
+/// An open range: its first position, its best, its end.
+#[derive(Clone, Copy)]
+struct Open {
+    first: usize,
+    best: usize,
+    end: usize,
+}
+
+pub fn complete(book: &[u8], prefix: &[u8], k: usize, dst: &mut [u8], ranges: usize) -> Offered {
+    let book = check(book).ok_or(1)?;
+    if !is_prefix(prefix) {
+        return Err(2);
+    }
+    if !(1..=MOST_OFFERED).contains(&k) {
+        return Err(3);
+    }
+    if dst.len() < 53 * k || ranges < k {
+        return Err(7);
+    }
+    let mut open = [Open { first: 0, best: 0, end: 0 }; MOST_OFFERED + 1];
+    let (mut waiting, mut looks, mut offered, mut bytes) = (0, 0, 0, 0);
+    let (first, end) = book.range(prefix);
+    let mut parts = [(first, end), (0, 0)];
+    loop {
+        for (first, end) in parts {
+            if first < end {
+                open[waiting] = Open { first, best: book.best_in(first, end), end };
+                waiting += 1;
+                looks += 1;
+            }
+        }
+        let Some(at) = (0..waiting).min_by_key(|&i| (std::cmp::Reverse(book.score(open[i].best)), open[i].best)) else {
+            break;
+        };
+        let range = open[at];
+        let name = book.name_at(range.best);
+        bytes += put_entry(name.get(), book.score(range.best), &mut dst[bytes..])?.1;
+        offered += 1;
+        if offered == k {
+            break;
+        }
+        waiting -= 1;
+        open[at] = open[waiting];
+        parts = [(range.first, range.best), (range.best + 1, range.end)];
+    }
+    Ok((offered, bytes, looks))
+}
+
+/// The entries of a sheet that was checked.
+fn each_listed(image: &[u8], n: usize, each: &mut dyn FnMut(&[u8], u32)) {
+    let mut at = 7;
+    for _ in 0..n {
+        let end = at + 1 + image[at] as usize;
+        each(&image[at + 1..end], u32_at(image, end));
+        at = end + 4;
+    }
+}
+
+fn check_sheet(buffer: &[u8]) -> Option<(usize, &[u8])> {
+    let (n, image) = frame(0x11, buffer)?;
+    let mut at = 7;
+    let mut before: &[u8] = &[];
+    for _ in 0..n {
+        let length = *image.get(at)? as usize;
+        let name = image.get(at + 1..at + 1 + length)?;
+        if !is_name(name) || name <= before {
+            return None;
+        }
+        before = name;
+        at += 5 + length;
+    }
+    (at == image.len()).then_some((n, image))
+}
+
+pub fn build(sheet: &[u8], dst: &mut [u8]) -> Written {
+    let (n, image) = check_sheet(sheet).ok_or(1)?;
+    write_book(n, dst, |each| each_listed(image, n, each))
+}
+
+pub fn list(book: &[u8], dst: &mut [u8]) -> Written {
+    let book = check(book).ok_or(1)?;
+    let mut total = 7;
+    book.each_spliced(book.n, false, None, |name, _| total += 5 + name.len());
+    let dst = dst.get_mut(..total).ok_or(7)?;
+    header(0x11, total, book.n, dst);
+    let mut at = 7;
+    book.each_spliced(book.n, false, None, |name, score| {
+        dst[at] = name.len() as u8;
+        dst[at + 1..at + 1 + name.len()].copy_from_slice(name);
+        dst[at + 1 + name.len()..at + 5 + name.len()].copy_from_slice(&score.to_be_bytes());
+        at += 5 + name.len();
+    });
+    Ok((book.n, total))
+}

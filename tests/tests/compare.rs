@@ -1,0 +1,351 @@
+//! Random and hostile inputs through the C interface, compared with the second implementation. Seeded and bounded: the same cases in
+//! every run. `LONG=1` runs many more rounds, each with another seed.
+use label_book_tests::compare::Compare;
+use label_book_tests::make::{self, Names, Scores, NAMES, SCORES};
+use label_book_tests::random::Random;
+use label_book_tests::reference::panel::Panel;
+use label_book_tests::reference::{book, calls, ledger::Ledger, sheet, trie, Entries};
+
+/// Longer than every image.
+const LONG_BUFFER: usize = 70_000;
+
+const SIZES: [usize; 16] = [0, 1, 2, 7, 8, 9, 15, 16, 17, 31, 32, 33, 127, 129, 1023, 1024];
+
+/// A destination for the bytes that a call needs: one short, exact, one long or any other length.
+fn destination(random: &mut Random, needed: usize) -> Vec<u8> {
+    let length = make::room(random, needed);
+    random.bytes(length)
+}
+
+/// The bytes that a call of the second implementation writes, 0 where it refuses.
+fn needed(call: impl FnOnce(&mut [u8]) -> calls::Written) -> usize {
+    call(&mut vec![0; LONG_BUFFER]).map_or(0, |(_, bytes)| bytes)
+}
+
+/// Every call that reads a book, once, on a buffer that may hold one.
+fn ask(compare: &mut Compare, random: &mut Random, buffer: &[u8], held: &Entries) {
+    let n = held.len();
+    let name = make::asked(random, held);
+    let score = make::score(random, Scores::Any);
+    let dst = destination(random, needed(|d| calls::set(buffer, &name, score, d)));
+    compare.set(buffer, &name, score, &dst);
+    let dst = destination(random, needed(|d| calls::withdraw(buffer, &name, d)));
+    compare.withdraw(buffer, &name, &dst);
+    compare.find(buffer, &name);
+    compare.prefix_range(buffer, &name);
+    let dst = destination(random, name.len() + 5);
+    compare.name_of(buffer, &name, &dst);
+    let position = make::number(random, n);
+    let dst = destination(random, needed(|d| calls::name_at(buffer, position, d)));
+    compare.name_at(buffer, position, &dst);
+    compare.head(buffer, make::number(random, n.div_ceil(8)));
+    complete(compare, random, buffer, &name);
+}
+
+fn complete(compare: &mut Compare, random: &mut Random, buffer: &[u8], prefix: &[u8]) {
+    let k = make::count(random);
+    let dst = destination(random, 53 * k.min(20));
+    let ranges = match random.below(3) {
+        0 => k.min(20).saturating_sub(1),
+        1 => k.min(20),
+        _ => 20,
+    };
+    compare.complete(buffer, prefix, k, &dst, ranges);
+}
+
+/// The calls that convert a whole book, and completion from its trie.
+fn convert(compare: &mut Compare, random: &mut Random, buffer: &[u8], held: &Entries) {
+    let dst = destination(random, sheet::image(held).len());
+    compare.list(buffer, &dst);
+    let image = trie::image(held);
+    let dst = destination(random, image.len());
+    compare.write_trie(buffer, &dst);
+}
+
+fn ask_trie(compare: &mut Compare, random: &mut Random, buffer: &[u8], held: &Entries) {
+    let prefix = make::asked(random, held);
+    let k = make::count(random);
+    let dst = destination(random, 53 * k.min(20));
+    compare.complete_trie(buffer, &prefix, k, &dst);
+}
+
+/// Books of every size, with names and scores of every kind: each call on them, with bytes behind the image and without.
+fn sizes(compare: &mut Compare, random: &mut Random, rounds: usize) {
+    for n in SIZES {
+        for names in NAMES {
+            for scores in SCORES {
+                let held = make::entries(random, n, names, scores);
+                let page = sheet::image(&held);
+                let image = book::image(&held);
+                let dst = destination(random, image.len());
+                compare.build(&page, &dst);
+                let (told, dst) = compare.build(&page, &vec![0xEE; image.len()]);
+                assert_eq!((told.0, &dst), (0, &image));
+                let mut buffer = image.clone();
+                let trie_image = trie::image(&held);
+                for round in 0..rounds.min(1 + 8000 / (n + 1)) {
+                    if round == 1 {
+                        buffer.extend(random.bytes(9));
+                    }
+                    ask(compare, random, &buffer, &held);
+                    ask_trie(compare, random, &trie_image, &held);
+                }
+                convert(compare, random, &buffer, &held);
+                let dst = random.bytes(20);
+                compare.empty(&dst[..random.below(20)]);
+            }
+        }
+    }
+}
+
+/// Images cut at every place, and with every byte changed.
+fn every_place(compare: &mut Compare, random: &mut Random, values: usize) {
+    for n in [0, 1, 2, 4, 8, 9, 16, 17] {
+        let names = random.pick(&NAMES);
+        let held = make::entries(random, n, names, Scores::Few);
+        for image in [book::image(&held), sheet::image(&held), trie::image(&held)] {
+            for at in 0..image.len() {
+                any_image(compare, random, &image[..at], &held);
+                for _ in 0..values {
+                    let mut bytes = image.clone();
+                    bytes[at] = random.byte();
+                    any_image(compare, random, &bytes, &held);
+                }
+                for step in [1, 255, 8, 16, 64, 128] {
+                    let mut bytes = image.clone();
+                    bytes[at] = bytes[at].wrapping_add(step);
+                    any_image(compare, random, &bytes, &held);
+                }
+            }
+        }
+    }
+}
+
+/// One of the calls on a buffer that may hold an image of any kind.
+fn any_image(compare: &mut Compare, random: &mut Random, buffer: &[u8], held: &Entries) {
+    let name = make::some_name(random, held);
+    let dst = vec![0x33; 2000];
+    match buffer.first() {
+        Some(0x11) => {
+            compare.build(buffer, &dst);
+        }
+        Some(0x31) => {
+            compare.complete_trie(buffer, &name[..random.below(name.len() + 1)], 16, &dst);
+        }
+        _ => match random.below(9) {
+            0 => {
+                compare.set(buffer, &name, 5, &dst);
+            }
+            1 => {
+                compare.withdraw(buffer, &name, &dst);
+            }
+            2 => compare.find(buffer, &name),
+            3 => compare.name_at(buffer, random.below(held.len()), &dst),
+            4 => compare.name_of(buffer, &name, &dst),
+            5 => compare.prefix_range(buffer, &name[..random.below(name.len() + 1)]),
+            6 => compare.head(buffer, 0),
+            7 => {
+                compare.list(buffer, &dst);
+            }
+            _ => {
+                compare.complete(buffer, b"", 16, &dst, 16);
+                compare.write_trie(buffer, &dst);
+            }
+        },
+    }
+}
+
+/// Images of every size with one or two changes.
+fn damage(compare: &mut Compare, random: &mut Random, rounds: usize) {
+    for _ in 0..rounds {
+        let n = if random.chance(30) { random.pick(&[127, 1023, 1024]) } else { random.below(40) };
+        let (names, scores) = (random.pick(&NAMES), random.pick(&SCORES));
+        let held = make::entries(random, n, names, scores);
+        let images = [book::image(&held), sheet::image(&held), trie::image(&held)];
+        for image in &images {
+            for _ in 0..12 {
+                let mut bytes = make::damaged(random, image);
+                if bytes.len() >= 7 && random.chance(4) {
+                    bytes = make::damaged(random, &bytes);
+                }
+                any_image(compare, random, &bytes, &held);
+            }
+        }
+    }
+}
+
+/// Buffers of any bytes, with a front that looks like an image's.
+fn noise(compare: &mut Compare, random: &mut Random, rounds: usize) {
+    for _ in 0..rounds {
+        let length = random.below(80);
+        let mut bytes = random.bytes(length);
+        if bytes.len() >= 7 && !random.chance(10) {
+            let total = if random.chance(3) { random.below(90) } else { length } as u32;
+            bytes[0] = random.pick(&[0x21, 0x11, 0x31]);
+            bytes[1..5].copy_from_slice(&total.to_be_bytes());
+            bytes[5] = 0;
+            bytes[6] = random.below(4) as u8;
+            for byte in &mut bytes[7..] {
+                *byte = random.pick(&[0, 0, 1, 2, 8, 9, 0x19, 0x41, 0x4A, 0x61, *byte]);
+            }
+        }
+        any_image(compare, random, &bytes, &Entries::new());
+    }
+}
+
+/// A history on two buffers of the same length, against the ledger; refusals included.
+fn history(compare: &mut Compare, random: &mut Random, buffer: usize, steps: usize, names: Names) {
+    let (told, mut current) = compare.empty(&random.bytes(buffer));
+    assert_eq!(told.0 == 7, buffer < 7);
+    if buffer < 7 {
+        return;
+    }
+    let scores = random.pick(&SCORES);
+    let mut ledger = Ledger::new(buffer);
+    let mut other = random.bytes(buffer);
+    for _ in 0..steps {
+        let held = &ledger.held;
+        let name = if random.chance(2) { make::name(random, names, held) } else { make::asked(random, held) };
+        let score = make::score(random, scores);
+        let withdrawn = random.chance(3);
+        let (answer, (told, left)) = if withdrawn {
+            (ledger.withdraw(&name), compare.withdraw(&current, &name, &other))
+        } else {
+            (ledger.set(&name, score), compare.set(&current, &name, score, &other))
+        };
+        other = left;
+        match answer {
+            Ok((entries, bytes)) => {
+                assert_eq!(told, (0, [entries as u64, bytes as u64, 0]), "the ledger's answer");
+                std::mem::swap(&mut current, &mut other);
+            }
+            Err(number) => assert_eq!(told, (number, [0; 3]), "the ledger's refusal"),
+        }
+        assert!(current.starts_with(&book::image(&ledger.held)), "the ledger's image");
+    }
+    lists(compare, random, &current, &ledger.held);
+}
+
+/// The lists that a book and its trie offer are the same.
+fn lists(compare: &mut Compare, random: &mut Random, book: &[u8], held: &Entries) {
+    let (told, trie) = compare.write_trie(book, &vec![0; LONG_BUFFER]);
+    assert_eq!(told.0, 0);
+    for _ in 0..4 {
+        let name = make::some_name(random, held);
+        let prefix = &name[..random.below(name.len() + 1)];
+        let k = random.between(1, 16);
+        let dst = vec![0; 53 * k];
+        let (a, from_book) = compare.complete(book, prefix, k, &dst, k);
+        let (b, from_trie) = compare.complete_trie(&trie, prefix, k, &dst);
+        assert_eq!((a.0, &a.1[..2], from_book), (b.0, &b.1[..2], from_trie), "book and trie");
+    }
+}
+
+/// Panels: keys one after the other, the book changing between them; and states that nobody typed.
+fn panels(compare: &mut Compare, random: &mut Random, rounds: usize) {
+    for _ in 0..rounds {
+        let n = random.below(30);
+        let (names, scores) = (random.pick(&NAMES), random.pick(&SCORES));
+        let mut held = make::entries(random, n, names, scores);
+        let mut panel = Panel { text: random.bytes(48).try_into().unwrap(), len: 0, highlight: random.below(9), rows: 1 };
+        for _ in 0..40 {
+            match random.below(12) {
+                0 => {
+                    let gone = make::some_name(random, &held);
+                    held.remove(&gone);
+                }
+                1 => {
+                    let typed = make::asked(random, &held);
+                    panel.len = make::number(random, 48);
+                    panel.highlight = make::number(random, 5);
+                    panel.rows = make::number(random, 5);
+                    let end = typed.len().min(48);
+                    panel.text[..end].copy_from_slice(&typed[..end]);
+                }
+                _ => {}
+            }
+            let mut image = book::image(&held);
+            if random.chance(50) {
+                image = make::damaged(random, &image);
+            }
+            let key = match random.below(6) {
+                0 => random.byte(),
+                1 => random.pick(&[0x00, 0x01, 0x02, 0x02, 0x08, 0x0D, 0x1F, 0x7F, 0x80]),
+                2 => random.pick(&[0x02, 0x0D, 0x08]),
+                _ => {
+                    let name = make::some_name(random, &held);
+                    name.get(panel.len).copied().unwrap_or(b'a')
+                }
+            };
+            compare.press(&image, &mut panel, key);
+        }
+    }
+}
+
+fn bytes(hex: &str) -> Vec<u8> {
+    hex.split_whitespace().map(|b| u8::from_str_radix(b, 16).unwrap()).collect()
+}
+
+/// The cases that the document works out, made by the calls themselves.
+fn worked(compare: &mut Compare) {
+    let (told, mut book) = compare.empty(&[0xEE; 200]);
+    assert_eq!((told, &book[..7]), ((0, [0, 7, 0]), &bytes("21 00 00 00 07 00 00")[..]));
+    for (name, score) in [("rc step", 9), ("rl", 12), ("ac", 5), ("rc", 9)] {
+        book = compare.set(&book, name.as_bytes(), score, &[0xEE; 200]).1;
+    }
+    let p3 = "21 00 00 00 2C 00 04 00 00 00 05 00 00 00 09 00 00 00 09 00 00 00 0C 00 1B 00 03 02 61 63 00 02 72 63 02 05 20 73 74 65 70 01 01 6C";
+    assert_eq!(book[..44], bytes(p3));
+    let (told, trie) = compare.write_trie(&book, &[0xEE; 28]);
+    assert_eq!(told, (0, [4, 28, 0]));
+    assert_eq!(trie, bytes("31 00 00 00 1C 00 04 51 0C 08 72 4A 07 61 63 01 6C 59 03 06 63 00 0D 20 73 74 65 70"));
+    for (prefix, k, offered, looks) in [("r", 2, 2, 2), ("rc", 5, 2, 2), ("q", 3, 0, 0)] {
+        let (told, list) = compare.complete(&book, prefix.as_bytes(), k, &vec![0; 53 * k], k);
+        assert_eq!((told.0, told.1[0], told.1[2]), (0, offered, looks));
+        let (told, same) = compare.complete_trie(&trie, prefix.as_bytes(), k, &vec![0; 53 * k]);
+        assert_eq!((told.0, told.1[0], told.1[2], same), (0, offered, 0, list));
+    }
+    let three: Entries = [(b"a".to_vec(), 1), (b"b".to_vec(), 9), (b"c".to_vec(), 1)].into();
+    assert_eq!(compare.complete(&book::image(&three), b"", 2, &[0; 106], 2).0 .1[2], 3);
+    let mut ten: Entries = (b'1'..=b'8').map(|digit| (vec![digit], 0)).collect();
+    ten.insert(vec![b'x'; 47], 0);
+    ten.insert(vec![b'x'; 48], 0);
+    let book = book::image(&ten);
+    assert_eq!(book.len(), 127);
+    assert_eq!(compare.withdraw(&book, b"1", &[0; 130]).0, (7, [0; 3]));
+    assert_eq!(compare.withdraw(&book, b"1", &[0; 167]).0, (0, [9, 167, 0]));
+    assert_eq!(compare.set(&book, &[b'y'; 48], 1, &[0; 400]).0 .0, 0);
+    assert_eq!(compare.set(&book, &[b'y'; 49], 1, &[0; 400]).0 .0, 2);
+}
+
+/// One round of everything.
+fn round(compare: &mut Compare, seed: u64) {
+    let mut random = Random::new(seed);
+    worked(compare);
+    sizes(compare, &mut random, 40);
+    every_place(compare, &mut random, 6);
+    damage(compare, &mut random, 600);
+    noise(compare, &mut random, 40_000);
+    for buffer in 0..12 {
+        history(compare, &mut random, buffer, 20, Names::Short);
+    }
+    for _ in 0..120 {
+        let (buffer, names) = (random.between(7, 900), random.pick(&NAMES));
+        history(compare, &mut random, buffer, 150, names);
+    }
+    for names in [Names::Mixed, Names::Any] {
+        history(compare, &mut random, 57_344, 1800, names);
+    }
+    panels(compare, &mut random, 150);
+}
+
+fn main() {
+    let rounds = if std::env::var_os("LONG").is_some() { 500 } else { 1 };
+    let seed = std::env::var("SEED").map_or(1, |seed| seed.parse().expect("SEED is a number"));
+    let mut compare = Compare::default();
+    for i in 0..rounds {
+        round(&mut compare, seed + i);
+        println!("seed {}: {} cases agree so far", seed + i, compare.cases());
+    }
+    compare.report();
+    println!("{} cases, all agree", compare.cases());
+}

@@ -1,0 +1,76 @@
+//! The calls that the benchmark compares with answer as the second implementation does.
+use label_book_tests::make::{self, Scores, NAMES, SCORES};
+use label_book_tests::random::Random;
+use label_book_tests::reference::panel::Panel;
+use label_book_tests::reference::{book, calls, sheet, trie, Entries};
+use label_book_tests::{plain, reference};
+
+/// Both calls on destinations with the same bytes: the same answer, the same bytes left.
+fn same<A: PartialEq + std::fmt::Debug>(dst: &[u8], one: impl FnOnce(&mut [u8]) -> A, other: impl FnOnce(&mut [u8]) -> A) {
+    let (mut a, mut b) = (dst.to_vec(), dst.to_vec());
+    assert_eq!((one(&mut a), &a), (other(&mut b), &b));
+}
+
+fn ask(random: &mut Random, buffer: &[u8], page: &[u8], held: &Entries) {
+    let name = make::asked(random, held);
+    let prefix = &name[..random.below(name.len() + 1)];
+    let (position, bucket, k) = (make::number(random, held.len()), make::number(random, 3), make::count(random));
+    let whole = random.bytes(70_000);
+    let dst = &whole[..make::room(random, book::image(held).len())];
+    let short = &whole[..make::room(random, 53)];
+    let answer = &whole[..make::room(random, 53 * k.min(17))];
+    same(dst, plain::empty, calls::empty);
+    same(dst, |d| plain::set(buffer, &name, 9, d), |d| calls::set(buffer, &name, 9, d));
+    same(dst, |d| plain::withdraw(buffer, &name, d), |d| calls::withdraw(buffer, &name, d));
+    same(dst, |d| plain::list(buffer, d), |d| calls::list(buffer, d));
+    same(dst, |d| plain::build(page, d), |d| calls::build(page, d));
+    same(short, |d| plain::name_at(buffer, position, d), |d| calls::name_at(buffer, position, d));
+    same(short, |d| plain::name_of(buffer, &name, d), |d| calls::name_of(buffer, &name, d));
+    same(answer, |d| plain::complete(buffer, prefix, k, d, 15), |d| calls::complete(buffer, prefix, k, d, 15));
+    same(&whole, |d| plain::write_trie(buffer, d), |d| calls::write_trie(buffer, d));
+    let mut panel = Panel { text: [b'a'; 48], len: make::number(random, 48), highlight: make::number(random, 5), rows: 9 };
+    let typed = prefix.len().min(48);
+    panel.text[..typed].copy_from_slice(&prefix[..typed]);
+    if random.chance(2) {
+        panel.len = typed;
+    }
+    let key = if random.chance(2) { random.byte() } else { random.pick(&[0, 1, 2, 8, 0x0D, b'a', b'x']) };
+    let mut other = panel.clone();
+    assert_eq!((plain::press(buffer, &mut panel, key), &panel), (reference::panel::press(buffer, &mut other, key), &other));
+    assert_eq!(plain::find(buffer, &name), calls::find(buffer, &name));
+    assert_eq!(plain::prefix_range(buffer, prefix), calls::prefix_range(buffer, prefix));
+    assert_eq!(plain::head(buffer, bucket), calls::head(buffer, bucket));
+}
+
+/// Tries of all kinds of damage, and prefixes of every kind.
+fn ask_trie(random: &mut Random, image: &[u8], held: &Entries) {
+    for _ in 0..30 {
+        let name = make::asked(random, held);
+        let (prefix, k) = (&name[..random.below(name.len() + 1)], make::count(random));
+        let dst = random.bytes(53 * k.min(17));
+        let buffer = if random.chance(3) { image.to_vec() } else { make::damaged(random, image) };
+        same(&dst, |d| plain::complete_trie(&buffer, prefix, k, d), |d| calls::complete_trie(&buffer, prefix, k, d));
+    }
+}
+
+#[test]
+fn plain_calls_agree() {
+    let mut random = Random::new(7);
+    for n in [0, 1, 7, 8, 9, 16, 17, 40, 150] {
+        for names in NAMES {
+            for scores in SCORES {
+                let held = make::entries(&mut random, n, names, scores);
+                let (image, page) = (book::image(&held), sheet::image(&held));
+                ask_trie(&mut random, &trie::image(&held), &held);
+                for _ in 0..8 {
+                    ask(&mut random, &image, &page, &held);
+                    let (buffer, paper) = (make::damaged(&mut random, &image), make::damaged(&mut random, &page));
+                    ask(&mut random, &buffer, &paper, &held);
+                }
+            }
+        }
+    }
+    let full = make::entries(&mut random, reference::MOST_ENTRIES, NAMES[5], Scores::Any);
+    ask(&mut random, &book::image(&full), &sheet::image(&full), &full);
+    ask_trie(&mut random, &trie::image(&full), &full);
+}

@@ -1,0 +1,97 @@
+//! The program on random and hostile input, compared with the second implementation: every byte that it prints. Seeded and bounded.
+use label_book_tests::make::{self, Names, NAMES};
+use label_book_tests::random::Random;
+use label_book_tests::reference::{program, Entries};
+use std::io::Write;
+use std::process::{Command, Stdio};
+
+/// What the program prints.
+fn printed(input: &[u8]) -> Vec<u8> {
+    let path = concat!(env!("CARGO_MANIFEST_DIR"), "/../target/bin/labels");
+    let mut child = Command::new(path).stdin(Stdio::piped()).stdout(Stdio::piped()).spawn().expect("target/bin/labels runs");
+    let mut stdin = child.stdin.take().unwrap();
+    let lent = input.to_vec();
+    // The pipes are small: the input goes in while the output comes out. A program that ends early leaves some of it.
+    let writer = std::thread::spawn(move || stdin.write_all(&lent).ok());
+    let output = child.wait_with_output().expect("the program ends");
+    writer.join().unwrap();
+    assert!(output.status.success());
+    output.stdout
+}
+
+fn number(random: &mut Random) -> Vec<u8> {
+    let value = match random.below(6) {
+        0 => random.pick(&[0, 1, 4_294_967_295, 4_294_967_296, 9_999_999_999, 10_000_000_000]),
+        1 => random.any() >> 31,
+        _ => random.below(20) as u64,
+    };
+    match random.below(8) {
+        0 => format!("{value:010}").into_bytes(),
+        1 => format!("{value:011}").into_bytes(),
+        2 => random.pick(&[b"".to_vec(), b"-1".to_vec(), b"+1".to_vec(), b" 1".to_vec(), b"1a".to_vec(), b"0x1".to_vec()]),
+        _ => value.to_string().into_bytes(),
+    }
+}
+
+/// A line, well formed or almost.
+fn line(random: &mut Random, names: Names, held: &mut Entries) -> Vec<u8> {
+    let name = if random.chance(2) { make::name(random, names, held) } else { make::asked(random, held) };
+    let mut line = match random.below(8) {
+        0..=3 => {
+            held.insert(name.clone(), 0);
+            [b"set ".to_vec(), number(random), b" ".to_vec(), name].concat()
+        }
+        4 | 5 => [b"top ".to_vec(), number(random), b" ".to_vec(), name[..random.below(name.len() + 1)].to_vec()].concat(),
+        6 => [b"del ".to_vec(), name].concat(),
+        _ => random.pick(&[
+            b"".to_vec(),
+            b"set".to_vec(),
+            b"top 2".to_vec(),
+            b"top 2 ".to_vec(),
+            b"del".to_vec(),
+            b"Set 1 a".to_vec(),
+        ]),
+    };
+    if random.chance(12) && !line.is_empty() {
+        let at = random.below(line.len());
+        line[at] = random.byte();
+    }
+    if random.chance(60) {
+        let more = random.pick(&[1, 60, 64, 65, 66, 300, 5000, 70_000]);
+        line.resize(line.len() + more, b'x');
+    }
+    line
+}
+
+fn script(random: &mut Random, lines: usize) -> Vec<u8> {
+    let names = random.pick(&NAMES);
+    let mut held = Entries::new();
+    let mut all: Vec<Vec<u8>> = (0..lines).map(|_| line(random, names, &mut held)).collect();
+    if random.chance(2) {
+        all.push(Vec::new());
+    }
+    all.join(&b'\n')
+}
+
+fn main() {
+    let rounds = if std::env::var_os("LONG").is_some() { 20_000 } else { 200 };
+    let mut random = Random::new(std::env::var("SEED").map_or(1, |seed| seed.parse().expect("SEED is a number")));
+    let full: Vec<u8> = (0..1030).flat_map(|i| format!("set {i} name {i}\n").into_bytes()).collect();
+    let mut inputs = vec![b"".to_vec(), b"\n".to_vec(), b"\n\n".to_vec(), b"set 5 ac".to_vec(), full, vec![b'x'; 200_000]];
+    for _ in 0..rounds {
+        let lines = random.below(120);
+        inputs.push(script(&mut random, lines));
+        let noise = random.below(300);
+        inputs.push(random.bytes(noise));
+    }
+    let mut lines = 0;
+    for input in &inputs {
+        let (ours, second) = (printed(input), program::run(input));
+        if ours != second {
+            let (input, ours, second) = (input.escape_ascii(), ours.escape_ascii(), second.escape_ascii());
+            panic!("labels: a difference\ninput  {input}\nours   {ours}\nsecond {second}");
+        }
+        lines += input.split(|b| *b == b'\n').count();
+    }
+    println!("labels: {} inputs of {lines} lines in all, all agree", inputs.len());
+}
