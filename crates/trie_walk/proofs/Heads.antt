@@ -55,12 +55,13 @@ record Said (c : ℕ) : Type 0 where
   size : Size (sizeAt c)
   code : codeOf (sizeAt c) ≡ c
   most : sizeAt c ≤ 4
+  four : sizeAt c ≡ 3 → ⊥
 
 said : (c : ℕ) → c < 4 → Said c
-said zero h = record { size = record { back = refl; small = omega arith }; code = refl; most = omega arith }
-said (suc zero) h = record { size = record { back = refl; small = omega arith }; code = refl; most = omega arith }
-said (suc (suc zero)) h = record { size = record { back = refl; small = omega arith }; code = refl; most = omega arith }
-said (suc (suc (suc zero))) h = record { size = record { back = refl; small = omega arith }; code = refl; most = omega arith }
+said zero h = record { size = record { back = refl; small = omega arith }; code = refl; most = omega arith; four = λ q. omega arith }
+said (suc zero) h = record { size = record { back = refl; small = omega arith }; code = refl; most = omega arith; four = λ q. omega arith }
+said (suc (suc zero)) h = record { size = record { back = refl; small = omega arith }; code = refl; most = omega arith; four = λ q. omega arith }
+said (suc (suc (suc zero))) h = record { size = record { back = refl; small = omega arith }; code = refl; most = omega arith; four = λ q. omega arith }
 said (suc (suc (suc (suc c)))) h = absurd (omega arith)
 
 header-back : (h : ℕ) → h < 256 → headerByte (scoreSize h) (childSize h) (lastMark h) (labelLength h) ≡ h
@@ -286,13 +287,13 @@ module _
         rw (cons .1, cons .2) (rw (a, b, d) (ap head.Node is-fields))
 
 -- how large the fields of a header can be
-pub score-most : (h : ℕ) → h < 256 → scoreSize h ≤ 4
+pub score-most : (h : ℕ) → h < 256 → (scoreSize h ≤ 4) × (scoreSize h ≡ 3 → ⊥)
 unfolding scoreSize
-score-most h l = said (h / 64) (omega arith) .most
+score-most h l = let a = said (h / 64) (omega arith) in (a .most, a .four)
 
-pub child-most : (h : ℕ) → childSize h ≤ 4
+pub child-most : (h : ℕ) → (childSize h ≤ 4) × (childSize h ≡ 3 → ⊥)
 unfolding childSize
-child-most h = said (h / 16 % 4) (omega arith) .most
+child-most h = let a = said (h / 16 % 4) (omega arith) in (a .most, a .four)
 
 pub label-most : (h : ℕ) → labelLength h < 8
 unfolding labelLength

@@ -177,10 +177,12 @@ walkOf s (suc k) (inNode p seen) = nodeThen (headOf s (p .at)) p seen (λ t. wal
 walkOf s (suc k) (inRest p seen last) = if last then Next (p .next) (p .left) else walkOf s k (inNode p seen)
 
 -- the place behind a node, where w is the walk over the group below it
-abbrev pub reachedBy : Bool → Step → Place → Fields → Reached
-reachedBy true w p n = reached.At (afterLeaf p n)
-reachedBy false Bad p n = reached.Bad
-reachedBy false (Next q left) p n = reached.At (afterInner p n q left)
+abbrev pub behindGroup : Step → Place → Fields → Reached
+behindGroup Bad p n = reached.Bad
+behindGroup (Next q left) p n = reached.At (afterInner p n q left)
+
+abbrev pub reachedBy : Place → Fields → Step → Reached
+reachedBy p n w = if eqb (n .size) 0 then reached.At (afterLeaf p n) else behindGroup w p n
 
 -- The whole image: the walk from byte 7 on ends at the total length, and all n entries were met. A trie of no entries has no group.
 abbrev pub wholeIs : Step → ℕ → Bool
