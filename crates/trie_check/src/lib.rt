@@ -15,17 +15,38 @@ fn node(buf: &[u8], p: trie_walk::Place, n: trie_walk::Fields) -> trie_walk::Rea
     ensures known { λ r. ⌜ Onward r (p .next) (length (now (buf .entry))) ⌝ }
 {
     if n.size == 0 {
-        return trie_walk::Reached::At(trie_place::after_node(p, n, p.next, p.back, p.own, p.left - 1));
+        return trie_walk::Reached::At(trie_place::after_node(
+            p,
+            n,
+            p.next,
+            p.back,
+            p.own,
+            p.left - 1,
+        ));
     }
     let score = trie_place::new_score(p, n);
-    let trie_walk::Step::Next(end, left) = group(buf, p.next, p.path + n.len, score, n.len == 7, p.left) else {
+    let trie_walk::Step::Next(end, left) = group(
+        buf,
+        p.next,
+        p.path + n.len,
+        score,
+        n.len == 7,
+        p.left,
+    ) else {
         return trie_walk::Reached::Bad;
     };
     trie_walk::Reached::At(trie_place::after_node(p, n, end, end - p.next, false, left))
 }
 
 // The group at a position, with all its descendants. `seen` has a mark for each key of the siblings before.
-fn group(buf: &[u8], at: usize, path: usize, score: usize, full: bool, left: usize) -> trie_walk::Step
+fn group(
+    buf: &[u8],
+    at: usize,
+    path: usize,
+    score: usize,
+    full: bool,
+    left: usize,
+) -> trie_walk::Step
     ensures is { λ r. ⌜ ((k : ℕ) → 4 * (length (now (buf .entry)) - at) < k → r ≡ walkOf (now (buf .entry)) k (inGroup at path score full left)) ⌝ }
     ensures known { λ r. ⌜ Ahead r at (length (now (buf .entry))) ⌝ }
 {

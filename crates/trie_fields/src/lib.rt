@@ -1,12 +1,11 @@
 // One node of a trie read where it lies: its fields, its label as a part of the buffer, the end of its group.
 ghost use mathlib.Core.Path.{_≡_};
-ghost use Prim.Native.Nat.{_+_, _-_, _<_, _≤_, ℕ};
+ghost use Prim.Native.Nat.{_+_, _≤_};
 ghost use lib.ListN.{drop, length, take};
 ghost use Rattle.octets.specs.Octets.{fromBe};
-ghost use Rattle.book_check.specs.Checked.{endedAs};
 ghost use Rattle.trie_canon.specs.Keys.{key};
-ghost use Rattle.trie_walk.specs.Walk.{endOf, headOf};
-ghost use Rattle.trie_fields.specs.Known.{EndKnown, HeadKnown};
+ghost use Rattle.trie_walk.specs.Walk.{headOf};
+ghost use Rattle.trie_fields.specs.Known.{EndIs, EndKnown, HeadKnown};
 
 // The number in a field of 0, 1, 2 or 4 bytes.
 pub fn field_at(buf: &[u8], at: usize, size: usize) -> usize
@@ -83,7 +82,7 @@ pub fn head_at(buf: &[u8], at: usize) -> trie_walk::Head
 
 // Where the group at a position ends: past its first node with the last mark.
 pub fn group_end(buf: &[u8], at: usize) -> book_check::Ended
-    ensures is { λ r. ⌜ ((k : ℕ) → length (now (buf .entry)) - at < k → r ≡ endedAs (endOf (now (buf .entry)) k at)) ⌝ }
+    ensures is { λ r. ⌜ EndIs (now (buf .entry)) at r ⌝ }
     ensures known { λ r. ⌜ EndKnown r at (length (now (buf .entry))) ⌝ }
 {
     let mut from = at;

@@ -112,7 +112,14 @@ pub fn new_score(p: trie_walk::Place, n: trie_walk::Fields) -> usize
 }
 
 // The place behind a node: where the next group is to begin, how the next child field says so, and the entries still to come.
-pub fn after_node(p: trie_walk::Place, n: trie_walk::Fields, next: usize, back: usize, own: bool, left: usize) -> trie_walk::Place
+pub fn after_node(
+    p: trie_walk::Place,
+    n: trie_walk::Fields,
+    next: usize,
+    back: usize,
+    own: bool,
+    left: usize,
+) -> trie_walk::Place
     requires { ⌜ (p .first ≡ false → n .field ≤ p .score) ⌝ }
     ensures { λ r. ⌜ r ≡ afterNode p n next back own left ⌝ }
 {
@@ -131,7 +138,14 @@ pub fn after_node(p: trie_walk::Place, n: trie_walk::Fields, next: usize, back: 
 }
 
 // The place before the group at a position, which ends at next.
-pub fn begin_at(at: usize, next: usize, path: usize, score: usize, full: bool, left: usize) -> trie_walk::Place
+pub fn begin_at(
+    at: usize,
+    next: usize,
+    path: usize,
+    score: usize,
+    full: bool,
+    left: usize,
+) -> trie_walk::Place
     requires { ⌜ at ≤ next ⌝ }
     ensures { λ r. ⌜ r ≡ begin at next path score full left ⌝ }
 {

@@ -1,28 +1,25 @@
+-- `trie_fields::key_of` meets its contract, by the two cases of `key`.
+-- No loop, so no invariant. Assumes nothing.
+use native.Mathlib.Omega.{arith}
 use borrow.Author.Needs.{needs}
+use Rattle.trie_fields.proofs.Fields.{key-none, key-some}
 use Rattle.trie_fields.proofs.key_of.Statement.{statement}
 use Rattle.trie_fields.proofs.key_of.Tie as tie
-use Rattle.trie_fields.proofs.key_of.Reads as reads
-use Rattle.trie_fields.proofs.key_of.Lts as lts
 
--- src/lib.rt:42:9
 returns : tie.Need-returns
-returns c = search needs
+returns c = key-none (c .before .args .label .now) (c .if1 .taken)
 
--- src/lib.rt:44:5
 shared-slice-read-result : tie.Need-shared-slice-read-result
-shared-slice-read-result c = search needs
+shared-slice-read-result c = omega arith
 
--- src/lib.rt:44:5
 cast-result : tie.Need-cast-result
-cast-result c = search needs
+cast-result c = omega (arith, c .shared-slice-known .given 0)
 
--- src/lib.rt:44:5
 add-result : tie.Need-add-result
-add-result c = search needs
+add-result c = omega (arith, c .shared-slice-known .given 0)
 
--- src/lib.rt:38:1
 returns-2 : tie.Need-returns-2
-returns-2 c = search needs
+returns-2 c = key-some (c .before .before .args .label .now) (c .before .if1 .left)
 
 pub key-of-spec : {M : Type 1} → statement M
 key-of-spec =
