@@ -1,17 +1,17 @@
 // The check of a trie image: group and node call each other down the tree, and each rule of the layout is tested where it applies.
 ghost use mathlib.Core.Path.{_≡_};
 ghost use mathlib.Core.Bool.{true};
-ghost use Prim.Native.Nat.{_*_, _-_, _<_, _≤_, ℕ};
+ghost use Prim.Native.Nat.{_≤_};
 ghost use lib.ListN.{length};
 ghost use Rattle.book_check.specs.Checked.{checkedAs};
 ghost use Rattle.trie.specs.Reading.{readTrie};
-ghost use Rattle.trie_walk.specs.Walk.{beneath, inGroup, reachedBy, stands, walkOf};
-ghost use Rattle.trie_check.specs.Known.{Ahead, Onward};
+ghost use Rattle.trie_walk.specs.Walk.{stands};
+ghost use Rattle.trie_check.specs.Known.{Ahead, GroupIs, NodeIs, Onward};
 
 // A node that stands in its place, with all that stands below it: the place behind it.
 fn node(buf: &[u8], p: trie_walk::Place, n: trie_walk::Fields) -> trie_walk::Reached
     requires { ⌜ (p .next ≤ length (now buf)) × (stands p n ≡ true) ⌝ }
-    ensures is { λ r. ⌜ ((k : ℕ) → 4 * (length (now (buf .entry)) - p .next) < k → r ≡ reachedBy p n (walkOf (now (buf .entry)) k (beneath p n))) ⌝ }
+    ensures is { λ r. ⌜ NodeIs (now (buf .entry)) p n r ⌝ }
     ensures known { λ r. ⌜ Onward r (p .next) (length (now (buf .entry))) ⌝ }
 {
     if n.size == 0 {
@@ -47,14 +47,14 @@ fn group(
     full: bool,
     left: usize,
 ) -> trie_walk::Step
-    ensures is { λ r. ⌜ ((k : ℕ) → 4 * (length (now (buf .entry)) - at) < k → r ≡ walkOf (now (buf .entry)) k (inGroup at path score full left)) ⌝ }
+    ensures is { λ r. ⌜ GroupIs (now (buf .entry)) at path score full left r ⌝ }
     ensures known { λ r. ⌜ Ahead r at (length (now (buf .entry))) ⌝ }
 {
     let book_check::Ended::At(next) = trie_fields::group_end(buf, at) else {
         return trie_walk::Step::Bad;
     };
     let mut p = trie_place::begin_at(at, next, path, score, full, left);
-    let mut seen = [0; 128];
+    let mut seen = [0u8; 128];
     loop {
         let trie_walk::Head::Node(n) = trie_fields::head_at(buf, p.at) else {
             return trie_walk::Step::Bad;
