@@ -102,7 +102,7 @@ module _ (t : ℕ) where
   group-enum-told c = search needs
 
   group-returns : group-lts.Need-returns gc (group-at t) group.Post group-Inv-loop group-μ-loop
-  group-returns c = 
+  group-returns c =
       let e = c .before .before in
       let a = e .before .before .args in
       (group-bad (a .buf .now) (a .at) (a .path) (a .score) (a .full) (a .left) (e .group-end .ensures .0) (c .enum-told .given .1), tt)
@@ -111,7 +111,7 @@ module _ (t : ℕ) where
   group-begin-at-requires c κs = omega (arith, end-of (c .before .next .given .1) (c .before .before .before .group-end .ensures .1) .0)
 
   group-loop-holds : group-lts.Need-loop-holds gc (group-at t) group.Post group-Inv-loop group-μ-loop
-  group-loop-holds c = 
+  group-loop-holds c =
       let k = c .before in
       let e = k .before .before .before .group-end in
       let a = k .before .before .before .before .before .args in
@@ -128,7 +128,7 @@ module _ (t : ℕ) where
   group-enum-told-2 c = search needs
 
   group-returns-2 : group-lts.Need-returns-2 gc (group-at t) group.Post group-Inv-loop group-μ-loop
-  group-returns-2 c = 
+  group-returns-2 c =
       let h = c .before .before in
       let l = h .before in
       (l .loop .inv .onto Bad (rest-cut (buf l) (l .loop .p) (l .loop .seen) (h .head-at .ensures .0) (c .enum-told2 .given .1)), tt)
@@ -141,7 +141,7 @@ module _ (t : ℕ) where
   group-fits-here-requires c κs = search needs
 
   group-returns-3 : group-lts.Need-returns-3 gc (group-at t) group.Post group-Inv-loop group-μ-loop
-  group-returns-3 c = 
+  group-returns-3 c =
       let f = c .before in
       let k = f .before in
       let l = loop k in
@@ -155,7 +155,7 @@ module _ (t : ℕ) where
   group-array-read-if2 c = read (c .before .before) .key
 
   group-returns-4 : group-lts.Need-returns-4 gc (group-at t) group.Post group-Inv-loop group-μ-loop
-  group-returns-4 c = 
+  group-returns-4 c =
       let e = c .before in
       let k = e .before .before in
       let l = loop k in
@@ -165,11 +165,10 @@ module _ (t : ℕ) where
   group-array-write-seen c = read (c .before .before .before) .key
 
   group-node-requires : group-lts.Need-node-requires gc (group-at t) group.Post group-Inv-loop group-μ-loop
-  group-node-requires c κs = 
+  group-node-requires c κs =
       let l = loop (c .before .before .before) in
       let g = l .loop .inv in
-      let z = start l .before in
-      (
+      let z = start l .before in (
         subst (λ (j : ℕ). 2 * (length (z .args .buf .now) - l .loop .p .next) + 1 < j) (z .pre .0) (omega (arith, g .past, g .on, g .within)),
         (g .within, fits (c .before)),
       )
@@ -181,7 +180,7 @@ module _ (t : ℕ) where
   group-enum-told-3 c = search needs
 
   group-returns-5 : group-lts.Need-returns-5 gc (group-at t) group.Post group-Inv-loop group-μ-loop
-  group-returns-5 c = 
+  group-returns-5 c =
       let d = c .before .before in
       let e = d .before in
       let k = e .before .before .before in
@@ -189,7 +188,7 @@ module _ (t : ℕ) where
       (going-bad (l .loop .inv) (bytes l) (read k) (fits (e .before)) (e .if2 .left) (d .node .ensures .0) (d .node .ensures .1) (c .enum-told3 .given .1), tt)
 
   group-returns-6 : group-lts.Need-returns-6 gc (group-at t) group.Post group-Inv-loop group-μ-loop
-  group-returns-6 c = 
+  group-returns-6 c =
       let d = c .before .before .before .before in
       let e = d .before in
       let k = e .before .before .before in
@@ -198,7 +197,7 @@ module _ (t : ℕ) where
       (going-last (l .loop .inv) (bytes l) (read k) (fits (e .before)) (e .if2 .left) (d .node .ensures .0) (d .node .ensures .1) h (c .if3 .taken), going-ahead (l .loop .inv) (bytes l) (read k) (fits (e .before)) (e .if2 .left) (d .node .ensures .0) (d .node .ensures .1) h)
 
   group-loop-less : group-lts.Need-loop-less gc (group-at t) group.Post group-Inv-loop group-μ-loop
-  group-loop-less c = 
+  group-loop-less c =
       let d = c .before .before .before .before in
       let e = d .before in
       let k = e .before .before .before in
@@ -207,7 +206,7 @@ module _ (t : ℕ) where
       going-less (l .loop .inv) (bytes l) (read k) (fits (e .before)) (e .if2 .left) (d .node .ensures .0) (d .node .ensures .1) h
 
   group-loop-again : group-lts.Need-loop-again gc (group-at t) group.Post group-Inv-loop group-μ-loop
-  group-loop-again c = 
+  group-loop-again c =
       let d = c .before .before .before .before in
       let e = d .before in
       let k = e .before .before .before in
@@ -227,11 +226,10 @@ module _ (t : ℕ) where
   node-after-node-requires c κs = let z = c .before .before .before .before in falls (z .args .buf .now) (z .args .p) (z .args .n) (z .pre .1 .1)
 
   node-returns : node-lts.Need-returns nc (node-at t) node.Post
-  node-returns c = 
+  node-returns c =
       let z = c .before .before .before .before .before in
       let a = z .args in
-      let p = a .p in
-      (
+      let p = a .p in (
         node-leaf (a .buf .now) (a .p) (a .n) (c .before .before .if1 .taken) (c .after-node .ensures),
         onward-to (a .p) (a .n) (a .p .next) (a .p .back) (a .p .left - 1) (a .p .own) (length (a .buf .now)) (c .after-node .ensures) (omega arith) (z .pre .1 .0),
       )
@@ -243,7 +241,7 @@ module _ (t : ℕ) where
   node-add-group c = let z = c .before .before .before .before .before .before in omega (arith, path-short (z .args .buf .now) (z .args .p) (z .args .n) (z .pre .1 .1))
 
   node-group-requires : node-lts.Need-group-requires nc (node-at t) node.Post
-  node-group-requires c κs = 
+  node-group-requires c κs =
       let z = c .before .before .before .before .before .before .before in
       (subst (λ (j : ℕ). 2 * (length (z .args .buf .now) - z .args .p .next) < j) (z .pre .0) (omega arith), tt)
 
@@ -254,7 +252,7 @@ module _ (t : ℕ) where
   node-enum-told c = search needs
 
   node-returns-2 : node-lts.Need-returns-2 nc (node-at t) node.Post
-  node-returns-2 c = 
+  node-returns-2 c =
       let g = c .before .before in
       let v = g .before .before .before .before in
       let a = v .before .before .before .before .args in
@@ -267,13 +265,12 @@ module _ (t : ℕ) where
   node-after-node-requires-2 c κs = let z = c .before .before .before .before .before .before .before .before .before .before .before .before in falls (z .args .buf .now) (z .args .p) (z .args .n) (z .pre .1 .1)
 
   node-returns-3 : node-lts.Need-returns-3 nc (node-at t) node.Post
-  node-returns-3 c = 
+  node-returns-3 c =
       let e = c .before .before .before .end .given in
       let g = c .before .before .before .before .before in
       let v = g .before .before .before .before in
       let a = v .before .before .before .before .args in
-      let h = ahead-of (e .1) (g .group .ensures .1) in
-      (
+      let h = ahead-of (e .1) (g .group .ensures .1) in (
         node-more (a .buf .now) (a .p) (a .n) (v .before .if1 .left) (v .new-score .ensures) (g .group .ensures .0) (e .1) (c .after-node2 .ensures),
         onward-to (a .p) (a .n) (e .0 .0) (e .0 .0 - a .p .next) (e .0 .1 .0) false (length (a .buf .now)) (c .after-node2 .ensures) (le-of-lt (h .0)) (h .1),
       )
