@@ -25,10 +25,10 @@ fn score_stands(p: trie_walk::Place, n: trie_walk::Fields) -> bool
         if p.path == 0 {
             return is_lonely(p, n);
         }
-        if n.field != 0 {
-            return false;
+        if n.field == 0 {
+            return is_lonely(p, n);
         }
-        return is_lonely(p, n);
+        return false;
     }
     if p.score < n.field {
         return false;
