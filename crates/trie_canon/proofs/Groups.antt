@@ -1,8 +1,8 @@
 -- Sibling sets in their order and the suffixes they are the sets of: each gives the other.
-use Prim.Native.Nat.{_+_, _-_, _<_, _≤_, suc, ℕ}
+use Prim.Native.Nat.{_+_, _<_, _≤_, suc, ℕ}
 use mathlib.Core.Path.{_∙_, _≡_, ap, refl, sym}
 use mathlib.Core.Logic.{inl, inr}
-use mathlib.Core.Bool.{Bool, false, false≢true, not, true}
+use mathlib.Core.Bool.{Bool, false, false≢true, true}
 use mathlib.Core.List.{List, [], _++_, _∷_, append-nil, map}
 use lib.Dec.{eqb, ltb}
 use lib.ListN.{length, length-append, take}
@@ -11,8 +11,8 @@ use borrow.Author.Tests.{eqb-false, eqb-true, ltb-true}
 use Rattle.octets.proofs.Lists.{in-sort, sort-in, sort-length, sort-map}
 use Rattle.octets.proofs.Order.{begins-split}
 use Rattle.octets.proofs.Tests.{by-test}
-use Rattle.octets.specs.Lists.{_∈_, all, if_then_else_, insertBy, sortBy}
-use Rattle.octets.specs.Octets.{begins, below, common}
+use Rattle.octets.specs.Lists.{_∈_, if_then_else_, insertBy, sortBy}
+use Rattle.octets.specs.Octets.{begins, below}
 use Rattle.entries.proofs.Rank.{not-outranks-trans, outranks-asym, outranks-total}
 use Rattle.entries.specs.Entries.{Entry, entry, outranks, rising}
 use Rattle.trie.proofs.Sets.{OneFirst, byFirst-flat, byFirst-run, commonPrefix-begins, flat, in-flat}
@@ -85,22 +85,24 @@ module _ (ss : List (List Entry)) (r : (s : List Entry) → s ∈ ss → OneFirs
 abbrev pub gathered : List (List Entry) → List Entry
 gathered ss = flat (sortBy byKey ss)
 
-length-flat-insert : (r : List Entry → List Entry → Bool) (s : List Entry) (ss : List (List Entry)) → length (flat (insertBy r s ss)) ≡ length s + length (flat ss)
-length-flat-insert r s [] = length-append s []
-length-flat-insert r s (t ∷ ss) =
-    let ih = length-flat-insert r s ss in
-    let a = length-append t (flat (insertBy r s ss)) in
-    let b = length-append t (flat ss) in
-    let c = length-append s (t ++ flat ss) in
-    by-test (r t s) (λ q. rw q (omega arith)) (λ q. rw q (omega arith))
+-- what adds up over suffixes does not depend on the order of the sets
+module _ (m : List Entry → ℕ) (sum : (a b : List Entry) → m (a ++ b) ≡ m a + m b) where
+  sum-insert : (r : List Entry → List Entry → Bool) (s : List Entry) (ss : List (List Entry)) → m (flat (insertBy r s ss)) ≡ m s + m (flat ss)
+  sum-insert r s [] = sum s []
+  sum-insert r s (t ∷ ss) =
+      let ih = sum-insert r s ss in
+      let a = sum t (flat (insertBy r s ss)) in
+      let b = sum t (flat ss) in
+      let c = sum s (t ++ flat ss) in
+      by-test (r t s) (λ q. rw q (omega arith)) (λ q. rw q (omega arith))
 
-pub length-flat-sort : (r : List Entry → List Entry → Bool) (ss : List (List Entry)) → length (flat (sortBy r ss)) ≡ length (flat ss)
-length-flat-sort r [] = refl
-length-flat-sort r (s ∷ ss) =
-    let ih = length-flat-sort r ss in
-    let a = length-flat-insert r s (sortBy r ss) in
-    let b = length-append s (flat ss) in
-    omega arith
+  pub sum-sort : (r : List Entry → List Entry → Bool) (ss : List (List Entry)) → m (flat (sortBy r ss)) ≡ m (flat ss)
+  sum-sort r [] = refl
+  sum-sort r (s ∷ ss) =
+      let ih = sum-sort r ss in
+      let a = sum-insert r s (sortBy r ss) in
+      let b = sum s (flat ss) in
+      omega arith
 
 -- the first set of siblings has the highest score
 top-of : (s t : List Entry) → setBefore s t ≡ true → highest t ≤ highest s
@@ -281,13 +283,13 @@ unfolding nodeOf
 scattered-nodes b es = sym (sort-map (nodeOf b) standsBefore (byFirst es))
 
 pub scattered-length : (es : List Entry) → length (flat (scattered es)) ≡ length es
-scattered-length es = length-flat-sort setBefore (byFirst es) ∙ ap length (byFirst-flat es)
+scattered-length es = sum-sort length length-append setBefore (byFirst es) ∙ ap length (byFirst-flat es)
 
 pub scattered-top : (es : List Entry) → highest (flat (scattered es)) ≡ highest es
 scattered-top es = highest-sort setBefore (byFirst es) ∙ ap highest (byFirst-flat es)
 
 pub gathered-length : (ss : List (List Entry)) → length (gathered ss) ≡ length (flat ss)
-gathered-length ss = length-flat-sort byKey ss
+gathered-length ss = sum-sort length length-append byKey ss
 
 pub gathered-top : (ss : List (List Entry)) → highest (gathered ss) ≡ highest (flat ss)
 gathered-top ss = highest-sort byKey ss

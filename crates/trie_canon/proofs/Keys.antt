@@ -1,8 +1,8 @@
 -- The key of a suffix: 0 if it is empty, else one more than its first byte. Sets by first byte are sets by key.
-use Prim.Native.Nat.{_+_, _-_, _<_, _≤_, suc, ℕ}
+use Prim.Native.Nat.{_<_, _≤_, suc, ℕ}
 use mathlib.Core.Path.{_∙_, _≡_, ap, refl, sym}
 use mathlib.Core.Logic.{_⊎_, inl, inr}
-use mathlib.Core.Bool.{Bool, false, false≢true, not, true}
+use mathlib.Core.Bool.{Bool, false, false≢true, true}
 use mathlib.Core.List.{List, [], _++_, _∷_}
 use lib.Dec.{eqb, ltb}
 use lib.ListN.{drop, length}
@@ -15,7 +15,6 @@ use Rattle.octets.specs.Lists.{_∈_, all, insertBy, sortBy}
 use Rattle.octets.specs.Octets.{below, same}
 use Rattle.entries.proofs.BestList.{different-rising}
 use Rattle.entries.proofs.Valid.{rising-cons, rising-head, rising-tail}
-use Rattle.entries.specs.Completion.{different}
 use Rattle.entries.specs.Entries.{Entry, rising}
 use Rattle.trie.proofs.Sets.{OneFirst, byFirst-flat, byFirst-run, flat, in-flat, label-progress, label-split, one-first, used-up}
 use Rattle.trie_canon.specs.Keys.{key}

@@ -1,9 +1,9 @@
 -- A set of suffixes that a label begins, and what a group is made of.
-use Prim.Native.Nat.{_+_, _-_, _<_, _^_, _≤_, max, suc, ℕ}
+use Prim.Native.Nat.{_+_, _<_, _^_, _≤_, max, suc, ℕ}
 use mathlib.Core.Path.{_∙_, _≡_, ap, refl, sym}
 use mathlib.Core.Logic.{inl, inr}
 use mathlib.Core.Bool.{Bool, _&&_, false, true}
-use mathlib.Core.List.{List, [], _++_, _∷_, map}
+use mathlib.Core.List.{List, [], _++_, _∷_}
 use lib.Dec.{eqb, leb}
 use lib.ListN.{drop, length, length-append, length-take, take}
 use lib.Seq.{drop-append-seam, take-all, take-append-seam}
@@ -11,8 +11,8 @@ use native.Mathlib.Omega.{arith}
 use borrow.Author.Tests.{eq-eqb, eqb-false, eqb-true, ne-eqb}
 use Rattle.octets.proofs.Lists.{in-map, map-in}
 use Rattle.octets.proofs.Tests.{and-true, by-test, eqb-self}
-use Rattle.octets.specs.Lists.{_∈_, all}
-use Rattle.octets.specs.Octets.{below, common, same}
+use Rattle.octets.specs.Lists.{_∈_}
+use Rattle.octets.specs.Octets.{below, common}
 use Rattle.entries.proofs.BestList.{different-rising}
 use Rattle.entries.specs.Entries.{Entry, entry, rising}
 use Rattle.entries.specs.Names.{allowedBytes}

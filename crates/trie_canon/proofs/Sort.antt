@@ -1,9 +1,9 @@
 -- Sorting by a strict total order: a sorted list stays, and the order before does not matter.
 use mathlib.Core.Path.{_∙_, _≡_, ap, refl, sym}
 use mathlib.Core.Logic.{_⊎_, inl, inr}
-use mathlib.Core.Bool.{Bool, false, false≢true, not, true}
+use mathlib.Core.Bool.{Bool, false, false≢true, true}
 use mathlib.Core.List.{List, [], _∷_}
-use Rattle.octets.proofs.Lists.{in-insert, insert-in, sort-in}
+use Rattle.octets.proofs.Lists.{insert-in, sort-in}
 use Rattle.octets.proofs.Tests.{by-test}
 use Rattle.octets.specs.Lists.{_∈_, insertBy, sortBy}
 

@@ -1,20 +1,18 @@
 -- The answer of the check: Damaged where a test of `trieChecks` fails, the number of entries where none does.
-use Prim.Native.Nat.{_*_, _-_, _<_, suc, ℕ}
+use Prim.Native.Nat.{ℕ}
 use mathlib.Core.Path.{_∙_, _≡_, ap, sym}
-use mathlib.Core.Bool.{_&&_, false, true}
+use mathlib.Core.Bool.{_&&_, true}
 use mathlib.Core.List.{List}
 use lib.Dec.{eqb}
-use lib.ListN.{length}
 use native.Mathlib.Omega.{arith}
 use borrow.Author.Tests.{eq-eqb, ne-eqb}
-use Rattle.octets.specs.Octets.{numberAt}
 use Rattle.octets.proofs.Numbers.{Bytes}
 use Rattle.octets.proofs.Tests.{and-false}
 use Rattle.book.specs.Frame.{frameIs}
 use Rattle.book_check.specs.Checked.{checkedAs}
 use Rattle.book_check.proofs.Frame.{Checkable, Framed, accepted, passed, refused}
 use Rattle.trie.specs.Reading.{readTrie}
-use Rattle.trie_walk.specs.Walk.{inGroup, trieBodyIs, trieChecks, turns, walkOf, wholeIs}
+use Rattle.trie_walk.specs.Walk.{trieBodyIs, trieChecks, turns, wholeIs}
 use Rattle.trie_walk.proofs.Exact.{trie-check-exact, trie-count}
 use Rattle.trie_check.specs.Known.{GroupIs}
 use Rattle.book_check.specs.declared.Checked.the-variants.{Book, Damaged}

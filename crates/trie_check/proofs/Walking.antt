@@ -30,7 +30,7 @@ use Rattle.trie_walk.specs.declared.Step.the-variants.{Bad, Next}
 use Rattle.trie_walk.specs.declared.Step.{Step}
 
 -- A node that stands in its place, and what is below it.
-module _ (s : List ℕ) (p : Place) (n : Fields) (ok : stands p n ≡ true) where
+module _ (p : Place) (n : Fields) (ok : stands p n ≡ true) where
   stood : Stands p n
   stood = stands-true p n ok
 

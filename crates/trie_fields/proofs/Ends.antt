@@ -1,5 +1,5 @@
 -- The end of a group, node by node.
-use Prim.Native.Nat.{_-_, _<_, _≤_, suc, zero, ℕ}
+use Prim.Native.Nat.{suc, zero, ℕ}
 use mathlib.Core.Path.{_∙_, _≡_, ap, sym}
 use mathlib.Core.Bool.{false, true}
 use mathlib.Core.List.{List}

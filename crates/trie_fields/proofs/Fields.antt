@@ -1,9 +1,7 @@
 -- Fields and labels read where they lie.
-use Prim.Native.Nat.{_+_, _-_, _≤_, suc, zero, ℕ}
+use Prim.Native.Nat.{_+_, _≤_, ℕ}
 use mathlib.Core.Path.{_∙_, _≡_, ap, refl, sym}
-use mathlib.Core.Bool.{_&&_}
 use mathlib.Core.List.{List, [], _∷_}
-use lib.Dec.{leb}
 use lib.ListN.{drop, getD, length, length-drop, take}
 use lib.Seq.{getD-drop}
 use native.Mathlib.Omega.{arith}

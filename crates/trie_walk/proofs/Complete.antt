@@ -4,12 +4,12 @@ use mathlib.Core.Path.{_∙_, _≡_, ap, refl, subst, sym}
 use mathlib.Core.Logic.{_⊎_, inl, inr}
 use mathlib.Core.Bool.{Bool, false, false≢true, true}
 use mathlib.Core.List.{List, [], _++_, _∷_, append-assoc, map}
-use mathlib.Core.Option.{Option, none, some}
-use lib.Dec.{eqb, leb, ltb}
+use mathlib.Core.Option.{some}
+use lib.Dec.{eqb, ltb}
 use lib.ListN.{drop, getD, length, length-append, length-drop, length-replicate, length-set, replicate, set}
 use lib.Seq.{drop-at, drop-drop, getD-set-other}
 use native.Mathlib.Omega.{arith}
-use borrow.Author.Tests.{eq-eqb, eqb-false, eqb-true, lt-leb, ltb-true, ne-eqb}
+use borrow.Author.Tests.{eq-eqb, eqb-false, eqb-true, ltb-true, ne-eqb}
 use Rattle.octets.proofs.Tests.{by-test}
 use Rattle.octets.specs.Lists.{_∈_, if_then_else_}
 use Rattle.entries.proofs.BestList.{different-rising}
@@ -29,7 +29,7 @@ use Rattle.trie_walk.proofs.Sound.{isNil, key-small, last-nodes}
 use Rattle.trie_walk.proofs.Stand.{Stands, true-stands}
 use Rattle.trie_walk.proofs.Weight.{Kid, Lone, group-weight, kind, scattered-weight, weight, weight-part}
 use Rattle.trie_walk.proofs.Written.{anyInner, node-size, siblings-any, siblings-own}
-use Rattle.trie_walk.specs.Walk.{afterInner, afterLeaf, afterNode, begin, beneath, endOf, headOf, inGroup, inNode, inRest, into, noneSeen, onward, scoreOf, stands, walkOf}
+use Rattle.trie_walk.specs.Walk.{afterInner, afterLeaf, afterNode, begin, beneath, endOf, headOf, inGroup, inNode, inRest, into, noneSeen, onward, scoreOf, walkOf}
 use Rattle.trie_walk.specs.declared.Fields.{Fields}
 use Rattle.trie_walk.specs.declared.Head.the-variants as head
 use Rattle.trie_walk.specs.declared.Place.{Place}

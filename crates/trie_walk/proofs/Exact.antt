@@ -1,8 +1,8 @@
 -- The check accepts exactly the buffers that are read, and bytes 5 and 6 say how many entries these hold.
 use Prim.Native.Nat.{_*_, _+_, _<_, _^_, _≤_, ℕ}
-use mathlib.Core.Path.{_∙_, _≡_, ap, refl, subst, sym}
+use mathlib.Core.Path.{_∙_, _≡_, ap, refl, sym}
 use mathlib.Core.Logic.{inl, inr}
-use mathlib.Core.Bool.{Bool, _&&_, false, false≢true, true}
+use mathlib.Core.Bool.{_&&_, false, false≢true, true}
 use mathlib.Core.List.{List, [], _++_, _∷_}
 use mathlib.Core.Option.{Option, none, some}
 use lib.Dec.{eqb, leb}

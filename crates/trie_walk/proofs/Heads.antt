@@ -1,11 +1,11 @@
 -- A node's bytes and what is read of them: each gives the other.
 use Prim.Native.Nat.{_%_, _*_, _+_, _-_, _/_, _<_, _^_, _≤_, suc, zero, ℕ}
 use mathlib.Core.Path.{_∙_, _≡_, ap, refl, subst, sym}
-use mathlib.Core.Bool.{Bool, _&&_, false, not, true}
+use mathlib.Core.Bool.{Bool, _&&_, false, true}
 use mathlib.Core.List.{List, [], _++_, _∷_}
 use lib.Dec.{eqb, leb, ltb}
 use lib.ListN.{drop, getD, length, length-append, length-drop, length-take, take, take-append-drop}
-use lib.Seq.{drop-at, drop-cons, drop-drop, getD-drop, take-at}
+use lib.Seq.{drop-at, drop-cons, drop-drop, take-at}
 use native.Mathlib.Omega.{arith}
 use borrow.Author.Tests.{eq-eqb, eqb-false, eqb-true, le-leb, le-ltb, leb-false, lt-leb, ltb-false}
 use Rattle.octets.proofs.Coding.{fromBe-be, length-be}

@@ -2,11 +2,11 @@
 use Prim.Native.Nat.{_+_, _-_, _<_, _^_, _≤_, suc, zero, ℕ}
 use mathlib.Core.Path.{_∙_, _≡_, ap, refl, subst, sym}
 use mathlib.Core.Logic.{inl, inr}
-use mathlib.Core.Bool.{Bool, _&&_, false, false≢true, not, true}
+use mathlib.Core.Bool.{Bool, _&&_, false, false≢true, true}
 use mathlib.Core.List.{List, [], _++_, _∷_, map}
 use mathlib.Core.Option.{Option, none, some}
-use lib.Dec.{eqb, leb, ltb}
-use lib.ListN.{drop, getD, length, length-append, length-replicate, length-set, replicate, set}
+use lib.Dec.{eqb, leb}
+use lib.ListN.{drop, getD, length, length-append, length-replicate, length-set, set}
 use lib.Seq.{getD-set-other, getD-set-same}
 use native.Mathlib.Omega.{arith}
 use borrow.Author.Tests.{eqb-false, eqb-true, leb-true, lt-ltb}

@@ -8,13 +8,13 @@ use lib.Dec.{eqb, ltb}
 use lib.ListN.{length, length-append}
 use native.Mathlib.Omega.{arith}
 use Rattle.octets.proofs.Tests.{by-test}
-use Rattle.octets.specs.Lists.{_∈_, insertBy, sortBy}
+use Rattle.octets.specs.Lists.{_∈_}
 use Rattle.entries.specs.Entries.{Entry}
 use Rattle.trie.proofs.Sets.{byFirst-flat, flat}
 use Rattle.trie.proofs.Trie.{node-label, nodes, siblings-inner, siblings-leaf, unders}
 use Rattle.trie.specs.Reading.{prefixed}
 use Rattle.trie.specs.Trie.{Node, byFirst, firstScore, groupBytes, groupOf, highest, isLast, isLeaf, labelOf, nodeBytes, nodeOf, otherBytes, ownSize, siblings, sizeOf}
-use Rattle.trie_canon.proofs.Groups.{scatter, scattered, scattered-nodes}
+use Rattle.trie_canon.proofs.Groups.{setBefore, sum-sort, scatter, scattered, scattered-nodes}
 use Rattle.trie_canon.proofs.Parts.{Made, Suffixes, highest-more, inner, inner-facts, leaf, leaf-facts, length-more}
 use Rattle.trie_walk.proofs.Written.{inner-under, leaf-under, node-size}
 
@@ -25,23 +25,6 @@ weight (e ∷ es) = 10 * length (e .name) + 9 + weight es
 weight-append : (a b : List Entry) → weight (a ++ b) ≡ weight a + weight b
 weight-append [] b = omega arith
 weight-append (e ∷ a) b = let ih = weight-append a b in omega arith
-
-weight-insert : (r : List Entry → List Entry → Bool) (s : List Entry) (ss : List (List Entry)) → weight (flat (insertBy r s ss)) ≡ weight s + weight (flat ss)
-weight-insert r s [] = weight-append s []
-weight-insert r s (t ∷ ss) =
-    let ih = weight-insert r s ss in
-    let a = weight-append t (flat (insertBy r s ss)) in
-    let b = weight-append t (flat ss) in
-    let c = weight-append s (t ++ flat ss) in
-    by-test (r t s) (λ q. rw q (omega arith)) (λ q. rw q (omega arith))
-
-weight-sort : (r : List Entry → List Entry → Bool) (ss : List (List Entry)) → weight (flat (sortBy r ss)) ≡ weight (flat ss)
-weight-sort r [] = refl
-weight-sort r (s ∷ ss) =
-    let ih = weight-sort r ss in
-    let a = weight-insert r s (sortBy r ss) in
-    let b = weight-append s (flat ss) in
-    omega arith
 
 pub weight-part : (t : List Entry) (ss : List (List Entry)) → t ∈ ss → weight t ≤ weight (flat ss)
 weight-part t [] m = absurd m
@@ -57,7 +40,7 @@ weight-label l [] h = absurd (omega arith)
 weight-label l (e ∷ es) h = let ih = weight-more l es in let a = length-append l (e .name) in omega arith
 
 pub scattered-weight : (es : List Entry) → weight (flat (scattered es)) ≡ weight es
-scattered-weight es = weight-sort _ (byFirst es) ∙ ap weight (byFirst-flat es)
+scattered-weight es = sum-sort weight weight-append setBefore (byFirst es) ∙ ap weight (byFirst-flat es)
 
 -- What a set is as a node with d levels below it.
 pub record Kid (path d : ℕ) (t : List Entry) : Type 0 where

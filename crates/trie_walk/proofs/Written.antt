@@ -1,10 +1,9 @@
 -- Siblings and what stands under them, as bytes at two places of an image.
 use Prim.Native.Nat.{_+_, _-_, _<_, _≤_, ℕ}
 use mathlib.Core.Path.{_∙_, _≡_, ap, refl, sym}
-use mathlib.Core.Bool.{Bool, false, false≢true, not, true}
+use mathlib.Core.Bool.{Bool, false, false≢true, true}
 use mathlib.Core.List.{List, [], _++_, _∷_, append-assoc}
-use lib.Dec.{eqb}
-use lib.ListN.{drop, length, length-append, length-drop, set}
+use lib.ListN.{drop, length, length-append, length-drop}
 use native.Mathlib.Omega.{arith}
 use borrow.Author.Tests.{eq-eqb, ne-eqb}
 use Rattle.octets.proofs.Coding.{length-be}

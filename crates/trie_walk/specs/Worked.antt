@@ -1,9 +1,9 @@
 -- Worked cases of the check: images that are accepted, and damaged ones. One table, one proposition.
-use Prim.Native.Nat.{_+_, _-_, _/_, ℕ}
+use Prim.Native.Nat.{_+_, ℕ}
 use mathlib.Core.Path.{_≡_, refl}
 use mathlib.Core.Bool.{Bool, false, true}
 use mathlib.Core.List.{List, [], _++_, _∷_}
-use lib.ListN.{drop, length, replicate, take}
+use lib.ListN.{length, replicate, take}
 use Rattle.octets.specs.Octets.{be, fromBe, numberAt}
 use Rattle.octets.specs.Table.{Row, _gives_, failing}
 use Rattle.entries.specs.Entries.{entry}

@@ -220,10 +220,10 @@ module _ (t : ℕ) where
   nc = (after-node-reads.Asked, after-node-reads.Learnt, new-score-reads.Asked, new-score-reads.Learnt, group-below t, group.Post)
 
   node-sub-after-node : node-lts.Need-sub-after-node nc (node-at t) node.Post
-  node-sub-after-node c = let z = c .before .before .before .before in some-left (z .args .buf .now) (z .args .p) (z .args .n) (z .pre .1 .1) (c .before .if1 .taken)
+  node-sub-after-node c = let z = c .before .before .before .before in some-left (z .args .p) (z .args .n) (z .pre .1 .1) (c .before .if1 .taken)
 
   node-after-node-requires : node-lts.Need-after-node-requires nc (node-at t) node.Post
-  node-after-node-requires c κs = let z = c .before .before .before .before in falls (z .args .buf .now) (z .args .p) (z .args .n) (z .pre .1 .1)
+  node-after-node-requires c κs = let z = c .before .before .before .before in falls (z .args .p) (z .args .n) (z .pre .1 .1)
 
   node-returns : node-lts.Need-returns nc (node-at t) node.Post
   node-returns c =
@@ -235,10 +235,10 @@ module _ (t : ℕ) where
       )
 
   node-new-score-requires : node-lts.Need-new-score-requires nc (node-at t) node.Post
-  node-new-score-requires c κs = let z = c .before .before .before in falls (z .args .buf .now) (z .args .p) (z .args .n) (z .pre .1 .1)
+  node-new-score-requires c κs = let z = c .before .before .before in falls (z .args .p) (z .args .n) (z .pre .1 .1)
 
   node-add-group : node-lts.Need-add-group nc (node-at t) node.Post
-  node-add-group c = let z = c .before .before .before .before .before .before in omega (arith, path-short (z .args .buf .now) (z .args .p) (z .args .n) (z .pre .1 .1))
+  node-add-group c = let z = c .before .before .before .before .before .before in omega (arith, path-short (z .args .p) (z .args .n) (z .pre .1 .1))
 
   node-group-requires : node-lts.Need-group-requires nc (node-at t) node.Post
   node-group-requires c κs =
@@ -262,7 +262,7 @@ module _ (t : ℕ) where
   node-sub-after-node-2 c = le-of-lt (ahead-of (c .before .before .end .given .1) (c .before .before .before .before .group .ensures .1) .0)
 
   node-after-node-requires-2 : node-lts.Need-after-node-requires-2 nc (node-at t) node.Post
-  node-after-node-requires-2 c κs = let z = c .before .before .before .before .before .before .before .before .before .before .before .before in falls (z .args .buf .now) (z .args .p) (z .args .n) (z .pre .1 .1)
+  node-after-node-requires-2 c κs = let z = c .before .before .before .before .before .before .before .before .before .before .before .before in falls (z .args .p) (z .args .n) (z .pre .1 .1)
 
   node-returns-3 : node-lts.Need-returns-3 nc (node-at t) node.Post
   node-returns-3 c =

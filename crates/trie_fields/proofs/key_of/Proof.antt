@@ -1,7 +1,6 @@
 -- `trie_fields::key_of` meets its contract, by the two cases of `key`.
 -- No loop, so no invariant. Assumes nothing.
 use native.Mathlib.Omega.{arith}
-use borrow.Author.Needs.{needs}
 use Rattle.trie_fields.proofs.Fields.{key-none, key-some}
 use Rattle.trie_fields.proofs.key_of.Statement.{statement}
 use Rattle.trie_fields.proofs.key_of.Tie as tie

@@ -1,6 +1,5 @@
 -- `trie_fields::label_part` meets its contract: a part of the buffer is those of its bytes.
 -- No loop, so no invariant. Assumes nothing.
-use native.Mathlib.Omega.{arith}
 use borrow.Author.Needs.{needs}
 use Rattle.front_coding.proofs.Parts.{part-bytes}
 use Rattle.trie_fields.proofs.label_part.Statement.{statement}
