@@ -3,9 +3,9 @@ ghost use mathlib.Core.Path.{_≡_};
 ghost use Prim.Native.Nat.{_-_, _<_, _≤_};
 ghost use lib.ListN.{length, set};
 ghost use Rattle.book.specs.Book.{inBook};
-ghost use Rattle.completion.specs.Complete.{Completed, Lent, completeBook};
+ghost use Rattle.completion.specs.Complete.{completeBook};
 ghost use Rattle.range_machine.specs.Slots.{bestFrom, bestOf, without};
-ghost use Rattle.range_machine.specs.Turns.{Ran, Runnable};
+ghost use Rattle.lent_queue.specs.Waiting.{CompletedOver, MayRun, RanOver};
 
 // Puts a range into a slot.
 fn put(ranges: &mut [completion::Range], at: usize, r: completion::Range)
@@ -56,8 +56,8 @@ fn run(
     ranges: &mut [completion::Range],
     m: range_machine::Progress,
 ) -> range_machine::Progress
-    requires { ⌜ Runnable (now book) (now ranges) m ⌝ }
-    ensures { λ s. ⌜ Ran (inBook (now (book .entry))) (now (ranges .entry)) m s × (m .turns ≡ 0 → now (ranges .exit) ≡ now (ranges .entry)) ⌝ }
+    requires { ⌜ MayRun (now book) (now ranges) m ⌝ }
+    ensures { λ s. ⌜ RanOver (inBook (now (book .entry))) (now (ranges .entry)) (now (ranges .exit)) m s ⌝ }
 {
     let t = m.turns;
     if t == 0 {
@@ -79,8 +79,8 @@ pub fn complete(
     dst: &mut [u8],
     ranges: &mut [completion::Range],
 ) -> completion::Completion
-    ensures { λ r. ⌜ Completed (completeBook (now (book .entry)) (now (prefix .entry)) k (now (dst .entry)) (length (now (ranges .entry)))) r (now (dst .exit))
-        × Lent (completeBook (now (book .entry)) (now (prefix .entry)) k (now (dst .entry)) (length (now (ranges .entry))) .answer) (now (ranges .entry)) (now (ranges .exit)) ⌝ }
+    ensures { λ r. ⌜ CompletedOver (completeBook (now (book .entry)) (now (prefix .entry)) k (now (dst .entry)) (length (now (ranges .entry))))
+        r (now (dst .exit)) (now (ranges .entry)) (now (ranges .exit)) ⌝ }
 {
     let m = book_complete::start(book, prefix, k, dst.len(), ranges.len());
     let s = run(book, ranges, m);
