@@ -105,16 +105,18 @@ ran-somewhere :
 ran-somewhere {book} {xs} {m} {s} ok r = go (m .turns) refl
   where
     go : (n : ℕ) → m .turns ≡ n → (ys : List Range) × (0 < length ys) × Ran (inBook book) ys m s
-    go zero e =
-        (noRange ∷ [], omega arith,
-        record {
-          offered = rw e (rw e at (r .offered));
-          looks = rw e (rw e at (r .looks));
-          few = r .few;
-          places = r .places;
-          entries = r .entries;
-          refusal = r .refusal;
-        })
+    go zero e = (
+      noRange ∷ [],
+      omega arith,
+      record {
+        offered = rw e (rw e at (r .offered));
+        looks = rw e (rw e at (r .looks));
+        few = r .few;
+        places = r .places;
+        entries = r .entries;
+        refusal = r .refusal;
+      },
+    )
     go (suc n) e = (xs, omega (arith, ok .ready (omega arith) .first), r)
 
 -- a machine at its start has turns only where nothing is refused
