@@ -15,6 +15,8 @@ ghost use Rattle.book.specs.Lookups.{find, foundIn, headLength, headName, nameA
 ghost use Rattle.edits.specs.Edits.{emptyBook, setEntry, withdraw};
 ghost use Rattle.edits.specs.Splice.{Spliced, result};
 ghost use Rattle.sheet.specs.Sheet.{buildBook, listBook};
+ghost use Rattle.completion.specs.Complete.{completeBook};
+ghost use Rattle.lent_queue.specs.Waiting.{CompletedOver};
 ghost use Rattle.label_book.specs.Calls.{Answered, checkBook, checkedOf, foundOf, lengthOf, oneEntry, placeAs, spanOf, wholeBook};
 
 // What a call that writes a book, a sheet or an entry reports.
@@ -322,4 +324,18 @@ pub fn list(book: &[u8], dst: &mut [u8]) -> Written
         entries: n,
         bytes: total,
     }
+}
+
+// The first k entries in rank that a prefix begins, or all if fewer, as answer entries. The open ranges wait in the lent slice.
+pub fn complete(
+    book: &[u8],
+    prefix: &[u8],
+    k: usize,
+    dst: &mut [u8],
+    ranges: &mut [completion::Range],
+) -> completion::Completion
+    ensures { λ r. ⌜ CompletedOver (completeBook (now (book .entry)) (now (prefix .entry)) k (now (dst .entry)) (length (now (ranges .entry))))
+        r (now (dst .exit)) (now (ranges .entry)) (now (ranges .exit)) ⌝ }
+{
+    lent_queue::complete(book, prefix, k, dst, ranges)
 }
