@@ -25,8 +25,8 @@ use Rattle.trie.specs.Reading.{prefixed}
 use Rattle.trie.specs.Trie.{byFirst, highest, labelOf, levels, remains, usedUp}
 use Rattle.trie.proofs.Sets.{OneFirst, byFirst-flat, byFirst-run, flat, label-progress, label-split, stripped, used-up}
 use Rattle.trie_search.proofs.Keys.{key, label-key, setKey}
-use Rattle.trie_search.specs.Search.{Forest, none, tree, Waiting, wait, waiting, search, size, inside, held, own, Clear, top, Proper}
-use Rattle.trie_search.proofs.Search.{Kept, weights, search-offers, rank-same}
+use Rattle.trie_search.specs.Search.{Forest, none, tree, Waiting, wait, waiting, offers, inside, held, own, Clear, top, Proper}
+use Rattle.trie_search.proofs.Search.{Kept, rank-same, search-offers}
 use Rattle.trie_search.specs.Planted.{keyBefore, kidsOf, plantAll, plant}
 use Rattle.trie_search.specs.Descend.{orElse, descend, start}
 use Rattle.trie_search.proofs.Planted.{Fine, Placed, sets-placed, set-fine, set-rising, set-count, plant-count, plant-proper, kids-none, kids-some, inside-cons, own-inner, remains-planted, run-key, begins-key, prefixed-append, prefixed-more, prefixed-from, prefixed-none, From, book-offers}
@@ -43,34 +43,25 @@ top-less p l s (tree a b c d) next = refl
 
 proper-one : (p l : List ℕ) (s : ℕ) (kids next : Forest) → Proper p (tree l s kids next) → Proper p (tree l s kids none)
 proper-one p l s kids next r =
-    ((λ e m. r .0 e (inside-less p l s kids next e m)), ap (λ x. x .score) (top-less p l s kids next) ∙ r .1, ((λ e m. absurd m), tt), tt, (λ e g m n. absurd n), r .5, tt)
+    ((λ e m. r .0 e (inside-less p l s kids next e m)), ap (λ x. x .score) (top-less p l s kids next) ∙ r .1, ((λ e m. absurd m), tt), tt, (λ e g m n. absurd n), r .5, tt, (λ v m. absurd m))
 
 kept-one : (p l : List ℕ) (s : ℕ) (kids next : Forest) → Proper p (tree l s kids next) → Kept (wait p l s kids none ∷ [])
 kept-one p l s kids next r = (proper-one p l s kids next r, (λ v m. absurd m), (λ v m. absurd m), tt)
 
-record Ready (n : ℕ) (ws : List Waiting) : Type 0 where
-  kept : Kept ws
-  small : weights ws ≤ n
+kept-else : (t : Bool) (a b : List Waiting) → Kept a → Kept b → Kept (orElse t a b)
+kept-else true a b x y = x
+kept-else false a b x y = y
 
-ready-more : (n m : ℕ) (ws : List Waiting) → n ≤ m → Ready n ws → Ready m ws
-ready-more n m ws h r = let z = r .small in record { kept = r .kept; small = omega arith }
-
-ready-else : (n : ℕ) (t : Bool) (a b : List Waiting) → Ready n a → Ready n b → Ready n (orElse t a b)
-ready-else n true a b x y = x
-ready-else n false a b x y = y
-
-descend-ready : (p q : List ℕ) (f : Forest) → Proper q f → Ready (size f) (descend p q f)
-descend-ready p q none r = record { kept = tt; small = omega arith }
-descend-ready p q (tree l s none next) r =
-    ready-else (suc (0 + size next)) (begins p (q ++ l)) (wait q l s none none ∷ []) (descend p q next)
-    (record { kept = kept-one q l s none next r; small = omega arith }) (ready-more (size next) (suc (0 + size next)) (descend p q next) (omega arith) (descend-ready p q next (r .6)))
-descend-ready p q (tree l s (tree a b c d) next) r =
-    let n = suc (size (tree a b c d) + size next) in
-    ready-else n (begins p (q ++ l)) (wait q l s (tree a b c d) none ∷ []) (orElse (begins (q ++ l) p) (descend p (q ++ l) (tree a b c d)) (descend p q next))
-    (record { kept = kept-one q l s (tree a b c d) next r; small = omega arith })
-    (ready-else n (begins (q ++ l) p) (descend p (q ++ l) (tree a b c d)) (descend p q next)
-    (ready-more (size (tree a b c d)) n (descend p (q ++ l) (tree a b c d)) (omega arith) (descend-ready p (q ++ l) (tree a b c d) (r .5)))
-    (ready-more (size next) n (descend p q next) (omega arith) (descend-ready p q next (r .6))))
+descend-kept : (p q : List ℕ) (f : Forest) → Proper q f → Kept (descend p q f)
+descend-kept p q none r = tt
+descend-kept p q (tree l s none next) r =
+    kept-else (begins p (q ++ l)) (wait q l s none none ∷ []) (descend p q next) (kept-one q l s none next r) (descend-kept p q next (r .6))
+descend-kept p q (tree l s (tree a b c d) next) r =
+    kept-else (begins p (q ++ l)) (wait q l s (tree a b c d) none ∷ []) (orElse (begins (q ++ l) p) (descend p (q ++ l) (tree a b c d)) (descend p q next))
+    (kept-one q l s (tree a b c d) next r)
+    (kept-else (begins (q ++ l) p) (descend p (q ++ l) (tree a b c d)) (descend p q next)
+    (descend-kept p (q ++ l) (tree a b c d) (r .5))
+    (descend-kept p q next (r .6)))
 
 -- prefixes and paths
 comparable : (p u r : List ℕ) → begins p (u ++ r) ≡ true → (begins p u ≡ true) ⊎ (begins u p ≡ true)
@@ -216,12 +207,13 @@ plant-match (suc d) p q es x n z =
     ∙ sym (count-keep x (hit p) (prefixed q es))
 
 -- completion from the trie's forest: for every prefix, the first k in rank of the entries that it begins
-pub start-offers : (es : List Entry) (p : List ℕ) (k : ℕ) → valid es ≡ true → search (size (plant levels es)) k (start p (plant levels es)) ≡ completion es p k
+pub start-offers : (es : List Entry) (p : List ℕ) (k : ℕ) → valid es ≡ true → offers k (start p (plant levels es)) ≡ completion es p k
 unfolding completion
 start-offers es [] k h = book-offers es k h
 start-offers es (b ∷ p) k h =
     let v = valid-of es h in
     let z : Fine levels es = record { short = λ e m. let n = name-length (e .name) (all-in (λ f. isName (f .name)) e es (v .allowed) m) in omega arith; rises = v .order } in
-    let r = descend-ready (b ∷ p) [] (plant levels es) (plant-proper levels [] es z) in
-    search-offers (size (plant levels es)) k (descend (b ∷ p) [] (plant levels es)) (r .kept) (r .small)
-    ∙ ap (take k) (rank-same (all (descend (b ∷ p) [] (plant levels es))) (matches (b ∷ p) es) (λ x. plant-match levels (b ∷ p) [] es x refl z ∙ ap (λ l. count x (keep (hit (b ∷ p)) l)) (prefixed-none es)))
+    search-offers k (descend (b ∷ p) [] (plant levels es)) (descend-kept (b ∷ p) [] (plant levels es) (plant-proper levels [] es z))
+    ∙ ap (take k)
+    (rank-same (all (descend (b ∷ p) [] (plant levels es))) (matches (b ∷ p) es)
+    (λ x. plant-match levels (b ∷ p) [] es x refl z ∙ ap (λ l. count x (keep (hit (b ∷ p)) l)) (prefixed-none es)))

@@ -29,7 +29,7 @@ use Rattle.trie.proofs.Trie.{highest-append, highest-flat, highest-sort, set-in
 use Rattle.trie_search.proofs.Keys.{Ordered, byFirst-ordered, key, label-key, same-key, setKey}
 use Rattle.trie_search.proofs.Search.{not-outranked, forest-offers, rank-same}
 use lib.Seq.{drop-append-seam}
-use Rattle.trie_search.specs.Search.{Forest, none, tree, search, waiting, size, inside, own, Clear, top, Proper}
+use Rattle.trie_search.specs.Search.{Forest, none, tree, Waiting, known, offers, waiting, inside, own, Clear, top, Proper}
 use Rattle.trie_search.specs.Planted.{keyOf, keyBefore, kidsOf, plantAll, plant}
 
 -- levels are enough, and names rise
@@ -324,8 +324,14 @@ proper-sets d p es (s ∷ ss) z h l ih = (
   (λ e g m n. let r = all-from d p es ss g z (λ u o. h u (inr o)) n in apart-names p es s (r .0) e g (h s (inl refl)) (h (r .0) (inr (r .1))) (l .1 (r .0) (r .1)) (own-from d p es s e z (h s (inl refl)) m) (r .2)),
   by-test (usedUp (length (labelOf s)) s) (λ t. rw (kids-none (plant d) s t) tt) (λ t. rw (kids-some (plant d) s t) (ih (p ++ labelOf s) (remains (length (labelOf s)) s) (set-fine d es s z (h s (inl refl)) t))),
   proper-sets d p es ss z (λ u n. h u (inr n)) (l .2) ih,
+  next-later ss (l .0),
 )
   where
+    next-later : (ts : List (List Entry)) → ((t : List Entry) → t ∈ ts → outranks (keyOf t) (keyOf s) ≡ false) → (v : Waiting) → v ∈ waiting p (plantAll (plant d) ts) → outranks (known v) (entry (p ++ labelOf s) (highest s)) ≡ false
+    next-later [] k v m = absurd m
+    next-later (t ∷ ts) k v (inl q) = rw q (path-rank p (labelOf t) (labelOf s) (highest t) (highest s) ∙ k t (inl refl))
+    next-later (t ∷ ts) k v (inr m) = absurd m
+
     lead : (e : Entry) → (t : List Entry) × (t ∈ (s ∷ ss)) × From p t e → outranks e (entry (p ++ labelOf s) (highest s)) ≡ false
     lead e r = go (r .0) (r .1) (r .2)
       where
@@ -342,7 +348,7 @@ pub prefixed-none : (es : List Entry) → prefixed [] es ≡ es
 prefixed-none [] = refl
 prefixed-none (e ∷ es) = ap (λ l. e ∷ l) (prefixed-none es)
 
-pub plant-offers : (es : List Entry) (k : ℕ) → Fine levels es → search (size (plant levels es)) k (waiting [] (plant levels es)) ≡ take k (byRank es)
+pub plant-offers : (es : List Entry) (k : ℕ) → Fine levels es → offers k (waiting [] (plant levels es)) ≡ take k (byRank es)
 plant-offers es k z =
     forest-offers [] (plant levels es) k (plant-proper levels [] es z)
     ∙ ap (take k) (rank-same (inside [] (plant levels es)) es (λ q. plant-count levels [] es z q ∙ ap (count q) (prefixed-none es)))
@@ -351,7 +357,7 @@ keep-every : (es : List Entry) → matches [] es ≡ es
 keep-every [] = refl
 keep-every (e ∷ es) = ap (λ l. e ∷ l) (keep-every es)
 
-pub book-offers : (es : List Entry) (k : ℕ) → valid es ≡ true → search (size (plant levels es)) k (waiting [] (plant levels es)) ≡ completion es [] k
+pub book-offers : (es : List Entry) (k : ℕ) → valid es ≡ true → offers k (waiting [] (plant levels es)) ≡ completion es [] k
 unfolding completion
 book-offers es k h =
     let v = valid-of es h in

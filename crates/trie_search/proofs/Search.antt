@@ -19,7 +19,7 @@ use Rattle.octets.proofs.Tests.{and-true, by-test, eqb-self}
 use Rattle.entries.specs.Entries.{Entry, byRank, entry, outranks}
 use Rattle.entries.proofs.Rank.{not-outranks-trans, outranks-asym, outranks-cases, outranks-irrefl, outranks-total, outranks-trans, rank-first, rank-sorted}
 use Rattle.entries.proofs.Same.{sorted-unique}
-use Rattle.trie_search.specs.Search.{Forest, none, tree, Waiting, wait, waiting, known, waitsBefore, putIn, search, inside, held, size, Clear, top, own, Proper}
+use Rattle.trie_search.specs.Search.{Forest, none, tree, Waiting, wait, waiting, known, waitsBefore, putIn, Turn, follow, offers, inside, held, Clear, top, own, Proper}
 
 abbrev pub flat : List Waiting → List Entry
 flat ws = concatMap held ws
@@ -261,27 +261,6 @@ in-more p (tree l s c n) ws v m = go (insert-in waitsBefore v (wait p l s c n) w
     go (inl q) = inl (inl q)
     go (inr m) = inr m
 
--- how much there is to search
-abbrev pub weight : Waiting → ℕ
-weight (wait p l s c n) = suc (size c + size n)
-
-abbrev pub weights : List Waiting → ℕ
-weights [] = 0
-weights (w ∷ ws) = weight w + weights ws
-
-weights-insert : (x : Waiting) (ws : List Waiting) → weights (insertBy waitsBefore x ws) ≡ weight x + weights ws
-weights-insert x [] = refl
-weights-insert x (y ∷ ys) = let ih = weights-insert x ys in by-test (waitsBefore y x) (λ t. rw t (omega arith)) (λ t. rw t)
-
-weights-more : (p : List ℕ) (f : Forest) (ws : List Waiting) → weights (putIn (waiting p f) ws) ≡ size f + weights ws
-weights-more p none ws = omega arith
-weights-more p (tree l s c n) ws = weights-insert (wait p l s c n) ws
-
-weights-take : (k : ℕ) (ws : List Waiting) → weights (take k ws) ≤ weights ws
-weights-take zero ws = omega arith
-weights-take (suc k) [] = omega arith
-weights-take (suc k) (w ∷ ws) = let ih = weights-take k ws in omega arith
-
 -- the children and the next sibling of a waiting node
 module _ (p l : List ℕ) (s : ℕ) (n : Forest) (ws : List Waiting) where
   leaf-pair : Kept (wait p l s none n ∷ ws) → (v : Waiting) → v ∈ ws → Pair p n v
@@ -334,45 +313,126 @@ module _ (p l : List ℕ) (s : ℕ) (n : Forest) (ws : List Waiting) where
         go v (inl m) = kids-next k v m
         go v (inr m) = kids-pair k v m
 
--- the search
-pub search-offers : (f k : ℕ) (ws : List Waiting) → Kept ws → weights ws ≤ f → search f k ws ≡ take k (byRank (flat ws))
-search-offers zero k [] z h = sym (take-nil k)
-search-offers zero k (wait p l s c n ∷ ws) z h = absurd (omega arith)
-search-offers (suc f) zero ws z h = refl
-search-offers (suc f) (suc k) [] z h = refl
-search-offers (suc f) (suc k) (wait p l s none n ∷ ws) z h =
+-- the first child goes first of all that wait: it has the score of its parent, and what waits with that score has a later path that does not go on from the parent's
+known-behind :
+    (v : Waiting) (p l w : List ℕ) (s : ℕ) → outranks (known v) (entry (p ++ l) s) ≡ false → begins (p ++ l) (known v .name) ≡ false
+    → begins (p ++ l) w ≡ true → outranks (known v) (entry w s) ≡ false
+known-behind v p l w s h k b =
+    let le = not-outranked (known v) (entry (p ++ l) s) h in
+    by-test (ltb (known v .score) s)
+    (λ u. let q : known v .score < s = ltb-true (known v .score) s u in rank-low (known v) (entry w s) q)
+    (λ u.
+    let q : s ≤ known v .score = ltb-false (known v .score) s u in
+    let e : known v .score ≡ s = omega arith in
+    rank-name (known v) (entry w s) e ∙ not-below (p ++ l) (known v .name) w (sym (rank-name (known v) (entry (p ++ l) s) e) ∙ h) k b)
+
+-- what begins what is known of a node begins its best entry's name
+begins-best : (v : Waiting) (u : List ℕ) → begins u (known v .name) ≡ true → begins u (best v .name) ≡ true
+begins-best (wait p l s k n) u h =
+    let a = begins-split u (p ++ l) h in
+    begins-more u (drop (length u) (p ++ l)) (top p (tree l s k n) .name) (rw (← a) (top-begins p l s k n))
+
+insert-first : (x : Waiting) (ws : List Waiting) → ((v : Waiting) → v ∈ ws → outranks (known v) (known x) ≡ false) → insertBy waitsBefore x ws ≡ x ∷ ws
+insert-first x [] h = refl
+insert-first x (y ∷ ys) h = rw (h y (inl refl))
+
+module _ (p l : List ℕ) (s : ℕ) (n : Forest) (ws : List Waiting) (a : List ℕ) (b : ℕ) (c d : Forest) (z : Kept (wait p l s (tree a b c d) n ∷ ws)) where
+  abbrev more : List Waiting
+  more = putIn (waiting p n) ws
+
+  child-score : b ≡ s
+  child-score = sym (z .0 .5 .1) ∙ z .0 .1
+
+  not-inside : (v : Waiting) → ((e : Entry) → e ∈ held v → begins (p ++ l) (e .name) ≡ true → tree a b c d ≡ none) → begins (p ++ l) (known v .name) ≡ false
+  not-inside v h =
+      by-test (begins (p ++ l) (known v .name))
+      (λ t. absurd (kid-none p l s n ws a b c d (h (best v) (best-in v) (begins-best v (p ++ l) t))))
+      (λ t. t)
+
+  others-behind : (v : Waiting) → v ∈ more → outranks (known v) (entry ((p ++ l) ++ a) b) ≡ false
+  others-behind v m = rw child-score (go (in-more p n ws v m))
+    where
+      apart : (v ∈ waiting p n) ⊎ (v ∈ ws) → (e : Entry) → e ∈ held v → begins (p ++ l) (e .name) ≡ true → tree a b c d ≡ none
+      apart (inl o) e i = in-next n (z .0 .2 .0) v o e i
+        where
+          in-next :
+              (f : Forest) → ((g : Entry) → g ∈ inside p f → begins (p ++ l) (g .name) ≡ true → tree a b c d ≡ none) → (u : Waiting) → u ∈ waiting p f
+              → (g : Entry) → g ∈ held u → begins (p ++ l) (g .name) ≡ true → tree a b c d ≡ none
+          in-next none h u j g r = absurd j
+          in-next (tree l′ s′ c′ n′) h u (inl q) g r = h g (rw q at r)
+          in-next (tree l′ s′ c′ n′) h u (inr j) g r = absurd j
+      apart (inr o) e i = z .1 v o .apart .0 e i
+
+      lower : (v ∈ waiting p n) ⊎ (v ∈ ws) → outranks (known v) (entry (p ++ l) s) ≡ false
+      lower (inl o) = z .0 .7 v o
+      lower (inr o) = z .2 v o
+
+      go : (v ∈ waiting p n) ⊎ (v ∈ ws) → outranks (known v) (entry ((p ++ l) ++ a) s) ≡ false
+      go o = known-behind v p l ((p ++ l) ++ a) s (lower o) (not-inside v (apart o)) (begins-append (p ++ l) a)
+
+  child-first : putIn (waiting (p ++ l) (tree a b c d)) more ≡ wait (p ++ l) a b c d ∷ more
+  child-first = insert-first (wait (p ++ l) a b c d) more others-behind
+
+-- one turn: the entry offered is the first in rank, and what waits then has the next k
+pub record Turned (k : ℕ) (all : List Waiting) (t : Turn) : Type 0 where
+  pub kept : Kept (t .waits)
+  pub first : take (suc k) (byRank (flat all)) ≡ t .offered ∷ take k (byRank (flat (t .waits)))
+
+follow-turns :
+    (k : ℕ) (p l : List ℕ) (s : ℕ) (kids n : Forest) (ws : List Waiting) → Kept (wait p l s kids n ∷ ws)
+    → Turned k (wait p l s kids n ∷ ws) (follow k p l s kids n ws)
+follow-turns k p l s none n ws z =
     let more = putIn (waiting p n) ws in
-    let a = weights-more p n ws in
-    let b = weights-take k more in
     let km = leaf-kept p l s n ws z in
-    let ih = search-offers f k (take k more) (kept-take k more km) (omega arith) in
     let r : byRank (flat (wait p l s none n ∷ ws)) ≡ entry (p ++ l) s ∷ byRank (inside p n ++ flat ws) =
     rank-first (entry (p ++ l) s) (flat (wait p l s none n ∷ ws)) (inside p n ++ flat ws) (λ q. refl) (λ e m. low e (append-in e (inside p n) (flat ws) m))
     in
     let t : byRank (flat more) ≡ byRank (inside p n ++ flat ws) = rank-same (flat more) (inside p n ++ flat ws) (λ q. count-more q p n ws ∙ sym (count-append q (inside p n) (flat ws))) in
-    rw (r, ← t) (ap (λ x. entry (p ++ l) s ∷ x) (ih ∙ few-enough k more km))
+    record { kept = kept-take k more km; first = rw (r, ← t) (ap (λ x. entry (p ++ l) s ∷ x) (sym (few-enough k more km))) }
   where
     low : (e : Entry) → (e ∈ inside p n) ⊎ (e ∈ flat ws) → outranks e (entry (p ++ l) s) ≡ false
     low e (inl m) = z .0 .0 e (inr m)
     low e (inr m) = leads (wait p l s none n) ws z e m
-search-offers (suc f) (suc k) (wait p l s (tree a b c d) n ∷ ws) z h =
-    let kid = tree a b c d in
-    let more = putIn (waiting (p ++ l) (tree a b c d)) (putIn (waiting p n) ws) in
-    let x = weights-more p n ws in
-    let y = weights-more (p ++ l) (tree a b c d) (putIn (waiting p n) ws) in
-    let w = weights-take (suc k) more in
-    let km = inner-kept p l s n ws a b c d z in
-    let ih = search-offers f (suc k) (take (suc k) more) (kept-take (suc k) more km) (omega arith) in
+follow-turns k p l s (tree a b c d) n ws z =
+    let more = putIn (waiting p n) ws in
+    let all = putIn (waiting (p ++ l) (tree a b c d)) more in
     let i = inside (p ++ l) (tree a b c d) in
-    let t : byRank (flat more) ≡ byRank ((i ++ inside p n) ++ flat ws) =
-    rank-same (flat more) ((i ++ inside p n) ++ flat ws)
-    (λ q. let u = count-more q p n ws in let v = count-more q (p ++ l) (tree a b c d) (putIn (waiting p n) ws) in let o = count-append q (i ++ inside p n) (flat ws) in let j = count-append q i (inside p n) in omega arith)
+    let cf = child-first p l s n ws a b c d z in
+    let km : Kept (wait (p ++ l) a b c d ∷ more) = rw cf at (inner-kept p l s n ws a b c d z) in
+    let ih = follow-turns k (p ++ l) a b c d (take k more) (kept-take (suc k) (wait (p ++ l) a b c d ∷ more) km) in
+    let t : byRank (flat all) ≡ byRank ((i ++ inside p n) ++ flat ws) =
+    rank-same (flat all) ((i ++ inside p n) ++ flat ws)
+    (λ q.
+    let u = count-more q p n ws in
+    let v = count-more q (p ++ l) (tree a b c d) more in
+    let o = count-append q (i ++ inside p n) (flat ws) in
+    let j = count-append q i (inside p n) in
+    omega arith)
     in
-    ih ∙ few-enough (suc k) more km ∙ ap (take (suc k)) t
+    record {
+      kept = ih .kept;
+      first =
+          ap (take (suc k)) (sym t) ∙ ap (λ x. take (suc k) (byRank (flat x))) cf
+          ∙ sym (few-enough (suc k) (wait (p ++ l) a b c d ∷ more) km)
+          ∙ ih .first;
+    }
+
+-- the search
+pub search-offers : (k : ℕ) (ws : List Waiting) → Kept ws → offers k ws ≡ take k (byRank (flat ws))
+search-offers zero ws z = refl
+search-offers (suc k) [] z = refl
+search-offers (suc k) (wait p l s c n ∷ ws) z =
+    let t = follow-turns k p l s c n ws z in
+    let ih = search-offers k (follow k p l s c n ws .waits) (t .kept) in
+    ap (λ x. follow k p l s c n ws .offered ∷ x) ih ∙ sym (t .first)
 
 -- a whole forest
-pub forest-offers : (p : List ℕ) (f : Forest) (k : ℕ) → Proper p f → search (size f) k (waiting p f) ≡ take k (byRank (inside p f))
-forest-offers p none k r = sym (take-nil k)
+pub forest-offers : (p : List ℕ) (f : Forest) (k : ℕ) → Proper p f → offers k (waiting p f) ≡ take k (byRank (inside p f))
+forest-offers p none k r = nothing k
+  where
+    nothing : (k : ℕ) → offers k [] ≡ take k (byRank [])
+    nothing zero = refl
+    nothing (suc k) = refl
 forest-offers p (tree l s c n) k r =
-    search-offers (size (tree l s c n)) k (wait p l s c n ∷ []) (r, (λ v m. absurd m), (λ v m. absurd m), tt) (omega arith)
+    search-offers k (wait p l s c n ∷ []) (r, (λ v m. absurd m), (λ v m. absurd m), tt)
     ∙ ap (λ x. take k (byRank x)) (append-nil (inside p (tree l s c n)))

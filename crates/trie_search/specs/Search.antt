@@ -29,18 +29,28 @@ known (wait p l s kids next) = entry (p ++ l) s
 abbrev pub waitsBefore : Waiting → Waiting → Bool
 waitsBefore a b = outranks (known a) (known b)
 
--- waiting nodes in order, with more of them, and no more than k
+-- waiting nodes in order, with more of them
 abbrev pub putIn : List Waiting → List Waiting → List Waiting
 putIn [] ws = ws
 putIn (x ∷ xs) ws = insertBy waitsBefore x (putIn xs ws)
 
--- the search: the first waiting node is offered if it is a leaf, else its first child waits; its next sibling waits
-abbrev pub search : ℕ → ℕ → List Waiting → List Entry
-search zero k ws = []
-search (suc f) zero ws = []
-search (suc f) (suc k) [] = []
-search (suc f) (suc k) (wait p l s none n ∷ ws) = entry (p ++ l) s ∷ search f k (take k (putIn (waiting p n) ws))
-search (suc f) (suc k) (wait p l s (tree a b c d) n ∷ ws) = search f (suc k) (take (suc k) (putIn (waiting (p ++ l) (tree a b c d)) (putIn (waiting p n) ws)))
+-- what a turn of the search gives: the entry offered, and the nodes that wait then
+pub record Turn : Type 0 where
+  pub offered : Entry
+  pub waits : List Waiting
+
+-- One turn, from a node down its first children to a leaf, which is offered. The next sibling of each node on the way comes to wait; no
+-- more than k wait at any time.
+abbrev pub follow : ℕ → List ℕ → List ℕ → ℕ → Forest → Forest → List Waiting → Turn
+follow k p l s none next ws = record { offered = entry (p ++ l) s; waits = take k (putIn (waiting p next) ws) }
+follow k p l s (tree a b c d) next ws = follow k (p ++ l) a b c d (take k (putIn (waiting p next) ws))
+
+-- the search: one turn from the first of those that wait, until k are offered or none waits; the others are no more than are still to be offered
+abbrev pub offers : ℕ → List Waiting → List Entry
+offers zero ws = []
+offers (suc k) [] = []
+offers (suc k) (wait p l s kids next ∷ ws) =
+    follow k p l s kids next ws .offered ∷ offers k (follow k p l s kids next ws .waits)
 
 -- the entries of a forest at a path
 abbrev pub inside : List ℕ → Forest → List Entry
@@ -50,10 +60,6 @@ inside p (tree l s (tree a b c d) next) = inside (p ++ l) (tree a b c d) ++ insi
 
 abbrev pub held : Waiting → List Entry
 held (wait p l s kids next) = inside p (tree l s kids next)
-
-abbrev pub size : Forest → ℕ
-size none = 0
-size (tree l s kids next) = suc (size kids + size next)
 
 -- nothing outside lies under a sibling, unless it is a leaf
 abbrev pub Clear : List ℕ → Forest → List Entry → Type 0
@@ -71,7 +77,7 @@ own p l s none = entry (p ++ l) s ∷ []
 own p l s (tree a b c d) = inside (p ++ l) (tree a b c d)
 
 -- what the search needs of a forest: no entry outranks what is known of its first node, whose score is that of its best entry; siblings and
--- what they hold lie apart; so do all forests in it
+-- what they hold lie apart; so do all forests in it; the next sibling does not come before it
 abbrev pub Proper : List ℕ → Forest → Type 0
 Proper p none = Unit {0}
 Proper p (tree l s kids next) =
@@ -82,3 +88,4 @@ Proper p (tree l s kids next) =
     × ((e f : Entry) → e ∈ own p l s kids → f ∈ inside p next → e .name ≡ f .name → ⊥)
     × Proper (p ++ l) kids
     × Proper p next
+    × ((v : Waiting) → v ∈ waiting p next → outranks (known v) (entry (p ++ l) s) ≡ false)
