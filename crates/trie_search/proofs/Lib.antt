@@ -2,3 +2,5 @@ pub mod Keys
 pub mod Search
 pub mod Planted
 pub mod Descend
+pub mod Bound
+pub mod Stands
