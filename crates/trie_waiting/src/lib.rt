@@ -1,8 +1,13 @@
-// The nodes of a trie that wait in a best-first search, by value, in rank.
+// The nodes of a trie that wait in a search, by value and in rank: the best first, at most 16.
 ghost use mathlib.Core.Path.{_≡_};
-ghost use Prim.Native.Nat.{_≤_};
+ghost use Prim.Native.Nat.{_<_, _≤_};
+ghost use lib.ListN.{drop};
+ghost use Rattle.entries.specs.Completion.{maxCount};
+ghost use Rattle.entries.specs.Names.{longestName};
+ghost use Rattle.trie_waiting.specs.Waits.{Put, Ready, Short, isBefore, placeAmong, putAt, putIn, waits};
 
-// A node that waits: the path down to it with its own label, its score, where it stands, from where its child field counts, and whether it waits without later siblings.
+// A node that waits: the path down to it with its own label, and its score; where it stands in the trie; from where its child field
+// counts; whether no later sibling waits with it.
 pub struct Waiting {
     pub path: [u8; 48],
     pub len: usize,
@@ -12,15 +17,16 @@ pub struct Waiting {
     pub last: bool,
 }
 
-// At most 16 nodes that wait, the best first.
+// The nodes that wait, the best first.
 pub struct Queue {
     pub nodes: [Waiting; 16],
     pub count: usize,
 }
 
-// Whether a comes before b.
+// Whether a comes before b: the higher score, at equal scores the earlier path.
 pub fn is_before(a: Waiting, b: Waiting) -> bool
-    requires { ⌜ (a .len ≤ 48) × (b .len ≤ 48) ⌝ }
+    requires { ⌜ (a .len ≤ longestName) × (b .len ≤ longestName) ⌝ }
+    ensures { λ r. ⌜ r ≡ isBefore a b ⌝ }
 {
     if a.score != b.score {
         return b.score < a.score;
@@ -32,8 +38,11 @@ pub fn is_before(a: Waiting, b: Waiting) -> bool
     octets::is_below(&p[..n], &q[..m])
 }
 
-// The place of a node.
-pub fn place_of(q: Queue, x: Waiting) -> usize {
+// How many nodes come before x.
+pub fn place_of(q: Queue, x: Waiting) -> usize
+    requires { ⌜ Ready q × (x .len ≤ longestName) ⌝ }
+    ensures { λ r. ⌜ r ≡ placeAmong x (waits q) ⌝ }
+{
     let nodes = q.nodes;
     let count = q.count;
     let mut i = 0;
@@ -47,10 +56,13 @@ pub fn place_of(q: Queue, x: Waiting) -> usize {
     i
 }
 
-// Puts a node in at place i.
-pub fn put_at(q: Queue, i: usize, x: Waiting, most: usize) -> Queue {
-    let mut nodes = q.nodes;
+// Puts x at place i; if there are then more than `most`, the last is dropped.
+pub fn put_at(q: Queue, i: usize, x: Waiting, most: usize) -> Queue
+    requires { ⌜ (i ≤ q .count) × (q .count ≤ most) × (most ≤ maxCount) ⌝ }
+    ensures { λ r. ⌜ Put most (putAt i x (waits q)) r ⌝ }
+{
     let count = q.count;
+    let mut nodes = q.nodes;
     let mut carry = x;
     let mut j = i;
     while j < count {
@@ -69,5 +81,33 @@ pub fn put_at(q: Queue, i: usize, x: Waiting, most: usize) -> Queue {
     Queue {
         nodes: nodes,
         count: count,
+    }
+}
+
+// Puts x in its place; if there are then more than `most`, the last is dropped.
+pub fn put(q: Queue, x: Waiting, most: usize) -> Queue
+    requires { ⌜ Ready q × (x .len ≤ longestName) × (q .count ≤ most) × (most ≤ maxCount) ⌝ }
+    ensures { λ r. ⌜ Put most (putIn x (waits q)) r ⌝ }
+{
+    let i = place_of(q, x);
+    put_at(q, i, x, most)
+}
+
+// The nodes that wait behind the first.
+pub fn rest(q: Queue) -> Queue
+    requires { ⌜ (0 < q .count) × (q .count ≤ maxCount) ⌝ }
+    ensures { λ r. ⌜ waits r ≡ drop 1 (waits q) ⌝ }
+{
+    let count = q.count;
+    let mut nodes = q.nodes;
+    let mut i = 1;
+    while i < count {
+        let y = nodes[i];
+        nodes[i - 1] = y;
+        i += 1;
+    }
+    Queue {
+        nodes: nodes,
+        count: count - 1,
     }
 }
