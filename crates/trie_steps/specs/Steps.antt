@@ -2,12 +2,13 @@
 use Prim.Native.Nat.{_+_, _-_, _≤_, ℕ}
 use mathlib.Core.Path.{_≡_}
 use mathlib.Core.Logic.{_⊎_}
+use mathlib.Core.Bool.{false}
 use mathlib.Core.List.{List}
 use lib.ListN.{length}
 use lib.Seq.{sets}
 use Rattle.entries.specs.Names.{longestName}
 use Rattle.trie.specs.Reading.{labelLength, lastMark}
-use Rattle.trie_search.specs.Places.{behindAt, childrenAt, fromBehind, headAt, labelAt, scoreFieldAt}
+use Rattle.trie_search.specs.Places.{behindAt, childrenAt, fromBehind, headAt, isLeafAt, labelAt, scoreFieldAt}
 use Rattle.trie_waiting.specs.declared.Waiting.{Waiting}
 
 -- the sizes of fields
@@ -61,7 +62,7 @@ pub record ChildRoom (bs : List ℕ) (x : Waiting) : Type 0 where
 
 pub record NextRoom (bs : List ℕ) (x : Waiting) : Type 0 where
   pub here : Inside bs (x .at)
-  pub counts : fromBehind bs (x .at) (x .from) ≤ length bs
+  pub below : isLeafAt bs (x .at) ≡ false → firstOf bs x ≤ length bs
   pub own : labelLength (headAt bs (x .at)) ≤ x .len
   pub lower : scoreFieldAt bs (behindOf bs x) ≤ x .score
   pub next : Reached bs (frontOf bs x) (behindOf bs x)

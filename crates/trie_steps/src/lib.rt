@@ -1,12 +1,11 @@
 // The nodes of a trie where they stand, and the steps from one that waits to its first child and to its next sibling.
 use trie_waiting::Waiting;
 ghost use mathlib.Core.Path.{_≡_};
-ghost use Prim.Native.Nat.{_+_, _<_, _≤_};
+ghost use mathlib.Core.Bool.{false};
+ghost use Prim.Native.Nat.{_+_, _≤_};
 ghost use lib.ListN.{length};
 ghost use Rattle.octets.specs.Octets.{numberAt};
-ghost use Rattle.entries.specs.Names.{longestName};
-ghost use Rattle.trie.specs.Reading.{labelLength};
-ghost use Rattle.trie_search.specs.Places.{behindAt, childrenAt, fromBehind, headAt, isLeafAt, labelAt, scoreFieldAt};
+ghost use Rattle.trie_search.specs.Places.{behindAt, childrenAt, fromBehind, isLeafAt, labelAt, scoreFieldAt};
 ghost use Rattle.trie_steps.specs.Steps.{ChildRoom, FieldSize, Inside, NextRoom, Reached, arriveAt, childOf, nextOf};
 
 // The number in the 0, 1, 2 or 4 bytes from index at.
@@ -77,7 +76,7 @@ pub fn is_leaf(trie: &[u8], at: usize) -> bool
 
 // From where the child field of the next sibling counts.
 fn from_behind(trie: &[u8], at: usize, from: usize) -> usize
-    requires { ⌜ Inside (now trie) at × (fromBehind (now trie) at from ≤ length (now trie)) ⌝ }
+    requires { ⌜ Inside (now trie) at × (isLeafAt (now trie) at ≡ false → childrenAt (now trie) at from ≤ length (now trie)) ⌝ }
     ensures { λ r. ⌜ r ≡ fromBehind (now (trie .entry)) at from ⌝ }
 {
     if is_leaf(trie, at) {

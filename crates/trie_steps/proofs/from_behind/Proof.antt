@@ -18,7 +18,7 @@ returns c =
 children-at-requires : tie.Need-children-at-requires
 children-at-requires c κs =
     let z = c .before .before .before in
-    (z .pre .0, (rw (from-inner (z .args .trie .now) (z .args .at) (z .args .from) (sym (c .before .is-leaf .ensures) ∙ c .if1 .left)) at (z .pre .1)))
+    (z .pre .0, z .pre .1 (sym (c .before .is-leaf .ensures) ∙ c .if1 .left))
 
 returns-2 : tie.Need-returns-2
 returns-2 c =
