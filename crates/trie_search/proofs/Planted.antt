@@ -293,7 +293,7 @@ top-sorted : (d : ℕ) (p : List ℕ) (es : List Entry) (ss : List (List Entry))
 top-sorted d p es [] z h l e n ih = absurd (n refl)
 top-sorted d p es (s ∷ ss) z h l e n ih = top-all d p es s ss z (h s (inl refl)) ih ∙ sym (first-high s ss l) ∙ e
 
-top-score : (d : ℕ) (p : List ℕ) (es : List Entry) → Fine d es → (plant d es ≡ none → ⊥) → top p (plant d es) .score ≡ highest es
+pub top-score : (d : ℕ) (p : List ℕ) (es : List Entry) → Fine d es → (plant d es ≡ none → ⊥) → top p (plant d es) .score ≡ highest es
 top-score zero p es z n = absurd (n refl)
 top-score (suc d) p es z n =
     top-sorted d p es (sortBy keyBefore (byFirst es)) z (λ s m. sort-in keyBefore s (byFirst es) m) (sets-placed es (z .rises)) (sorted-high es) n (λ q t f k. top-score d q t f k)

@@ -7,6 +7,7 @@ use mathlib.Core.List.{List, [], _++_, _∷_, append-assoc, map}
 use lib.Dec.{eqb, ltb}
 use lib.ListN.{drop, getD, length, length-append, length-drop, take}
 use lib.Seq.{drop-at, drop-drop, getD-drop, take-at}
+use native.Mathlib.Nat.{not-suc-le-zero}
 use native.Mathlib.Omega.{arith}
 use borrow.Author.Tests.{ltb-true}
 use Rattle.octets.specs.Lists.{_∈_, if_then_else_, sortBy}
@@ -25,12 +26,12 @@ use Rattle.trie.proofs.Header.{Size, header-child, header-label, header-last, h
 use Rattle.trie.proofs.Sets.{OneFirst, byFirst-run, highest-below, label-short, label-split, one-first, stripped}
 use Rattle.trie.proofs.Trie.{Fit, group-some, group-split, node-inner, node-label, node-leaf, node-score, node-split, nodes, own, ownSiblings, set-fit, set-in, siblings-inner, siblings-leaf, sortedSets, unders, valid-fit}
 use Rattle.trie_search.specs.Planted.{keyBefore, kidsOf, plant, plantAll}
-use Rattle.trie_search.specs.Search.{Forest, Proper, known, none, tree, wait, waiting}
+use Rattle.trie_search.specs.Search.{Forest, Proper, known, none, top, tree, wait, waiting}
 use Rattle.trie_search.specs.Places.{Lower, NodeAt, Stands, behindAt, childFieldAt, childrenAt, headAt, isNone, labelAt, fromBehind, isLeafAt, labelFrom, scoreFieldAt, scoreOr}
 use Rattle.trie_search.proofs.Bound.{group-most, most-grows, node-size}
 use Rattle.trie_search.proofs.Nodes.{Reads, behind, reads}
 use Rattle.trie_search.proofs.Search.{not-outranked}
-use Rattle.trie_search.proofs.Planted.{Fine, kids-none, kids-some, plant-proper, remains-planted, set-fine}
+use Rattle.trie_search.proofs.Planted.{Fine, kids-none, kids-some, plant-proper, plant-some, remains-planted, set-fine, top-score}
 
 -- does a sibling have children?
 abbrev anyInner : List Node → Bool
@@ -389,11 +390,20 @@ group-stands bs (suc d) p s es i w fit fine short fits h small =
     (λ t m. sort-in keyBefore t (byFirst es) m)
     (plant-proper (suc d) p es fine)
 
--- what stands in a buffer whose front is a trie image: its forest from byte 7 on, the first score in the first field
+-- the first node of a planted forest has the highest score
+first-high : (f : Forest) (s : ℕ) → Proper [] f → ((f ≡ none → ⊥) → top [] f .score ≡ s) → (f ≡ none → ⊥) → scoreOr 0 f ≡ s
+first-high none s r h n = absurd (n refl)
+first-high (tree l t kids next) s r h n = sym (r .1) ∙ h n
+
+planted : (es : List Entry) → Fine levels es → 0 < length es → plant levels es ≡ none → ⊥
+planted [] z h q = not-suc-le-zero h
+planted (e ∷ es) z h q = plant-some levels e es z q
+
+-- what stands in a buffer whose front is a trie image of some entries: their forest from byte 7 on, the first score in the first field
 pub record InTrie (bs : List ℕ) (es : List Entry) : Type 0 where
   pub stands : Stands bs [] 7 7 (plant levels es)
-  pub field : Field bs 7 (highest es) (plant levels es)
-  pub proper : Proper [] (plant levels es)
+  pub field : Field bs 7 (scoreOr 0 (plant levels es)) (plant levels es)
+  pub some : plant levels es ≡ none → ⊥
 
 pub trie-stands : (bs : List ℕ) (es : List Entry) → valid es ≡ true → begins (trieImage es) bs ≡ true → 0 < length es → InTrie bs es
 unfolding trieImage
@@ -408,5 +418,10 @@ trie-stands bs es h b ne =
     let here : drop 7 bs ≡ body ++ w = ap (drop 7) split ∙ framed-body 0x31 (length es) body w in
     let g = group-most levels (highest es) es in
     let m = most-grows levels (length es) 1024 (v .few) in
-    let r = group-stands bs levels [] (highest es) es 7 w fit fine (λ e m. let n = short e m in omega arith) (highest-below (2 ^ 32) es (omega arith) (fit .fits)) here (omega arith) in
-    record { stands = r .0; field = r .1; proper = plant-proper levels [] es fine }
+    let r =
+    group-stands bs levels [] (highest es) es 7 w fit fine (λ e m. let n = short e m in omega arith)
+    (highest-below (2 ^ 32) es (omega arith) (fit .fits)) here (omega arith)
+    in
+    let some = planted es fine ne in
+    let top-is = first-high (plant levels es) (highest es) (plant-proper levels [] es fine) (top-score levels [] es fine) some in
+    record { stands = r .0; field = rw top-is (r .1); some = some }

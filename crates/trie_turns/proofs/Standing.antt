@@ -21,7 +21,7 @@ use Rattle.trie_steps.specs.Steps.{ChildRoom, Inside, NextRoom, Reached, arrive
 use Rattle.trie_turns.specs.Turns.{Is, Stand, StandAll, withNext}
 
 -- the label is as long as the header says
-label-long : (bs : List ℕ) (at : ℕ) → Inside bs at → length (labelAt bs at) ≡ labelLength (headAt bs at)
+pub label-long : (bs : List ℕ) (at : ℕ) → Inside bs at → length (labelAt bs at) ≡ labelLength (headAt bs at)
 label-long bs at h =
     let a = length-take (labelLength (headAt bs at)) (drop (labelFrom bs at) bs) in
     let b = length-drop (labelFrom bs at) bs in
@@ -35,7 +35,7 @@ take-stored path w n h =
     rw (sets-eq w path n h) (take-at (take n path ++ w) (drop (n + length w) path) (n + length w) (omega arith))
 
 -- a node of a forest where it stands, reached behind its path
-here-is :
+pub here-is :
     (bs path p : List ℕ) (len score at from : ℕ) (l : List ℕ) (s : ℕ) (kids next : Forest)
     → length path ≡ longestName → take len path ≡ p → len ≡ length p → score ≡ s → Stands bs p at from (tree l s kids next)
     → Is bs (arriveAt bs path len score at from) p l s kids next

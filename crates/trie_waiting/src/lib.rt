@@ -1,10 +1,10 @@
 // The nodes of a trie that wait in a search, by value and in rank: the best first, at most 16.
 ghost use mathlib.Core.Path.{_≡_};
-ghost use Prim.Native.Nat.{_<_, _≤_};
+ghost use Prim.Native.Nat.{_-_, _<_, _≤_};
 ghost use lib.ListN.{drop};
 ghost use Rattle.entries.specs.Completion.{maxCount};
 ghost use Rattle.entries.specs.Names.{longestName};
-ghost use Rattle.trie_waiting.specs.Waits.{Put, Ready, Short, isBefore, placeAmong, putAt, putIn, waits};
+ghost use Rattle.trie_waiting.specs.Waits.{Put, Ready, isBefore, placeAmong, putAt, putIn, waits};
 
 // A node that waits: the path down to it with its own label, and its score; where it stands in the trie; from where its child field
 // counts; whether no later sibling waits with it.
@@ -96,7 +96,7 @@ pub fn put(q: Queue, x: Waiting, most: usize) -> Queue
 // The nodes that wait behind the first.
 pub fn rest(q: Queue) -> Queue
     requires { ⌜ (0 < q .count) × (q .count ≤ maxCount) ⌝ }
-    ensures { λ r. ⌜ waits r ≡ drop 1 (waits q) ⌝ }
+    ensures { λ r. ⌜ (waits r ≡ drop 1 (waits q)) × (r .count ≡ q .count - 1) ⌝ }
 {
     let count = q.count;
     let mut nodes = q.nodes;

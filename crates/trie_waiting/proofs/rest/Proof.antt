@@ -1,7 +1,7 @@
 -- `trie_waiting::rest` meets its contract: each node but the first takes the place of the one before it.
 -- Invariant: the nodes in front of i - 1 and those from i on are the nodes behind the first. The nodes left fall. Assumes nothing.
 use Prim.Native.Nat.{_-_, _≤_}
-use mathlib.Core.Path.{_≡_}
+use mathlib.Core.Path.{_≡_, refl}
 use lib.ListN.{length}
 use native.Mathlib.Omega.{arith}
 use borrow.Author.Needs.{needs}
@@ -57,7 +57,7 @@ returns : tie.Need-returns Inv-loop μ-loop
 returns c =
     let z = c .before .before .before in
     let l = c .before .loop in
-    closing-end (z .args .q) (z .pre .1) (l .nodes) nowhere (l .i) (l .inv) (c .loop-test .left)
+    (closing-end (z .args .q) (z .pre .1) (l .nodes) nowhere (l .i) (l .inv) (c .loop-test .left), refl)
 
 pub rest-spec : {M : Type 1} → statement M
 rest-spec =
