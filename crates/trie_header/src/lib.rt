@@ -1,6 +1,6 @@
 // The header byte of a trie node and the sizes of its fields: written and read by shifts and masks.
 ghost use mathlib.Core.Path.{_≡_};
-ghost use Prim.Native.Nat.{_%_, _*_, _+_, _/_, _<_, _≤_};
+ghost use Prim.Native.Nat.{_<_, _≤_};
 ghost use Rattle.octets.specs.Lists.{if_then_else_};
 ghost use Rattle.trie.specs.Reading.{childSize, labelLength, lastMark, scoreSize, sizeAt};
 ghost use Rattle.trie.specs.Trie.{codeOf, headerByte, ownSize, sizeOf};

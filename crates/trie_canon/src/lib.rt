@@ -1,0 +1,1 @@
+// Which sibling groups are those of a set of suffixes: definitions and laws only.
