@@ -1,4 +1,4 @@
-// Completion from a trie that was checked: best-first over at most k nodes that wait.
+// Completion from a trie: the refusals, then best-first over at most k nodes that wait.
 use trie_waiting::Queue;
 use trie_waiting::Waiting;
 ghost use mathlib.Core.Path.{_≡_};
@@ -9,7 +9,8 @@ ghost use lib.Seq.{sets};
 ghost use Rattle.entries.specs.Completion.{completion, maxCount};
 ghost use Rattle.entries.specs.Names.{longestName};
 ghost use Rattle.book.specs.Answers.{entryBytes};
-ghost use Rattle.completion.specs.Complete.{entryRoom};
+ghost use Rattle.completion.specs.Complete.{Completed, entryRoom};
+ghost use Rattle.trie.specs.Calls.{completeTrie};
 ghost use Rattle.trie_waiting.specs.Waits.{knownOf};
 ghost use Rattle.trie_turns.specs.Turns.{Reaches};
 ghost use Rattle.trie_complete.specs.Offers.{Offered, TurnGiven, TurnReady, firstWaits, inTrie, isTrie};
@@ -78,4 +79,26 @@ pub fn complete(trie: &[u8], prefix: &[u8], k: usize, dst: &mut [u8]) -> complet
         bytes: bytes,
         looks: 0,
     }
+}
+
+// Completion from a trie: the entries that the prefix begins, in rank, the first k or all if fewer.
+pub fn complete_trie(trie: &[u8], prefix: &[u8], k: usize, dst: &mut [u8]) -> completion::Completion
+    ensures { λ r. ⌜ Completed (completeTrie (now (trie .entry)) (now (prefix .entry)) k (now (dst .entry))) r (now (dst .exit)) ⌝ }
+{
+    let book_check::Checked::Book(_) = trie_check::check(trie) else {
+        return completion::Completion::Refused(1);
+    };
+    if !entries::is_prefix(prefix) {
+        return completion::Completion::Refused(2);
+    }
+    if k == 0 {
+        return completion::Completion::Refused(3);
+    }
+    if 16 < k {
+        return completion::Completion::Refused(3);
+    }
+    if dst.len() < 53 * k {
+        return completion::Completion::Refused(7);
+    }
+    complete(trie, prefix, k, dst)
 }
