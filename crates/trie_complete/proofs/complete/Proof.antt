@@ -1,0 +1,97 @@
+-- `trie_complete::complete` meets its contract: turn by turn, until k are offered or no node waits.
+-- Invariant: the entries offered so far and those that the search still offers are the completion; the bytes of the first stand at the
+-- front of the destination. The entries still to be offered fall. Assumes nothing.
+use Prim.Native.Nat.{_+_, _*_, _-_, _<_, _≤_, ℕ}
+use mathlib.Core.Path.{_∙_, _≡_, sym}
+use lib.ListN.{length}
+use native.Mathlib.Omega.{arith}
+use Rattle.trie_complete.proofs.Offering.{Offering, offering-full, offering-length, offering-none, offering-on, offering-ready, offering-room, offering-start}
+use borrow.Author.Needs.{needs}
+use Rattle.trie_complete.proofs.complete.Statement.{statement}
+use Rattle.trie_complete.proofs.complete.Tie as tie
+
+abbrev Inv-loop : tie.InvT-loop
+Inv-loop trie prefix k dst₀ queue₀ offered₀ bytes₀ dst queue offered bytes = Offering trie prefix k dst₀ dst queue offered bytes
+
+abbrev μ-loop : tie.MeasureT-loop
+μ-loop trie prefix k dst₀ queue₀ offered₀ bytes₀ dst queue offered bytes = k - offered
+
+start-requires : tie.Need-start-requires Inv-loop μ-loop
+start-requires c κs = search needs
+
+loop-holds : tie.Need-loop-holds Inv-loop μ-loop
+loop-holds c =
+    let z = c .before .before .before .before in
+    offering-start (z .args .trie .now) (z .args .prefix .now) (z .args .k) (z .args .dst .now) (c .start .result) (z .pre .0) (z .pre .1) (c .start .ensures)
+
+same-length : tie.Need-same-length Inv-loop μ-loop
+same-length c = let l = c .before .before .before .loop in offering-length _ _ _ _ _ _ _ _ (l .inv)
+
+returns : tie.Need-returns Inv-loop μ-loop
+returns c =
+    let z = c .before .before .before .before .before .before .before .before in
+    let l = c .before .before .before .loop in
+    offering-none (z .args .trie .now) (z .args .prefix .now) (z .args .k) (z .args .dst .now) (l .dst) (l .queue) (l .offered) (l .bytes) (l .inv) (c .if1 .taken) (z .pre .3)
+
+sub-next-turn : tie.Need-sub-next-turn Inv-loop μ-loop
+sub-next-turn c = search needs
+
+sub-next-turn-2 : tie.Need-sub-next-turn-2 Inv-loop μ-loop
+sub-next-turn-2 c = search needs
+
+next-turn-requires : tie.Need-next-turn-requires Inv-loop μ-loop
+next-turn-requires c κs =
+    let z = c .before .before .before .before .before .before .before .before in
+    let l = c .before .before .before .loop in
+    offering-ready (z .args .trie .now) (z .args .prefix .now) (z .args .k) (z .args .dst .now) (l .dst) (l .queue) (l .offered) (l .bytes) (l .inv) (c .before .before .loop-test .taken) (z .pre .2) (omega (arith, c .if1 .left))
+
+put-leaf-requires : tie.Need-put-leaf-requires Inv-loop μ-loop
+put-leaf-requires c κs =
+    let z = c .before .before .before .before .before .before .before .before .before .before in
+    let l = c .before .before .before .before .before .loop in
+    let g = c .before .next-turn .ensures (l .inv .ws) (l .inv .all) in (
+      g .done .short,
+      offering-room (z .args .trie .now) (z .args .prefix .now) (z .args .k) (z .args .dst .now) (l .dst) (l .queue) (l .offered) (l .bytes) (l .inv) (c .before .before .before .before .loop-test .taken) (z .pre .3),
+    )
+
+add-offered : tie.Need-add-offered Inv-loop μ-loop
+add-offered c = search needs
+
+loop-less : tie.Need-loop-less Inv-loop μ-loop
+loop-less c = search needs
+
+loop-again : tie.Need-loop-again Inv-loop μ-loop
+loop-again c =
+    let z = c .before .before .before .before .before .before .before .before .before .before .before .before .before .before in
+    let l = c .before .before .before .before .before .before .before .before .before .loop in
+    offering-on (z .args .trie .now) (z .args .prefix .now) (z .args .k) (z .args .dst .now) (l .dst) (l .queue) (l .offered) (l .bytes) (l .inv) (c .before .before .before .before .before .before .before .before .loop-test .taken)
+    (c .before .before .before .before .before .next-turn .result) (c .before .before .before .put-leaf .last .0) (c .before .before .before .put-leaf .result) (c .before .before .before .before .before .next-turn .ensures) (c .before .before .before .put-leaf .ensures .0) (c .before .before .before .put-leaf .ensures .1)
+
+same-length-2 : tie.Need-same-length-2 Inv-loop μ-loop
+same-length-2 c = let l = c .before .loop in offering-length _ _ _ _ _ _ _ _ (l .inv)
+
+returns-2 : tie.Need-returns-2 Inv-loop μ-loop
+returns-2 c =
+    let z = c .before .before .before .before .before .before in
+    let l = c .before .loop in
+    offering-full (z .args .trie .now) (z .args .prefix .now) (z .args .k) (z .args .dst .now) (l .dst) (l .queue) (l .offered) (l .bytes) (l .inv) (c .loop-test .left) (z .pre .3)
+
+pub complete-spec : {M : Type 1} → statement M
+complete-spec =
+    tie.close
+    (tie.spec
+    Inv-loop
+    μ-loop
+    start-requires
+    loop-holds
+    same-length
+    returns
+    sub-next-turn
+    sub-next-turn-2
+    next-turn-requires
+    put-leaf-requires
+    add-offered
+    loop-less
+    loop-again
+    same-length-2
+    returns-2)

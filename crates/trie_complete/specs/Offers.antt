@@ -1,0 +1,59 @@
+-- What completion from a checked trie gives.
+use Prim.Native.Nat.{_+_, _<_, _≤_, ℕ}
+use mathlib.Core.Path.{_≡_}
+use mathlib.Core.Bool.{Bool}
+use mathlib.Core.List.{List, _∷_}
+use Rattle.octets.specs.Octets.{overwrite}
+use Rattle.entries.specs.Completion.{maxCount}
+use Rattle.entries.specs.Entries.{Entry}
+use Rattle.book.specs.Answers.{entriesBytes, entriesOf, given, isRead}
+use Rattle.completion.specs.Complete.{offeredAs, offeredOf}
+use Rattle.completion.specs.declared.Completion.{Completion}
+use Rattle.trie.specs.Reading.{readTrie}
+use Rattle.trie.specs.Trie.{levels}
+use Rattle.trie_search.specs.Descend.{start}
+use Rattle.trie_search.specs.Planted.{plant}
+use Rattle.trie_search.specs.Search as search
+use Rattle.trie_search.specs.Search.{follow, wait}
+use Rattle.trie_waiting.specs.declared.Queue.{Queue}
+use Rattle.trie_waiting.specs.Waits.{waits}
+use Rattle.trie_turns.specs.declared.Turn.{Turn}
+use Rattle.trie_turns.specs.Turns.{Done, StandAll}
+
+-- a buffer in which a trie is read, and its entries
+abbrev pub isTrie : List ℕ → Bool
+isTrie bs = isRead (readTrie bs)
+
+abbrev pub inTrie : List ℕ → List Entry
+inTrie bs = entriesOf (readTrie bs)
+
+-- the nodes of its forest that wait at first
+unfoldable pub firstWaits : List ℕ → List ℕ → List search.Waiting
+firstWaits bs p = start p (plant levels (inTrie bs))
+
+-- a turn from a node, with others that wait
+abbrev pub turnOf : ℕ → search.Waiting → List search.Waiting → search.Turn
+turnOf most (wait p l s kids next) ws = follow most p l s kids next ws
+
+-- nodes of a forest wait, at least one
+pub record TurnReady (bs : List ℕ) (q : Queue) (most : ℕ) : Type 0 where
+  pub ws : List search.Waiting
+  pub all : StandAll bs (waits q) ws
+  pub some : 0 < q .count
+  pub few : q .count ≤ most + 1
+  pub most-few : most < maxCount
+
+-- what a turn gives from the first of the nodes
+pub record Gives (bs : List ℕ) (most : ℕ) (ws : List search.Waiting) (r : Turn) : Type 0 where
+  pub first : search.Waiting
+  pub others : List search.Waiting
+  pub split : ws ≡ first ∷ others
+  pub done : Done bs most (turnOf most first others) r
+
+abbrev pub TurnGiven : List ℕ → Queue → ℕ → Turn → Type 0
+TurnGiven bs q most r = (ws : List search.Waiting) → StandAll bs (waits q) ws → Gives bs most ws r
+
+-- the list l is answered, with looks 0, and written at the front of the destination
+pub record Offered (l : List Entry) (before : List ℕ) (r : Completion) (after : List ℕ) : Type 0 where
+  pub answer : offeredOf r ≡ given (offeredAs l 0)
+  pub written : after ≡ overwrite before (entriesBytes l)

@@ -1,0 +1,4 @@
+pub mod Search
+pub mod Planted
+pub mod Descend
+pub mod Places

@@ -1,0 +1,52 @@
+-- `trie_steps::arrive` meets its contract: the label is copied behind the path, and the header says its length and the mark.
+-- No loop, so no invariant. Assumes nothing.
+use mathlib.Core.Path.{_∙_, _≡_, ap}
+use lib.Seq.{sets}
+use Rattle.trie_steps.proofs.Fields.{arrive-is}
+use borrow.Author.Needs.{needs}
+use Rattle.trie_steps.proofs.arrive.Statement.{statement}
+use Rattle.trie_steps.proofs.arrive.Tie as tie
+
+label-requires : tie.Need-label-requires
+label-requires c κs = search needs
+
+slice-aggregate-copy : tie.Need-slice-aggregate-copy
+slice-aggregate-copy c = search needs
+
+copy-requires : tie.Need-copy-requires
+copy-requires c κs = search needs
+
+shared-slice-read-h : tie.Need-shared-slice-read-h
+shared-slice-read-h c = search needs
+
+label-length-requires : tie.Need-label-length-requires
+label-length-requires c κs = search needs
+
+add-t17 : tie.Need-add-t17
+add-t17 c = search needs
+
+last-mark-requires : tie.Need-last-mark-requires
+last-mark-requires c κs = search needs
+
+returns : tie.Need-returns
+returns c =
+    let z = c .before .before .before .before .before .before .before .before in
+    let a = z .args in
+    let own = c .before .before .before .before .before .before .label .ensures in
+    arrive-is (a .trie .now) (a .path) _ (a .len) _ (a .score) (a .at) (a .from) _
+    (c .before .before .before .before .copy .ensures ∙ ap (sets (a .path) (a .len)) own)
+    (c .before .label-length .ensures)
+    (c .last-mark .ensures)
+
+pub arrive-spec : {M : Type 1} → statement M
+arrive-spec =
+    tie.close
+    (tie.spec
+    label-requires
+    slice-aggregate-copy
+    copy-requires
+    shared-slice-read-h
+    label-length-requires
+    add-t17
+    last-mark-requires
+    returns)
