@@ -1,0 +1,213 @@
+-- The entries of a table, row by row; ranges of rows.
+use Prim.Native.Nat.{ℕ, zero, suc, _+_, _*_, _-_, _≤_, _<_, max, min}
+use mathlib.Core.Path.{_≡_, refl, sym, ap, _∙_}
+use mathlib.Core.Bool.{Bool, true, false}
+use mathlib.Core.List.{List, [], _∷_, _++_, map, append-assoc, append-nil}
+use native.Mathlib.Numerals.{add-one}
+use native.Mathlib.Nat.{not-suc-le-zero, add-zero, add-suc, suc-add}
+use native.Mathlib.Omega.{arith}
+use lib.Dec.{eqb, ltb}
+use lib.ListN.{length, getD, set, take, drop, length-append, length-take, length-drop, length-set, length-map, drop-of-length-le}
+use lib.Seq.{slice, slice-cons, slice-empty, length-slice, drop-cons, getD-take, getD-drop, length-take-le, take-suc, take-suc-set, drop-set-lt, take-set-le, getD-set-other, set-split, take-at, take-append-le, append-snoc, drop-drop, take-nil}
+use borrow.Author.Tests.{ltb-true, ltb-false, lt-ltb, le-ltb, eqb-true, eqb-false, eq-eqb, ne-eqb}
+use Rattle.octets.specs.Lists.{if_then_else_, countFrom, insertBy, sortBy}
+use Rattle.octets.specs.Octets.{below, common}
+use Rattle.entries.specs.Entries.{Entry, entry, at, noEntry, rising}
+use Rattle.trie.specs.Trie.{remains, highest, labelOf, byFirst, sameFirst, usedUp}
+use Rattle.octets.proofs.Tests.{by-test, and-intro}
+use Rattle.trie_nodes.specs.declared.Run.{Run}
+use Rattle.trie_nodes.specs.declared.Siblings.{Siblings}
+use Rattle.trie_nodes.specs.Nodes.{held, noRun, Each, Falls}
+use Rattle.trie_rows.proofs.Siblings.{lastOf, label-ends}
+use Rattle.trie_rows.specs.Rows.{rowAt, entries, Table, setAt, restAt, Chain, Starts, Shared, ahead, behind, carried, higher, setOf, Good, Split}
+
+at-count : (f : ℕ → Entry) (i n p : ℕ) → p < n → getD (map f (countFrom i n)) p noEntry ≡ f (i + p)
+at-count f i zero p h = absurd (not-suc-le-zero h)
+at-count f i (suc n) zero h = rw add-zero
+at-count f i (suc n) (suc p) h = at-count f (suc i) n p (omega arith) ∙ ap f (omega arith)
+
+length-count : (f : ℕ → Entry) (i n : ℕ) → length (map f (countFrom i n)) ≡ n
+length-count f i zero = refl
+length-count f i (suc n) = ap suc (length-count f (suc i) n)
+
+module _ (u m sc : List ℕ) where
+  pub entries-length : length (entries u m sc) ≡ length m
+  unfolding entries
+  entries-length = length-count (rowAt u m sc) 0 (length m)
+
+  pub entries-at : (p : ℕ) → p < length m → at (entries u m sc) p ≡ rowAt u m sc p
+  unfolding entries
+  entries-at p h = at-count (rowAt u m sc) 0 (length m) p h ∙ ap (rowAt u m sc) (omega arith)
+
+  module _ (z : Table u m sc) (p : ℕ) (h : p < length m) where
+    row-inside : p * 48 + 48 ≤ length u
+    row-inside = let a = z .rows in omega arith
+
+    pub name-length : length (at (entries u m sc) p .name) ≡ getD m p 0
+    name-length =
+        let a = row-inside in let b = z .short p h in let c = length-drop (p * 48) u in
+        rw (entries-at p h) (length-take-le (getD m p 0) (drop (p * 48) u) (omega arith))
+
+    pub rest-nil : (d : ℕ) → getD m p 0 ≤ d → restAt (entries u m sc) d p ≡ []
+    rest-nil d k = let a = name-length in let q : length (at (entries u m sc) p .name) ≤ d = omega arith in drop-of-length-le (at (entries u m sc) p .name) q
+
+    pub rest-cons : (d : ℕ) → d < getD m p 0 → restAt (entries u m sc) d p ≡ getD u (p * 48 + d) 0 ∷ drop (suc d) (at (entries u m sc) p .name)
+    rest-cons d k =
+        let a = name-length in
+        let e = entries-at p h in
+        let b : getD (at (entries u m sc) p .name) d 0 ≡ getD u (p * 48 + d) 0 = rw e (getD-take (getD m p 0) (drop (p * 48) u) d 0 k ∙ getD-drop (p * 48) u d 0) in
+        drop-cons (at (entries u m sc) p .name) d 0 (omega arith) ∙ ap (λ (x : ℕ). x ∷ drop (suc d) (at (entries u m sc) p .name)) b
+
+  -- do two suffixes begin alike?
+  module _ (z : Table u m sc) (i j d : ℕ) (hi : i < length m) (hj : j < length m) where
+    pub same-none : getD m i 0 ≤ d → (b : Bool) → (b ≡ true → getD m j 0 ≤ d) → (b ≡ false → d < getD m j 0) → b ≡ sameFirst (restAt (entries u m sc) d i) (restAt (entries u m sc) d j)
+    same-none a true f g = rw (rest-nil z i hi d a, rest-nil z j hj d (f refl))
+    same-none a false f g = rw (rest-nil z i hi d a, rest-cons z j hj d (g refl))
+
+    pub same-one : d < getD m i 0 → getD m j 0 ≤ d → false ≡ sameFirst (restAt (entries u m sc) d i) (restAt (entries u m sc) d j)
+    same-one a b = rw (rest-cons z i hi d a, rest-nil z j hj d b)
+
+    pub same-both : d < getD m i 0 → d < getD m j 0 → eqb (getD u (i * 48 + d) 0) (getD u (j * 48 + d) 0) ≡ sameFirst (restAt (entries u m sc) d i) (restAt (entries u m sc) d j)
+    same-both a b = rw (rest-cons z i hi d a, rest-cons z j hj d b)
+
+-- ---- ranges
+pub set-cons : (es : List Entry) (a e d : ℕ) → a < e → e ≤ length es → setAt es a e d ≡ entry (restAt es d a) (at es a .score) ∷ setAt es (suc a) e d
+set-cons es a e d h k = ap (remains d) (slice-cons a e es noEntry h k)
+
+pub set-empty : (es : List Entry) (a d : ℕ) → setAt es a a d ≡ []
+set-empty es a d = ap (remains d) (slice-empty a es)
+
+-- ---- the highest of a range, from the left
+pub highest-on : (es : List Entry) (m a b : ℕ) → a < b → b ≤ length es → max (max m (at es a .score)) (highest (slice (a + 1) b es)) ≡ max m (highest (slice a b es))
+highest-on es m a b h k = rw (slice-cons a b es noEntry h k, add-one a) (omega arith)
+
+-- ---- where a set starts
+pub chain-last : (es : List Entry) (e d : ℕ) → 0 < e → e ≤ length es → Chain (setAt es (e - 1) e d)
+chain-last es e d h k =
+    let q : suc (e - 1) ≡ e = omega arith in
+    rw (set-cons es (e - 1) e d (omega arith) k, q, set-empty es e d) tt
+
+pub chain-more : (es : List Entry) (a e d : ℕ) → 0 < a → a < e → e ≤ length es → sameFirst (restAt es d (a - 1)) (restAt es d a) ≡ true → Chain (setAt es a e d) → Chain (setAt es (a - 1) e d)
+chain-more es a e d z h k t c =
+    let q : suc (a - 1) ≡ a = omega arith in
+    rw (set-cons es (a - 1) e d (omega arith) k, q, set-cons es a e d h k) (t, rw (set-cons es a e d h k) at c)
+
+-- ---- a name used up
+pub used-one : (es : List Entry) (lo hi d : ℕ) → hi - lo ≡ 1 → hi ≤ length es → d ≤ length (at es lo .name) → eqb (length (at es lo .name)) d ≡ usedUp 0 (setAt es lo hi d)
+used-one es lo hi d e k l =
+    let q : suc lo ≡ hi = omega arith in
+    rw (set-cons es lo hi d (omega arith) k, q, set-empty es hi d) (go (eqb (length (at es lo .name)) d) refl)
+  where
+    go : (b : Bool) → eqb (length (at es lo .name)) d ≡ b → b ≡ eqb (length (drop d (at es lo .name))) 0
+    go true t = let z = eqb-true (length (at es lo .name)) d t in let w = length-drop d (at es lo .name) in sym (eq-eqb (length (drop d (at es lo .name))) 0 (omega arith))
+    go false t = let z = eqb-false (length (at es lo .name)) d t in let w = length-drop d (at es lo .name) in sym (ne-eqb (length (drop d (at es lo .name))) 0 (λ y. z (omega arith)))
+
+pub used-not : (es : List Entry) (lo hi d : ℕ) → (hi - lo ≡ 1 → ⊥) → lo ≤ hi → hi ≤ length es → false ≡ usedUp 0 (setAt es lo hi d)
+used-not es lo hi d e l k = sym (go (setAt es lo hi d) refl)
+  where
+    long : length (setAt es lo hi d) ≡ hi - lo
+    long = length-map (slice lo hi es) (λ x. entry (drop d (x .name)) (x .score)) ∙ length-slice lo hi es k
+
+    go : (s : List Entry) → setAt es lo hi d ≡ s → usedUp 0 s ≡ false
+    go [] q = refl
+    go (x ∷ []) q = absurd (e (sym long ∙ ap length q))
+    go (x ∷ y ∷ s) q = refl
+
+-- ---- one more sibling
+pub record Carrying (g : Siblings) (x : Run) (runs : List Run) (carry : Run) (i : ℕ) : Type 0 where
+  pub upto : i ≤ g .count
+  pub long : length runs ≡ 96
+  pub rest : take i runs ++ carried carry (drop i (take (g .count) runs)) ≡ carried x (held g)
+
+pub carrying-start : (g : Siblings) (x : Run) → length (g .runs) ≡ 96 → Carrying g x (g .runs) x 0
+carrying-start g x h = record { upto = omega arith; long = h; rest = refl }
+
+take-snoc : (l : List Run) (i : ℕ) (a : Run) (ys : List Run) → i < length l → take (suc i) (set l i a) ++ ys ≡ take i l ++ (a ∷ ys)
+take-snoc l i a ys h = rw (take-suc-set l i a h) (append-assoc (take i l) (a ∷ []) ys)
+
+drop-take-cons : (l : List Run) (n i : ℕ) → i < n → n ≤ length l → drop i (take n l) ≡ getD l i noRun ∷ drop (suc i) (take n l)
+drop-take-cons l n i h k =
+    let a = length-take-le n l k in
+    drop-cons (take n l) i noRun (omega arith) ∙ ap (λ (x : Run). x ∷ drop (suc i) (take n l)) (getD-take n l i noRun h)
+
+drop-take-set : (l : List Run) (n i : ℕ) (a : Run) → drop (suc i) (take n (set l i a)) ≡ drop (suc i) (take n l)
+drop-take-set [] zero i a = refl
+drop-take-set [] (suc n) i a = refl
+drop-take-set (x ∷ l) zero i a = refl
+drop-take-set (x ∷ l) (suc n) zero a = refl
+drop-take-set (x ∷ l) (suc n) (suc i) a = drop-take-set l n i a
+
+module _ (g : Siblings) (x : Run) (few : g .count < 96) (runs : List Run) (carry : Run) (i : ℕ) (v : Carrying g x runs carry i) where
+  pub carrying-on : i < g .count → (a b : Run) → a ≡ ahead carry (getD runs i noRun) → b ≡ behind carry (getD runs i noRun) → Carrying g x (set runs i a) b (i + 1)
+  carrying-on h a b p q =
+      let l = v .long in
+      let c = v .upto in
+      record {
+        upto = omega arith;
+        long = rw length-set l;
+        rest = rw (add-one i, drop-take-set runs (g .count) i a, take-snoc runs i a (carried b (drop (suc i) (take (g .count) runs))) (omega arith), p, q) (rw (drop-take-cons runs (g .count) i h (omega arith)) at (v .rest));
+      }
+
+  pub carrying-end : g .count ≤ i → take (g .count + 1) (set runs (g .count) carry) ≡ carried x (held g)
+  carrying-end h =
+      let l = v .long in
+      let c = v .upto in
+      let e : i ≡ g .count = omega arith in
+      let n : length (take (g .count) runs) ≤ g .count = omega (arith, length-take (g .count) runs) in
+      rw (add-one (g .count), take-suc-set runs (g .count) carry (omega arith)) (rw (e, drop-of-length-le (take (g .count) runs) n) at (v .rest))
+
+pub highest-end : (es : List Entry) (m i b x : ℕ) → i ≡ b → max m (highest (slice i b es)) ≡ x → m ≡ x
+highest-end es m i b x e q = let z : max m (highest []) ≡ x = rw (e, slice-empty b es) at q in omega arith
+
+-- ---- the label of a range, by its first and last row
+drop-take : (d n : ℕ) (l : List ℕ) → drop d (take n l) ≡ take (n - d) (drop d l)
+drop-take zero n l = let q : n - 0 ≡ n = omega arith in rw q
+drop-take (suc d) zero l = let q : 0 - suc d ≡ 0 = omega arith in rw q
+drop-take (suc d) (suc n) [] = sym (take-nil (suc n - suc d))
+drop-take (suc d) (suc n) (x ∷ l) = let q : suc n - suc d ≡ n - d = omega arith in rw q (drop-take d n l)
+
+pub rest-part : (u m sc : List ℕ) → Table u m sc → (p d : ℕ) → p < length m → d ≤ getD m p 0 → take ((p * 48 + getD m p 0) - (p * 48 + d)) (drop (p * 48 + d) u) ≡ restAt (entries u m sc) d p
+rest-part u m sc z p d h k =
+    let e : (p * 48 + getD m p 0) - (p * 48 + d) ≡ getD m p 0 - d = omega arith in
+    rw (entries-at u m sc p h, e, drop-take d (getD m p 0) (drop (p * 48) u), drop-drop d (p * 48) u)
+
+pub last-at : (es : List Entry) (d k a b : ℕ) → a + suc k ≡ b → b ≤ length es → lastOf (entry (restAt es d a) (at es a .score)) (setAt es (suc a) b d) .name ≡ restAt es d (b - 1)
+last-at es d zero a b e h = let q : b ≡ suc a = omega arith in let r : suc a - 1 ≡ a = omega arith in rw (q, set-empty es (suc a) d, r)
+last-at es d (suc k) a b e h = rw (set-cons es (suc a) b d (omega arith) h) (last-at es d k (suc a) b (omega arith) h)
+
+pub label-length : (es : List Entry) (a b d : ℕ) → a < b → b ≤ length es → rising (setAt es a b d) ≡ true → length (labelOf (setAt es a b d)) ≡ min 7 (common (restAt es d a) (restAt es d (b - 1)))
+label-length es a b d h k r =
+    let c = set-cons es a b d h k in
+    rw c (label-ends (entry (restAt es d a) (at es a .score)) (setAt es (suc a) b d) (rw c at r) ∙ rw (last-at es d (b - a - 1) a b (omega arith) k))
+
+-- a range that rises row by row rises
+rising-rows : (es : List Entry) (d k lo hi : ℕ) → lo + k ≡ hi → hi ≤ length es → ((p : ℕ) → lo ≤ p → suc p < hi → below (restAt es d p) (restAt es d (suc p)) ≡ true) → rising (setAt es lo hi d) ≡ true
+rising-rows es d zero lo hi e h r = let q : lo ≡ hi = omega arith in rw (q, set-empty es hi d)
+rising-rows es d (suc zero) lo hi e h r = let q : suc lo ≡ hi = omega arith in rw (set-cons es lo hi d (omega arith) h, q, set-empty es hi d)
+rising-rows es d (suc (suc k)) lo hi e h r =
+    let ih = rising-rows es d (suc k) (suc lo) hi (omega arith) h (λ p a b. r p (omega arith) b) in
+    let c = set-cons es (suc lo) hi d (omega arith) h in
+    rw (set-cons es lo hi d (omega arith) h, c) (and-intro (below (restAt es d lo) (restAt es d (suc lo))) _ (r lo (omega arith) (omega arith)) (rw c at ih))
+
+pub shared-rising : (es : List Entry) (d lo hi : ℕ) → Shared es d lo hi → rising (setAt es lo hi d) ≡ true
+shared-rising es d lo hi s = let a = s .order in rising-rows es d (hi - lo) lo hi (omega arith) (s .inside) (s .rises)
+
+pub shared-part : (es : List Entry) (d lo hi a b : ℕ) → Shared es d lo hi → lo ≤ a → a ≤ b → b ≤ hi → Shared es d a b
+shared-part es d lo hi a b s h k l =
+    let i = s .inside in
+    record { order = k; inside = omega arith; long = λ p x y. s .long p (omega arith) (omega arith); rises = λ p x y. s .rises p (omega arith) (omega arith) }
+
+-- a row's bytes behind the first d
+pub row-facts : (u m sc : List ℕ) (z : Table u m sc) (p d : ℕ) → p < length m → d ≤ length (at (entries u m sc) p .name) → (d ≤ getD m p 0) × (getD m p 0 ≤ 48) × (p * 48 + 48 ≤ length u)
+row-facts u m sc z p d h k = let a = name-length u m sc z p h in (omega arith, z .short p h, row-inside u m sc z p h)
+
+pub label-code :
+    (u m sc : List ℕ) (z : Table u m sc) (a b d c : ℕ) → a < b → b ≤ length m → Shared (entries u m sc) d a b
+    → c ≡ common (take ((a * 48 + getD m a 0) - (a * 48 + d)) (drop (a * 48 + d) u)) (take (((b - 1) * 48 + getD m (b - 1) 0) - ((b - 1) * 48 + d)) (drop ((b - 1) * 48 + d) u))
+    → length (labelOf (setAt (entries u m sc) a b d)) ≡ min 7 c
+label-code u m sc z a b d c h k s e =
+    let n = entries-length u m sc in
+    let fa = row-facts u m sc z a d (omega arith) (s .long a (omega arith) h) in
+    let fb = row-facts u m sc z (b - 1) d (omega arith) (s .long (b - 1) (omega arith) (omega arith)) in
+    label-length (entries u m sc) a b d h (omega arith) (shared-rising (entries u m sc) d a b s)
+    ∙ ap (min 7) (sym (e ∙ rw (rest-part u m sc z a d (omega arith) (fa .0), rest-part u m sc z (b - 1) d (omega arith) (fb .0))))

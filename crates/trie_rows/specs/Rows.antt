@@ -1,0 +1,99 @@
+-- A table of names: rows of 48 bytes, their lengths, their scores. The sets of suffixes of ranges of rows.
+use Prim.Native.Nat.{ℕ, zero, suc, _+_, _*_, _-_, _≤_, _<_, max}
+use mathlib.Core.Path.{_≡_}
+use mathlib.Core.Bool.{Bool, true, false}
+use mathlib.Core.List.{List, [], _∷_, _++_, map}
+use lib.Dec.{eqb, ltb}
+use lib.ListN.{length, getD, take, drop}
+use lib.Seq.{slice}
+use Rattle.octets.specs.Lists.{if_then_else_, all, countFrom, insertBy, sortBy}
+use Rattle.octets.specs.Octets.{below}
+use Rattle.entries.specs.Entries.{Entry, entry, at}
+use Rattle.entries.specs.Names.{allowedBytes}
+use Rattle.trie.specs.Trie.{remains, highest, labelOf, byFirst, sameFirst, usedUp}
+use Rattle.trie_nodes.specs.declared.Run.{Run}
+use Rattle.trie_nodes.specs.declared.Siblings.{Siblings}
+use Rattle.trie_nodes.specs.Nodes.{held, Each, Falls}
+
+-- the entry of a row
+abbrev pub rowAt : List ℕ → List ℕ → List ℕ → ℕ → Entry
+rowAt names lens scores p = entry (take (getD lens p 0) (drop (p * 48) names)) (getD scores p 0)
+
+-- the entries of the table
+unfoldable pub entries : List ℕ → List ℕ → List ℕ → List Entry
+entries names lens scores = map (rowAt names lens scores) (countFrom 0 (length lens))
+
+pub record Table (names lens scores : List ℕ) : Type 0 where
+  pub rows : length lens * 48 ≤ length names
+  pub scored : length lens ≤ length scores
+  pub few : length lens ≤ 1024
+  pub short : (p : ℕ) → p < length lens → getD lens p 0 ≤ 48
+
+-- what is left of the names of rows lo to hi behind their first d bytes
+abbrev pub setAt : List Entry → ℕ → ℕ → ℕ → List Entry
+setAt es lo hi d = remains d (slice lo hi es)
+
+-- what is left of one name
+abbrev pub restAt : List Entry → ℕ → ℕ → List ℕ
+restAt es d p = drop d (at es p .name)
+
+-- suffixes that begin alike
+abbrev pub Chain : List Entry → Type 0
+Chain [] = Unit {0}
+Chain (x ∷ []) = Unit {0}
+Chain (x ∷ y ∷ zs) = (sameFirst (x .name) (y .name) ≡ true) × Chain (y ∷ zs)
+
+-- where the set that ends before row e begins
+pub record Starts (es : List Entry) (d lo e a : ℕ) : Type 0 where
+  pub from : lo ≤ a
+  pub before : a < e
+  pub chain : Chain (setAt es a e d)
+  pub edge : lo < a → sameFirst (restAt es d (a - 1)) (restAt es d a) ≡ false
+
+-- rows that share their first d bytes
+pub record Shared (es : List Entry) (d lo hi : ℕ) : Type 0 where
+  pub order : lo ≤ hi
+  pub inside : hi ≤ length es
+  pub long : (p : ℕ) → lo ≤ p → p < hi → d ≤ length (at es p .name)
+  pub rises : (p : ℕ) → lo ≤ p → suc p < hi → below (restAt es d p) (restAt es d (suc p)) ≡ true
+
+-- names of allowed bytes
+abbrev pub Named : List Entry → Type 0
+Named es = all (λ e. allowedBytes (e .name)) es ≡ true
+
+-- a run put before the first of a falling list that is not higher: `carried` goes on with what it displaced
+abbrev pub ahead : Run → Run → Run
+ahead x y = if ltb (x .high) (y .high) then y else x
+
+abbrev pub behind : Run → Run → Run
+behind x y = if ltb (x .high) (y .high) then x else y
+
+abbrev pub carried : Run → List Run → List Run
+carried x [] = x ∷ []
+carried x (y ∷ ys) = ahead x y ∷ carried (behind x y) ys
+
+-- sets in falling score
+abbrev pub higher : List Entry → List Entry → Bool
+higher a b = ltb (highest b) (highest a)
+
+abbrev pub setOf : List Entry → ℕ → Run → List Entry
+setOf es d r = setAt es (r .lo) (r .hi) d
+
+pub record Good (es : List Entry) (d lo hi : ℕ) (r : Run) : Type 0 where
+  pub from : lo ≤ r .lo
+  pub some : r .lo < r .hi
+  pub upto : r .hi ≤ hi
+  pub high : r .high ≡ highest (setOf es d r)
+  pub len : r .len ≡ length (labelOf (setOf es d r))
+
+pub record Split (es : List Entry) (d lo hi : ℕ) (g : Siblings) : Type 0 where
+  pub few : g .count ≤ 96
+  pub sets : map (setOf es d) (held g) ≡ sortBy higher (byFirst (setAt es lo hi d))
+  pub good : Each (Good es d lo hi) (held g)
+  pub falls : Falls (held g)
+
+pub record Splittable (names lens scores : List ℕ) (lo hi d : ℕ) : Type 0 where
+  pub table : Table names lens scores
+  pub named : Named (entries names lens scores)
+  pub upto : hi ≤ length lens
+  pub shared : Shared (entries names lens scores) d lo hi

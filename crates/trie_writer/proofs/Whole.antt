@@ -1,0 +1,134 @@
+-- The whole table: all rows share no byte, and what stands under them is the trie's body.
+use Prim.Native.Nat.{ℕ, zero, suc, _+_, _*_, _-_, _≤_, _<_}
+use mathlib.Core.Path.{_≡_, refl, sym, ap, _∙_}
+use mathlib.Core.Logic.{_⊎_, inl, inr}
+use mathlib.Core.Bool.{Bool, true, false, false≢true, _&&_}
+use mathlib.Core.List.{List, [], _∷_, _++_, map}
+use native.Mathlib.Nat.{not-suc-le-zero}
+use native.Mathlib.Omega.{arith}
+use lib.Dec.{leb, ltb}
+use lib.ListN.{length, getD, set, take, drop}
+use lib.Seq.{sets, slice, take-all}
+use borrow.Author.Tests.{leb-true, ne-eqb, lt-ltb, le-ltb}
+use Rattle.octets.specs.Lists.{if_then_else_, all}
+use Rattle.octets.specs.Octets.{below, be}
+use Rattle.entries.specs.Entries.{Entry, entry, at, valid, rising}
+use Rattle.entries.specs.Names.{isName, isPrefix, allowedBytes}
+use Rattle.book.specs.Frame.{framed}
+use Rattle.trie.specs.Trie.{remains, highest, usedUp, groupOf, trieImage}
+use Rattle.octets.proofs.Tests.{and-true}
+use Rattle.octets.proofs.Coding.{length-be}
+use Rattle.entries.proofs.Valid.{Valid, valid-of}
+use Rattle.octets.proofs.Lists.{all-imp}
+use Rattle.book.proofs.Frame.{framed-length}
+use Rattle.trie_nodes.specs.Nodes.{putAt}
+use Rattle.trie_nodes.proofs.Laws.{sets-append}
+use Rattle.trie_rows.specs.Rows.{entries, Table, Named, setAt, restAt, Shared}
+use Rattle.trie_rows.proofs.Laws.{entries-length}
+use Rattle.trie_writer.specs.declared.Written.{Written}
+use Rattle.trie_writer.specs.declared.Written.the-variants.{Refused, Wrote}
+use Rattle.trie_writer.specs.Writing.{underAt, Groupable, Grouped, written, writtenTo}
+use Rattle.trie_writer.proofs.Fuel.{group-bound}
+
+rising-at : (es : List Entry) (p : ℕ) → rising es ≡ true → suc p < length es → below (at es p .name) (at es (suc p) .name) ≡ true
+rising-at [] p r h = absurd (not-suc-le-zero h)
+rising-at (e ∷ []) p r h = absurd (omega arith)
+rising-at (e ∷ f ∷ es) zero r h = and-true (below (e .name) (f .name)) (rising (f ∷ es)) r .0
+rising-at (e ∷ f ∷ es) (suc p) r h = rising-at (f ∷ es) p (and-true (below (e .name) (f .name)) (rising (f ∷ es)) r .1) (omega arith)
+
+remains-none : (es : List Entry) → remains 0 es ≡ es
+remains-none [] = refl
+remains-none (e ∷ es) = ap (λ l. e ∷ l) (remains-none es)
+
+set-all : (es : List Entry) (n : ℕ) → length es ≡ n → setAt es 0 n 0 ≡ es
+set-all es n h = ap (remains 0) (take-all n es (omega arith)) ∙ remains-none es
+
+unused : (es : List Entry) → all (λ e. isName (e .name)) es ≡ true → usedUp 0 es ≡ false
+unfolding isName
+unused [] h = refl
+unused (e ∷ []) h =
+    let a = and-true (isName (e .name)) true h .0 in
+    let b = leb-true 1 (length (e .name)) (and-true (leb 1 (length (e .name))) (isPrefix (e .name)) a .0) in
+    ne-eqb (length (e .name)) 0 (λ q. omega arith)
+unused (e ∷ f ∷ es) h = refl
+
+name-allowed : (w : List ℕ) → isName w ≡ true → allowedBytes w ≡ true
+unfolding isName isPrefix
+name-allowed w h = and-true (leb (length w) 48) (allowedBytes w) (and-true (leb 1 (length w)) (leb (length w) 48 && allowedBytes w) h .1) .1
+
+module _ (u m sc : List ℕ) (z : Table u m sc) (ok : valid (entries u m sc) ≡ true) (top : ℕ) (high : top ≡ highest (slice 0 (length m) (entries u m sc))) where
+  abbrev es : List Entry
+  es = entries u m sc
+
+  v : Valid es
+  v = valid-of es ok
+
+  long : length es ≡ length m
+  long = entries-length u m sc
+
+  top-is : top ≡ highest es
+  top-is = high ∙ ap highest (take-all (length m) es (omega (arith, long)))
+
+  abbrev body : List ℕ
+  body = groupOf 49 (highest es) es
+
+  pub under-all : underAt es 0 (length m) 0 top ≡ body
+  unfolding underAt
+  under-all =
+      let e = set-all es (length m) long in
+      let n : usedUp 0 (setAt es 0 (length m) 0) ≡ false = ap (usedUp 0) e ∙ unused es (v .names) in
+      rw (n, underAt) (λ i. groupOf 49 (top-is i) (e i))
+
+  all-shared : Shared es 0 0 (length m)
+  all-shared =
+      let l = long in
+      record { order = omega arith; inside = omega arith; long = λ p a b. omega arith; rises = λ p a b. rising-at es p (v .order) (omega arith) }
+
+  all-named : Named es
+  all-named = all-imp (λ e. isName (e .name)) (λ e. allowedBytes (e .name)) (λ e h. name-allowed (e .name) h) es (v .names)
+
+  pub body-low : length body ≤ 802816
+  body-low = let a = group-bound 49 (highest es) es in let l = long in let f = z .few in omega arith
+
+  image-length : length (trieImage es) ≡ 7 + length body
+  unfolding trieImage
+  image-length = framed-length 0x31 (length es) body
+
+  pub ready : (n total : ℕ) (put : Bool) → (put ≡ true → length body ≤ total) → (put ≡ true → total ≤ n) → Groupable u m sc 0 (length m) 0 top n total 0 put
+  ready n total put a b =
+      let w = ap length under-all in let l = body-low in
+      record { able = record { table = z; named = all-named; upto = omega arith; shared = all-shared }; low = omega arith; room = λ t. let q = a t in omega arith; inside = b }
+
+  module _ (dst out : List ℕ) (size : ℕ) (g : Grouped es 0 (length m) 0 top dst out 0 0 false size) where
+    pub size-is : size ≡ length body
+    size-is = let e = g .end in let w = ap length under-all in omega arith
+
+    pub measured : out ≡ dst
+    unfolding putAt
+    measured = g .bytes
+
+    pub refused : length out < size + 7 → (Refused 7 ≡ written es dst) × (out ≡ writtenTo es dst)
+    unfolding written writtenTo
+    refused h =
+        let a = size-is in let b = image-length in let c = ap length measured in
+        let t : ltb (length dst) (length (trieImage es)) ≡ true = lt-ltb (length dst) (length (trieImage es)) (omega arith) in
+        (rw t, measured ∙ rw t)
+
+    pub wrote :
+        size + 7 ≤ length out → (d2 d3 d4 : List ℕ) (k n : ℕ) → n ≡ length m → d2 ≡ sets (set out 0 49) 1 (be 4 (size + 7)) → d3 ≡ sets d2 5 (be 2 n)
+        → Grouped es 0 (length m) 0 top d3 d4 (size + 7) 0 true k → (Wrote n (size + 7) ≡ written es dst) × (d4 ≡ writtenTo es dst)
+    unfolding written writtenTo putAt trieImage framed
+    wrote h d2 d3 d4 k n e p q y =
+        let a = size-is in let b = image-length in let c = ap length measured in let l = long in
+        let t : ltb (length dst) (length (trieImage es)) ≡ false = le-ltb (length dst) (length (trieImage es)) (omega arith) in
+        let kb : size + 7 - k ≡ 7 = let f = y .end in let w = ap length under-all in omega arith in
+        let s7 : size + 7 ≡ 7 + length body = omega arith in
+        let ne : n ≡ length es = omega arith in
+        let x = set dst 0 49 in
+        let f4 = be 4 (7 + length body) in
+        let f2 = be 2 (length es) in
+        let whole : sets dst 0 (trieImage es) ≡ sets (sets (sets x 1 f4) 5 f2) 7 body =
+        sets-append x 1 f4 (f2 ++ body) ∙ rw (length-be 4 (7 + length body)) (sets-append (sets x 1 f4) 5 f2 body ∙ rw (length-be 2 (length es)))
+        in
+        let w4 : d4 ≡ sets (sets (sets x 1 f4) 5 f2) 7 body = rw (kb, under-all, q, p, measured, s7, ne) at (y .bytes) in
+        ((rw t (λ i. Wrote (ne i) ((s7 ∙ sym b) i))), rw t (w4 ∙ sym whole))

@@ -1,0 +1,36 @@
+-- What stands under a range of rows, and the call that writes a trie.
+use Prim.Native.Nat.{ℕ, zero, suc, _+_, _*_, _-_, _≤_, _<_}
+use mathlib.Core.Path.{_≡_}
+use mathlib.Core.Bool.{Bool, true, false}
+use mathlib.Core.List.{List, [], _∷_, _++_}
+use lib.Dec.{ltb}
+use lib.ListN.{length, take, drop}
+use lib.Seq.{sets}
+use Rattle.octets.specs.Lists.{if_then_else_}
+use Rattle.entries.specs.Entries.{Entry, valid}
+use Rattle.trie.specs.Trie.{usedUp, groupOf, trieImage}
+use Rattle.trie_nodes.specs.Nodes.{putAt}
+use Rattle.trie_rows.specs.Rows.{entries, Table, setAt, Splittable}
+use Rattle.trie_writer.specs.declared.Written.{Written}
+use Rattle.trie_writer.specs.declared.Written.the-variants.{Refused, Wrote}
+
+-- nothing under a name that is used up, else the group of what is left
+unfoldable pub underAt : List Entry → ℕ → ℕ → ℕ → ℕ → List ℕ
+underAt es lo hi d s = elim (usedUp 0 (setAt es lo hi d)) [ true ↦ [] | false ↦ groupOf 49 s (setAt es lo hi d) ]
+
+pub record Groupable (names lens scores : List ℕ) (lo hi d s n total back : ℕ) (put : Bool) : Type 0 where
+  pub able : Splittable names lens scores lo hi d
+  pub low : back + length (underAt (entries names lens scores) lo hi d s) < 16777216
+  pub room : put ≡ true → back + length (underAt (entries names lens scores) lo hi d s) ≤ total
+  pub inside : put ≡ true → total ≤ n
+
+pub record Grouped (es : List Entry) (lo hi d s : ℕ) (dst out : List ℕ) (total back : ℕ) (put : Bool) (r : ℕ) : Type 0 where
+  pub end : r ≡ back + length (underAt es lo hi d s)
+  pub bytes : out ≡ putAt put dst (total - r) (underAt es lo hi d s)
+
+-- the answer, and every byte of the destination
+unfoldable pub written : List Entry → List ℕ → Written
+written es dst = if ltb (length dst) (length (trieImage es)) then Refused 7 else Wrote (length es) (length (trieImage es))
+
+unfoldable pub writtenTo : List Entry → List ℕ → List ℕ
+writtenTo es dst = if ltb (length dst) (length (trieImage es)) then dst else sets dst 0 (trieImage es)
