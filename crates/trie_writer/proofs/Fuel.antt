@@ -12,7 +12,7 @@ use Rattle.octets.specs.Lists.{if_then_else_, _∈_, insertBy, sortBy, concatMa
 use Rattle.octets.specs.Octets.{be}
 use Rattle.entries.specs.Entries.{Entry, entry}
 use Rattle.entries.specs.Completion.{different}
-use Rattle.trie.specs.Trie.{Node, remains, labelOf, usedUp, byFirst, joinFirst, sameFirst, nodeOf, groupOf, groupBytes, siblings, otherBytes, ownSize, sizeOf, nodeBytes, standsBefore, isLeaf, isLast, firstScore, headerByte}
+use Rattle.trie.specs.Trie.{Node, remains, highest, labelOf, usedUp, byFirst, joinFirst, sameFirst, nodeOf, groupOf, groupBytes, siblings, otherBytes, ownSize, sizeOf, nodeBytes, standsBefore, isLeaf, isLast, firstScore, headerByte}
 use Rattle.octets.proofs.Tests.{by-test}
 use Rattle.octets.proofs.Coding.{length-be}
 use Rattle.octets.proofs.Lists.{sort-in, sort-length}
@@ -54,9 +54,9 @@ node-ext : (a b : List Entry → List ℕ) (s : List Entry) → (usedUp (length 
 unfolding nodeOf
 node-ext a b s h = go (usedUp (length (labelOf s)) s) h
   where
-    go : (t : Bool) → (t ≡ false → a (remains (length (labelOf s)) s) ≡ b (remains (length (labelOf s)) s)) → _≡_ {A = Node} (record { label = labelOf s; score = Rattle.book.specs.Trie.highest s; under = elim t [ true ↦ [] | false ↦ a (remains (length (labelOf s)) s) ] }) (record { label = labelOf s; score = Rattle.book.specs.Trie.highest s; under = elim t [ true ↦ [] | false ↦ b (remains (length (labelOf s)) s) ] })
+    go : (t : Bool) → (t ≡ false → a (remains (length (labelOf s)) s) ≡ b (remains (length (labelOf s)) s)) → _≡_ {A = Node} (record { label = labelOf s; score = highest s; under = elim t [ true ↦ [] | false ↦ a (remains (length (labelOf s)) s) ] }) (record { label = labelOf s; score = highest s; under = elim t [ true ↦ [] | false ↦ b (remains (length (labelOf s)) s) ] })
     go true k = refl
-    go false k = ap (λ (x : List ℕ). record { label = labelOf s; score = Rattle.book.specs.Trie.highest s; under = x }) (k refl)
+    go false k = ap (λ (x : List ℕ). record { label = labelOf s; score = highest s; under = x }) (k refl)
 
 map-ext : {A B : Type 0} (f g : A → B) (xs : List A) → ((x : A) → x ∈ xs → f x ≡ g x) → map f xs ≡ map g xs
 map-ext f g [] h = refl
@@ -138,7 +138,7 @@ group-bound (suc k) s es =
     let o = otherBytes s xs in
     let a = siblings-bound s (o + ownSize o) (ownSize o) xs (λ x m. short x (map-in f x (byFirst es) (sort-in standsBefore x (map f (byFirst es)) m))) (ownSize-le o) in
     let b = sort-length standsBefore (map f (byFirst es)) in
-    let c = length-map′ f (byFirst es) in
+    let c = length-map (byFirst es) f in
     let d = byFirst-count es in
     let e : length (concatMap (λ (x : Node). x .under) xs) ≤ 16 * k * length es =
     rw (← (count-all (concatMap (λ (x : Node). x .under) xs)), count-concat-sort (λ (x : Node). x .under) (λ x. true) standsBefore (map f (byFirst es)), count-all (concatMap (λ (x : Node). x .under) (map f (byFirst es))))

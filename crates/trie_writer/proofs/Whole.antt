@@ -76,7 +76,7 @@ module _ (u m sc : List ℕ) (z : Table u m sc) (ok : valid (entries u m sc) ≡
   unfolding underAt
   under-all =
       let e = set-all es (length m) long in
-      let n : usedUp 0 (setAt es 0 (length m) 0) ≡ false = ap (usedUp 0) e ∙ unused es (v .names) in
+      let n : usedUp 0 (setAt es 0 (length m) 0) ≡ false = ap (usedUp 0) e ∙ unused es (v .allowed) in
       rw (n, underAt) (λ i. groupOf 49 (top-is i) (e i))
 
   all-shared : Shared es 0 0 (length m)
@@ -85,7 +85,7 @@ module _ (u m sc : List ℕ) (z : Table u m sc) (ok : valid (entries u m sc) ≡
       record { order = omega arith; inside = omega arith; long = λ p a b. omega arith; rises = λ p a b. rising-at es p (v .order) (omega arith) }
 
   all-named : Named es
-  all-named = all-imp (λ e. isName (e .name)) (λ e. allowedBytes (e .name)) (λ e h. name-allowed (e .name) h) es (v .names)
+  all-named = all-imp (λ e. isName (e .name)) (λ e. allowedBytes (e .name)) (λ e h. name-allowed (e .name) h) es (v .allowed)
 
   pub body-low : length body ≤ 802816
   body-low = let a = group-bound 49 (highest es) es in let l = long in let f = z .few in omega arith
