@@ -38,10 +38,10 @@ sheet-length {book} b =
     (omega arith, omega (arith, entriesBytes-most (inBook book) (v .allowed), v .few))
 
 -- Reading: the cursor stands at the record of the entry at its index.
-abbrev Reading : List ℕ → Cursor → Type 0
+abbrev pub Reading : List ℕ → Cursor → Type 0
 Reading book c = Ahead (inBook book) book c
 
-read-start : {book : List ℕ} {n : ℕ} {c : Cursor} → Held book n → Started n c → Reading book c
+pub read-start : {book : List ℕ} {n : ℕ} {c : Cursor} → Held book n → Started n c → Reading book c
 read-start {book} {c = c} b t = ahead-first book (inBook book) (held-stored b) c (rw (← b .count) (t .at)) (t .index) (t .len)
 
 -- A step from c to d gave the name of the entry at c.

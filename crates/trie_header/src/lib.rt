@@ -1,0 +1,105 @@
+// The header byte of a trie node and the sizes of its fields: written and read by shifts and masks.
+ghost use mathlib.Core.Path.{_≡_};
+ghost use Prim.Native.Nat.{_%_, _*_, _+_, _/_, _<_, _≤_};
+ghost use Rattle.octets.specs.Lists.{if_then_else_};
+ghost use Rattle.trie.specs.Reading.{childSize, labelLength, lastMark, scoreSize, sizeAt};
+ghost use Rattle.trie.specs.Trie.{codeOf, headerByte, ownSize, sizeOf};
+
+// The smallest size that holds a value.
+pub fn size_of(v: usize) -> usize
+    ensures { λ r. ⌜ r ≡ sizeOf v ⌝ }
+{
+    if v == 0 {
+        return 0;
+    }
+    if v < 256 {
+        return 1;
+    }
+    if v < 65536 {
+        return 2;
+    }
+    4
+}
+
+// The smallest size of a field that counts its own bytes, with so many other bytes in the group.
+pub fn own_size(rest: usize) -> usize
+    ensures { λ r. ⌜ r ≡ ownSize rest ⌝ }
+{
+    if rest < 255 {
+        return 1;
+    }
+    if rest < 65534 {
+        return 2;
+    }
+    4
+}
+
+// Sizes 0, 1, 2, 4 have the codes 0, 1, 2, 3.
+fn code_of(size: usize) -> u8
+    requires { ⌜ size ≤ 4 ⌝ }
+    ensures { λ r. ⌜ r ≡ codeOf size ⌝ }
+{
+    if size == 4 {
+        return 3;
+    }
+    size as u8
+}
+
+// The last-sibling mark in its place.
+fn mark_of(last: bool) -> u8
+    ensures { λ r. ⌜ r ≡ (if last then 8 else 0) ⌝ }
+{
+    if last {
+        return 8;
+    }
+    0
+}
+
+// The header byte of a node with a score field and a child field of these sizes and a label of so many bytes.
+pub fn header(score: usize, child: usize, last: bool, label: usize) -> u8
+    requires { ⌜ (score ≤ 4) × (child ≤ 4) × (label < 8) ⌝ }
+    ensures { λ r. ⌜ r ≡ headerByte score child last label ⌝ }
+{
+    let high = code_of(score);
+    let low = code_of(child);
+    let mark = mark_of(last);
+    (high << 6) | ((low << 4) | (mark | label as u8))
+}
+
+// Size codes 0, 1, 2, 3 mean 0, 1, 2, 4 bytes.
+fn size_at(code: u8) -> usize
+    ensures { λ r. ⌜ r ≡ sizeAt code ⌝ }
+{
+    if code == 3 {
+        return 4;
+    }
+    code as usize
+}
+
+// The score size in bits 7 and 6.
+pub fn score_size(h: u8) -> usize
+    ensures { λ r. ⌜ r ≡ scoreSize h ⌝ }
+{
+    size_at(h >> 6)
+}
+
+// The child size in bits 5 and 4.
+pub fn child_size(h: u8) -> usize
+    ensures { λ r. ⌜ r ≡ childSize h ⌝ }
+{
+    size_at((h >> 4) & 3)
+}
+
+// The last-sibling mark in bit 3.
+pub fn last_mark(h: u8) -> bool
+    ensures { λ r. ⌜ r ≡ lastMark h ⌝ }
+{
+    (h >> 3) & 1 == 1
+}
+
+// The label length in bits 2 to 0.
+pub fn label_length(h: u8) -> usize
+    ensures { λ r. ⌜ r ≡ labelLength h ⌝ }
+{
+    (h & 7) as usize
+}
