@@ -15,60 +15,26 @@ use Rattle.octets.specs.Octets.{below, common}
 use Rattle.entries.specs.Entries.{Entry, entry, at, noEntry, rising}
 use Rattle.trie.specs.Trie.{remains, highest, labelOf, byFirst, sameFirst, usedUp}
 use Rattle.octets.proofs.Tests.{by-test, and-intro}
+use Rattle.trie_table.proofs.Rows.{entries-at, entries-length, rest-cons, rest-nil, row-inside, row-length}
 use Rattle.trie_nodes.specs.declared.Run.{Run}
 use Rattle.trie_nodes.specs.declared.Siblings.{Siblings}
 use Rattle.trie_nodes.specs.Nodes.{held, noRun, Each, Falls}
 use Rattle.trie_rows.proofs.Siblings.{lastOf, label-ends}
-use Rattle.trie_rows.specs.Rows.{rowAt, entries, Table, setAt, restAt, Chain, Starts, Shared, ahead, behind, carried, higher, setOf, Good, Split}
-
-at-count : (f : ℕ → Entry) (i n p : ℕ) → p < n → getD (map f (countFrom i n)) p noEntry ≡ f (i + p)
-at-count f i zero p h = absurd (not-suc-le-zero h)
-at-count f i (suc n) zero h = rw add-zero
-at-count f i (suc n) (suc p) h = at-count f (suc i) n p (omega arith) ∙ ap f (omega arith)
-
-length-count : (f : ℕ → Entry) (i n : ℕ) → length (map f (countFrom i n)) ≡ n
-length-count f i zero = refl
-length-count f i (suc n) = ap suc (length-count f (suc i) n)
+use Rattle.trie_rows.specs.Rows.{setAt, restAt, Chain, Starts, Shared, ahead, behind, carried, higher, setOf, Good, Split}
+use Rattle.trie_table.specs.Table.{rowAt, entries, Table}
 
 module _ (u m sc : List ℕ) where
-  pub entries-length : length (entries u m sc) ≡ length m
-  unfolding entries
-  entries-length = length-count (rowAt u m sc) 0 (length m)
-
-  pub entries-at : (p : ℕ) → p < length m → at (entries u m sc) p ≡ rowAt u m sc p
-  unfolding entries
-  entries-at p h = at-count (rowAt u m sc) 0 (length m) p h ∙ ap (rowAt u m sc) (omega arith)
-
-  module _ (z : Table u m sc) (p : ℕ) (h : p < length m) where
-    row-inside : p * 48 + 48 ≤ length u
-    row-inside = let a = z .rows in omega arith
-
-    pub name-length : length (at (entries u m sc) p .name) ≡ getD m p 0
-    name-length =
-        let a = row-inside in let b = z .short p h in let c = length-drop (p * 48) u in
-        rw (entries-at p h) (length-take-le (getD m p 0) (drop (p * 48) u) (omega arith))
-
-    pub rest-nil : (d : ℕ) → getD m p 0 ≤ d → restAt (entries u m sc) d p ≡ []
-    rest-nil d k = let a = name-length in let q : length (at (entries u m sc) p .name) ≤ d = omega arith in drop-of-length-le (at (entries u m sc) p .name) q
-
-    pub rest-cons : (d : ℕ) → d < getD m p 0 → restAt (entries u m sc) d p ≡ getD u (p * 48 + d) 0 ∷ drop (suc d) (at (entries u m sc) p .name)
-    rest-cons d k =
-        let a = name-length in
-        let e = entries-at p h in
-        let b : getD (at (entries u m sc) p .name) d 0 ≡ getD u (p * 48 + d) 0 = rw e (getD-take (getD m p 0) (drop (p * 48) u) d 0 k ∙ getD-drop (p * 48) u d 0) in
-        drop-cons (at (entries u m sc) p .name) d 0 (omega arith) ∙ ap (λ (x : ℕ). x ∷ drop (suc d) (at (entries u m sc) p .name)) b
-
   -- do two suffixes begin alike?
   module _ (z : Table u m sc) (i j d : ℕ) (hi : i < length m) (hj : j < length m) where
     pub same-none : getD m i 0 ≤ d → (b : Bool) → (b ≡ true → getD m j 0 ≤ d) → (b ≡ false → d < getD m j 0) → b ≡ sameFirst (restAt (entries u m sc) d i) (restAt (entries u m sc) d j)
-    same-none a true f g = rw (rest-nil z i hi d a, rest-nil z j hj d (f refl))
-    same-none a false f g = rw (rest-nil z i hi d a, rest-cons z j hj d (g refl))
+    same-none a true f g = rw (rest-nil u m sc z i hi d a, rest-nil u m sc z j hj d (f refl))
+    same-none a false f g = rw (rest-nil u m sc z i hi d a, rest-cons u m sc z j hj d (g refl))
 
     pub same-one : d < getD m i 0 → getD m j 0 ≤ d → false ≡ sameFirst (restAt (entries u m sc) d i) (restAt (entries u m sc) d j)
-    same-one a b = rw (rest-cons z i hi d a, rest-nil z j hj d b)
+    same-one a b = rw (rest-cons u m sc z i hi d a, rest-nil u m sc z j hj d b)
 
     pub same-both : d < getD m i 0 → d < getD m j 0 → eqb (getD u (i * 48 + d) 0) (getD u (j * 48 + d) 0) ≡ sameFirst (restAt (entries u m sc) d i) (restAt (entries u m sc) d j)
-    same-both a b = rw (rest-cons z i hi d a, rest-cons z j hj d b)
+    same-both a b = rw (rest-cons u m sc z i hi d a, rest-cons u m sc z j hj d b)
 
 -- ---- ranges
 pub set-cons : (es : List Entry) (a e d : ℕ) → a < e → e ≤ length es → setAt es a e d ≡ entry (restAt es d a) (at es a .score) ∷ setAt es (suc a) e d
@@ -199,7 +165,7 @@ shared-part es d lo hi a b s h k l =
 
 -- a row's bytes behind the first d
 pub row-facts : (u m sc : List ℕ) (z : Table u m sc) (p d : ℕ) → p < length m → d ≤ length (at (entries u m sc) p .name) → (d ≤ getD m p 0) × (getD m p 0 ≤ 48) × (p * 48 + 48 ≤ length u)
-row-facts u m sc z p d h k = let a = name-length u m sc z p h in (omega arith, z .short p h, row-inside u m sc z p h)
+row-facts u m sc z p d h k = let a = row-length u m sc z p h in (omega arith, z .short p h, row-inside u m sc z p h)
 
 pub label-code :
     (u m sc : List ℕ) (z : Table u m sc) (a b d c : ℕ) → a < b → b ≤ length m → Shared (entries u m sc) d a b

@@ -11,23 +11,10 @@ use Rattle.octets.specs.Octets.{below}
 use Rattle.entries.specs.Entries.{Entry, entry, at}
 use Rattle.entries.specs.Names.{allowedBytes}
 use Rattle.trie.specs.Trie.{remains, highest, labelOf, byFirst, sameFirst, usedUp}
+use Rattle.trie_table.specs.Table.{Table, entries}
 use Rattle.trie_nodes.specs.declared.Run.{Run}
 use Rattle.trie_nodes.specs.declared.Siblings.{Siblings}
 use Rattle.trie_nodes.specs.Nodes.{held, Each, Falls}
-
--- the entry of a row
-abbrev pub rowAt : List ℕ → List ℕ → List ℕ → ℕ → Entry
-rowAt names lens scores p = entry (take (getD lens p 0) (drop (p * 48) names)) (getD scores p 0)
-
--- the entries of the table
-unfoldable pub entries : List ℕ → List ℕ → List ℕ → List Entry
-entries names lens scores = map (rowAt names lens scores) (countFrom 0 (length lens))
-
-pub record Table (names lens scores : List ℕ) : Type 0 where
-  pub rows : length lens * 48 ≤ length names
-  pub scored : length lens ≤ length scores
-  pub few : length lens ≤ 1024
-  pub short : (p : ℕ) → p < length lens → getD lens p 0 ≤ 48
 
 -- what is left of the names of rows lo to hi behind their first d bytes
 abbrev pub setAt : List Entry → ℕ → ℕ → ℕ → List Entry

@@ -17,8 +17,9 @@ use Rattle.trie_nodes.specs.declared.Run.{Run}
 use Rattle.trie_nodes.specs.declared.Siblings.{Siblings}
 use Rattle.trie_nodes.specs.Nodes.{held, noRun, ownBytes, putAt, Each, Writable, Finishing, Finished}
 use Rattle.trie_nodes.proofs.Laws.{sets-append}
-use Rattle.trie_rows.specs.Rows.{entries, Table, Named, setAt, Shared, setOf, Good, Split, Splittable}
-use Rattle.trie_rows.proofs.Laws.{entries-length}
+use Rattle.trie_rows.specs.Rows.{Named, setAt, Shared, setOf, Good, Split, Splittable}
+use Rattle.trie_table.specs.Table.{entries, Table}
+use Rattle.trie_table.proofs.Rows.{entries-length}
 use Rattle.trie_writer.specs.Writing.{underAt, Groupable, Grouped}
 use Rattle.trie_writer.proofs.Shown.{underRun, fill, in-group, group-runs, filled-sound, filled-falls, run-shared, run-falls, run-deep}
 

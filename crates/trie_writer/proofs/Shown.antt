@@ -26,8 +26,10 @@ use Rattle.trie_nodes.specs.declared.Next.{Next}
 use Rattle.trie_nodes.specs.declared.Siblings.{Siblings}
 use Rattle.trie_nodes.specs.Nodes.{held, firstHigh, endsHere, childSize, childValue, after, nodesLength, labelIn, oneNode, nodesBytes, plain, firstOf, ownBytes, Sound, Each, Falls}
 use Rattle.trie_nodes.proofs.Laws.{length-nodesBytes}
-use Rattle.trie_rows.specs.Rows.{rowAt, entries, Table, setAt, restAt, Shared, Named, higher, setOf, Good, Split}
-use Rattle.trie_rows.proofs.Laws.{set-cons, shared-rising, row-facts, rest-part, name-length, entries-length, entries-at}
+use Rattle.trie_rows.specs.Rows.{setAt, restAt, Shared, Named, higher, setOf, Good, Split}
+use Rattle.trie_table.specs.Table.{rowAt, entries, Table}
+use Rattle.trie_rows.proofs.Laws.{set-cons, shared-rising, row-facts, rest-part}
+use Rattle.trie_table.proofs.Rows.{row-length, entries-length, entries-at}
 use Rattle.trie_rows.proofs.Splitting.{set-member}
 use Rattle.trie_rows.proofs.Siblings.{setBefore, sort-higher, byFirst-ordered}
 use Rattle.trie_writer.specs.Writing.{underAt}
@@ -157,7 +159,7 @@ module _ (u m sc : List ℕ) (z : Table u m sc) (lo hi d : ℕ) (sh : Shared (en
     len-low =
         let a = label-within own (entry (restAt es d (r .lo)) (at es (r .lo) .score)) first-in in
         let b = length-drop d (at es (r .lo) .name) in
-        let c = name-length u m sc z (r .lo) row-low in
+        let c = row-length u m sc z (r .lo) row-low in
         rw (g .len) (omega arith)
 
     pub run-deep : d + r .len ≤ 48

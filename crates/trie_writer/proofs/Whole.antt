@@ -17,17 +17,18 @@ use Rattle.entries.specs.Names.{isName, isPrefix, allowedBytes}
 use Rattle.book.specs.Frame.{framed}
 use Rattle.trie.specs.Trie.{remains, highest, usedUp, groupOf, trieImage}
 use Rattle.octets.proofs.Tests.{and-true}
-use Rattle.octets.proofs.Coding.{length-be}
 use Rattle.entries.proofs.Valid.{Valid, valid-of}
 use Rattle.octets.proofs.Lists.{all-imp}
 use Rattle.book.proofs.Frame.{framed-length}
 use Rattle.trie_nodes.specs.Nodes.{putAt}
-use Rattle.trie_nodes.proofs.Laws.{sets-append}
-use Rattle.trie_rows.specs.Rows.{entries, Table, Named, setAt, restAt, Shared}
-use Rattle.trie_rows.proofs.Laws.{entries-length}
-use Rattle.trie_writer.specs.declared.Written.{Written}
-use Rattle.trie_writer.specs.declared.Written.the-variants.{Refused, Wrote}
-use Rattle.trie_writer.specs.Writing.{underAt, Groupable, Grouped, written, writtenTo}
+use Rattle.octets.proofs.Stores.{sets-overwrite}
+use Rattle.sheet.proofs.Listing.{frame-stores}
+use Rattle.trie_rows.specs.Rows.{Named, setAt, restAt, Shared}
+use Rattle.trie_table.specs.Table.{entries, Table}
+use Rattle.trie_table.proofs.Rows.{entries-length}
+use Rattle.trie_writer.specs.declared.Wrote.{Wrote}
+use Rattle.trie_writer.specs.declared.Wrote.the-variants.{Bytes, TooShort}
+use Rattle.trie_writer.specs.Writing.{underAt, Groupable, Grouped, Answered}
 use Rattle.trie_writer.proofs.Fuel.{group-bound}
 
 rising-at : (es : List Entry) (p : ℕ) → rising es ≡ true → suc p < length es → below (at es p .name) (at es (suc p) .name) ≡ true
@@ -56,79 +57,87 @@ name-allowed : (w : List ℕ) → isName w ≡ true → allowedBytes w ≡ true
 unfolding isName isPrefix
 name-allowed w h = and-true (leb (length w) 48) (allowedBytes w) (and-true (leb 1 (length w)) (leb (length w) 48 && allowedBytes w) h .1) .1
 
-module _ (u m sc : List ℕ) (z : Table u m sc) (ok : valid (entries u m sc) ≡ true) (top : ℕ) (high : top ≡ highest (slice 0 (length m) (entries u m sc))) where
-  abbrev es : List Entry
-  es = entries u m sc
+module _
+    {u m sc : List ℕ} (z : Table u m sc) (ok : valid (entries u m sc) ≡ true) {top : ℕ} (high : top ≡ highest (slice 0 (length m) (entries u m sc)))
+  where
+    abbrev es : List Entry
+    es = entries u m sc
 
-  v : Valid es
-  v = valid-of es ok
+    v : Valid es
+    v = valid-of es ok
 
-  long : length es ≡ length m
-  long = entries-length u m sc
+    long : length es ≡ length m
+    long = entries-length u m sc
 
-  top-is : top ≡ highest es
-  top-is = high ∙ ap highest (take-all (length m) es (omega (arith, long)))
+    top-is : top ≡ highest es
+    top-is = high ∙ ap highest (take-all (length m) es (omega (arith, long)))
 
-  abbrev body : List ℕ
-  body = groupOf 49 (highest es) es
+    abbrev body : List ℕ
+    body = groupOf 49 (highest es) es
 
-  pub under-all : underAt es 0 (length m) 0 top ≡ body
-  unfolding underAt
-  under-all =
-      let e = set-all es (length m) long in
-      let n : usedUp 0 (setAt es 0 (length m) 0) ≡ false = ap (usedUp 0) e ∙ unused es (v .allowed) in
-      rw (n, underAt) (λ i. groupOf 49 (top-is i) (e i))
+    pub under-all : underAt es 0 (length m) 0 top ≡ body
+    unfolding underAt
+    under-all =
+        let e = set-all es (length m) long in
+        let n : usedUp 0 (setAt es 0 (length m) 0) ≡ false = ap (usedUp 0) e ∙ unused es (v .allowed) in
+        rw (n, underAt) (λ i. groupOf 49 (top-is i) (e i))
 
-  all-shared : Shared es 0 0 (length m)
-  all-shared =
-      let l = long in
-      record { order = omega arith; inside = omega arith; long = λ p a b. omega arith; rises = λ p a b. rising-at es p (v .order) (omega arith) }
+    all-shared : Shared es 0 0 (length m)
+    all-shared =
+        let l = long in
+        record { order = omega arith; inside = omega arith; long = λ p a b. omega arith; rises = λ p a b. rising-at es p (v .order) (omega arith) }
 
-  all-named : Named es
-  all-named = all-imp (λ e. isName (e .name)) (λ e. allowedBytes (e .name)) (λ e h. name-allowed (e .name) h) es (v .allowed)
+    all-named : Named es
+    all-named = all-imp (λ e. isName (e .name)) (λ e. allowedBytes (e .name)) (λ e h. name-allowed (e .name) h) es (v .allowed)
 
-  pub body-low : length body ≤ 802816
-  body-low = let a = group-bound 49 (highest es) es in let l = long in let f = z .few in omega arith
+    pub body-low : length body ≤ 802816
+    body-low = let a = group-bound 49 (highest es) es in let l = long in let f = z .few in omega arith
 
-  image-length : length (trieImage es) ≡ 7 + length body
-  unfolding trieImage
-  image-length = framed-length 0x31 (length es) body
+    image-is : trieImage es ≡ framed 0x31 (length es) body
+    unfolding trieImage
+    image-is = refl
 
-  pub ready : (n total : ℕ) (put : Bool) → (put ≡ true → length body ≤ total) → (put ≡ true → total ≤ n) → Groupable u m sc 0 (length m) 0 top n total 0 put
-  ready n total put a b =
-      let w = ap length under-all in let l = body-low in
-      record { able = record { table = z; named = all-named; upto = omega arith; shared = all-shared }; low = omega arith; room = λ t. let q = a t in omega arith; inside = b }
+    image-length : length (trieImage es) ≡ 7 + length body
+    unfolding trieImage
+    image-length = framed-length 0x31 (length es) body
 
-  module _ (dst out : List ℕ) (size : ℕ) (g : Grouped es 0 (length m) 0 top dst out 0 0 false size) where
-    pub size-is : size ≡ length body
-    size-is = let e = g .end in let w = ap length under-all in omega arith
+    pub ready : {n total : ℕ} {put : Bool} → (put ≡ true → length body ≤ total) → (put ≡ true → total ≤ n) → Groupable u m sc 0 (length m) 0 top n total 0 put
+    ready a b =
+        let w = ap length under-all in let l = body-low in
+        record { able = record { table = z; named = all-named; upto = omega arith; shared = all-shared }; low = omega arith; room = λ t. let q = a t in omega arith; inside = b }
 
-    pub measured : out ≡ dst
-    unfolding putAt
-    measured = g .bytes
+    module _ {dst out : List ℕ} {size : ℕ} (g : Grouped es 0 (length m) 0 top dst out 0 0 false size) where
+      pub size-is : size ≡ length body
+      size-is = let e = g .end in let w = ap length under-all in omega arith
 
-    pub refused : length out < size + 7 → (Refused 7 ≡ written es dst) × (out ≡ writtenTo es dst)
-    unfolding written writtenTo
-    refused h =
-        let a = size-is in let b = image-length in let c = ap length measured in
-        let t : ltb (length dst) (length (trieImage es)) ≡ true = lt-ltb (length dst) (length (trieImage es)) (omega arith) in
-        (rw t, measured ∙ rw t)
+      pub small : size ≤ 802816
+      small = omega (arith, size-is, body-low)
 
-    pub wrote :
-        size + 7 ≤ length out → (d2 d3 d4 : List ℕ) (k n : ℕ) → n ≡ length m → d2 ≡ sets (set out 0 49) 1 (be 4 (size + 7)) → d3 ≡ sets d2 5 (be 2 n)
-        → Grouped es 0 (length m) 0 top d3 d4 (size + 7) 0 true k → (Wrote n (size + 7) ≡ written es dst) × (d4 ≡ writtenTo es dst)
-    unfolding written writtenTo putAt trieImage framed
-    wrote h d2 d3 d4 k n e p q y =
-        let a = size-is in let b = image-length in let c = ap length measured in let l = long in
-        let t : ltb (length dst) (length (trieImage es)) ≡ false = le-ltb (length dst) (length (trieImage es)) (omega arith) in
-        let kb : size + 7 - k ≡ 7 = let f = y .end in let w = ap length under-all in omega arith in
-        let s7 : size + 7 ≡ 7 + length body = omega arith in
-        let ne : n ≡ length es = omega arith in
-        let x = set dst 0 49 in
-        let f4 = be 4 (7 + length body) in
-        let f2 = be 2 (length es) in
-        let whole : sets dst 0 (trieImage es) ≡ sets (sets (sets x 1 f4) 5 f2) 7 body =
-        sets-append x 1 f4 (f2 ++ body) ∙ rw (length-be 4 (7 + length body)) (sets-append (sets x 1 f4) 5 f2 body ∙ rw (length-be 2 (length es)))
-        in
-        let w4 : d4 ≡ sets (sets (sets x 1 f4) 5 f2) 7 body = rw (kb, under-all, q, p, measured, s7, ne) at (y .bytes) in
-        ((rw t (λ i. Wrote (ne i) ((s7 ∙ sym b) i))), rw t (w4 ∙ sym whole))
+      pub measured : out ≡ dst
+      unfolding putAt
+      measured = g .bytes
+
+      pub refused : length out < size + 7 → Answered es dst TooShort out
+      refused h =
+          let t = lt-ltb (length dst) (length (trieImage es)) (omega (arith, size-is, image-length, ap length measured)) in
+          record { answer = rw t; left = measured ∙ rw t }
+
+      pub wrote :
+          size + 7 ≤ length out → {d2 d3 d4 : List ℕ} {k n : ℕ} → n ≡ length m → d2 ≡ sets (set out 0 0x31) 1 (be 4 (size + 7)) → d3 ≡ sets d2 5 (be 2 n)
+          → Grouped es 0 (length m) 0 top d3 d4 (size + 7) 0 true k → Answered es dst (Bytes (size + 7)) d4
+      unfolding putAt
+      wrote h {d3 = d3} {d4} {k} e p q y =
+          let image = image-length in
+          let t = le-ltb (length dst) (length (trieImage es)) (omega (arith, size-is, image, ap length measured)) in
+          let behind : size + 7 - k ≡ 7 = omega (arith, y .end, ap length under-all, size-is) in
+          let total : size + 7 ≡ length (trieImage es) = omega (arith, size-is, image) in
+          let bytes : d4 ≡ sets d3 7 body = rw (behind, under-all) at (y .bytes) in
+          let stored : sets d3 7 body ≡ sets dst 0 (framed 0x31 (length es) body) = rw (q, p, measured, e ∙ sym long) (frame-stores 0x31 dst body (size + 7) (length es) (omega (arith, size-is))) in
+          record {
+            answer = rw t (ap Bytes total);
+            left = rw t (bytes ∙ stored ∙ rw (← image-is) (sets-overwrite dst (trieImage es) (omega (arith, size-is, image, ap length measured))));
+          }
+
+-- the same entries are answered alike
+pub answered-same : {es fs : List Entry} {dst : List ℕ} {r : Wrote} {out : List ℕ} → es ≡ fs → Answered es dst r out → Answered fs dst r out
+answered-same e a = record { answer = rw (← e) (a .answer); left = rw (← e) (a .left) }

@@ -7,12 +7,14 @@ use lib.Dec.{ltb}
 use lib.ListN.{length, take, drop}
 use lib.Seq.{sets}
 use Rattle.octets.specs.Lists.{if_then_else_}
+use Rattle.octets.specs.Octets.{overwrite}
 use Rattle.entries.specs.Entries.{Entry, valid}
 use Rattle.trie.specs.Trie.{usedUp, groupOf, trieImage}
 use Rattle.trie_nodes.specs.Nodes.{putAt}
-use Rattle.trie_rows.specs.Rows.{entries, Table, setAt, Splittable}
-use Rattle.trie_writer.specs.declared.Written.{Written}
-use Rattle.trie_writer.specs.declared.Written.the-variants.{Refused, Wrote}
+use Rattle.trie_rows.specs.Rows.{setAt, Splittable}
+use Rattle.trie_table.specs.Table.{entries, Table}
+use Rattle.trie_writer.specs.declared.Wrote.{Wrote}
+use Rattle.trie_writer.specs.declared.Wrote.the-variants.{Bytes, TooShort}
 
 -- nothing under a name that is used up, else the group of what is left
 unfoldable pub underAt : List Entry → ℕ → ℕ → ℕ → ℕ → List ℕ
@@ -28,9 +30,7 @@ pub record Grouped (es : List Entry) (lo hi d s : ℕ) (dst out : List ℕ) (tot
   pub end : r ≡ back + length (underAt es lo hi d s)
   pub bytes : out ≡ putAt put dst (total - r) (underAt es lo hi d s)
 
--- the answer, and every byte of the destination
-unfoldable pub written : List Entry → List ℕ → Written
-written es dst = if ltb (length dst) (length (trieImage es)) then Refused 7 else Wrote (length es) (length (trieImage es))
-
-unfoldable pub writtenTo : List Entry → List ℕ → List ℕ
-writtenTo es dst = if ltb (length dst) (length (trieImage es)) then dst else sets dst 0 (trieImage es)
+-- the answer r and every byte of the destination afterwards, by whether there is room for the trie
+pub record Answered (es : List Entry) (dst : List ℕ) (r : Wrote) (out : List ℕ) : Type 0 where
+  pub answer : r ≡ (if ltb (length dst) (length (trieImage es)) then TooShort else Bytes (length (trieImage es)))
+  pub left : out ≡ (if ltb (length dst) (length (trieImage es)) then dst else overwrite dst (trieImage es))

@@ -6,8 +6,10 @@ ghost use mathlib.Core.Bool.{true, false};
 ghost use Prim.Native.Nat.{ℕ, _+_, _-_, _*_, _<_, _≤_};
 ghost use lib.ListN.{length};
 ghost use Rattle.entries.specs.Entries.{valid};
-ghost use Rattle.trie_rows.specs.Rows.{entries, Table};
-ghost use Rattle.trie_writer.specs.Writing.{Groupable, Grouped, written, writtenTo};
+ghost use Rattle.trie_table.specs.Table.{entries, Table};
+ghost use Rattle.book.specs.Book.{inBook};
+ghost use Rattle.book.specs.Held.{Held};
+ghost use Rattle.trie_writer.specs.Writing.{Groupable, Grouped, Answered};
 
 fn with_under(r: Run, n: usize) -> Run
     ensures { λ x. ⌜ x ≡ record { lo = r .lo; hi = r .hi; high = r .high; len = r .len; under = n } ⌝ }
@@ -64,15 +66,16 @@ fn group(
     trie_nodes::finish(names, d, all, s, dst, total, b, put)
 }
 
-pub enum Written {
-    Refused(u8),
-    Wrote(usize, usize),
+// Too short a destination, or the bytes written.
+pub enum Wrote {
+    TooShort,
+    Bytes(usize),
 }
 
-// Writes the trie of the table's entries to the front of dst, or refuses with 7 where it is too long.
-pub fn write_trie(names: &[u8], lens: &[u8], scores: &[u32], dst: &mut [u8]) -> Written
+// Writes the trie of the table's entries to the front of dst, where it has room.
+fn write_rows(names: &[u8], lens: &[u8], scores: &[u32], dst: &mut [u8]) -> Wrote
     requires { ⌜ Table (now names) (now lens) (now scores) × (valid (entries (now names) (now lens) (now scores)) ≡ true) ⌝ }
-    ensures { λ r. ⌜ (r ≡ written (entries (now (names .entry)) (now (lens .entry)) (now (scores .entry))) (now (dst .entry))) × (now (dst .exit) ≡ writtenTo (entries (now (names .entry)) (now (lens .entry)) (now (scores .entry))) (now (dst .entry))) ⌝ }
+    ensures { λ r. ⌜ Answered (entries (now (names .entry)) (now (lens .entry)) (now (scores .entry))) (now (dst .entry)) r (now (dst .exit)) ⌝ }
 {
     let n = lens.len();
     let high = trie_rows::highest_of(names, lens, scores, 0, n);
@@ -80,11 +83,23 @@ pub fn write_trie(names: &[u8], lens: &[u8], scores: &[u32], dst: &mut [u8]) -> 
     let size = group(names, lens, scores, 0, n, 0, top, dst, 0, 0, false);
     let total = size + 7;
     if dst.len() < total {
-        return Written::Refused(7);
+        return Wrote::TooShort;
     }
-    dst[0] = 49;
-    trie_nodes::put_be(dst, 1, 4, total);
-    trie_nodes::put_be(dst, 5, 2, n);
+    dst[0] = 0x31;
+    octets::write_u32(dst, 1, total as u32);
+    octets::write_u16(dst, 5, n as u16);
     group(names, lens, scores, 0, n, 0, top, dst, total, 0, true);
-    Written::Wrote(n, total)
+    Wrote::Bytes(total)
+}
+
+// Writes the trie of a book that was checked, where the destination has room.
+pub fn write(book: &[u8], n: usize, dst: &mut [u8]) -> Wrote
+    requires { ⌜ Held (now book) n ⌝ }
+    ensures { λ r. ⌜ Answered (inBook (now (book .entry))) (now (dst .entry)) r (now (dst .exit)) ⌝ }
+{
+    let mut names = [0; 49152];
+    let mut lens = [0; 1024];
+    let mut scores = [0; 1024];
+    trie_table::unpack(book, n, &mut names, &mut lens, &mut scores);
+    write_rows(&names, &lens[..n], &scores, dst)
 }

@@ -5,7 +5,7 @@ use lib.ListN.{length, getD}
 use borrow.Author.Needs.{needs}
 use Rattle.trie_nodes.specs.Nodes.{noRun}
 use Rattle.trie_nodes.proofs.Laws.{length-mapped}
-use Rattle.trie_rows.specs.Rows.{entries}
+use Rattle.trie_table.specs.Table.{entries}
 use Rattle.trie_writer.proofs.Going.{Going, going-start, going-on, deep-low, child-falls, child-ready, finish-ready, grouped, group-none, length-put}
 use Prim.Native.Nat.{ℕ, _<_}
 use borrow.Fn.Kinds.{In}
