@@ -15,6 +15,7 @@ ghost use Rattle.book.specs.Lookups.{find, foundIn, headLength, headName, nameA
 ghost use Rattle.edits.specs.Edits.{emptyBook, setEntry, withdraw};
 ghost use Rattle.edits.specs.Splice.{Spliced, result};
 ghost use Rattle.sheet.specs.Sheet.{buildBook, listBook};
+ghost use Rattle.trie.specs.Calls.{writeTrie};
 ghost use Rattle.label_book.specs.Calls.{Answered, foundOf, lengthOf, oneEntry, placeAs, spanOf, wholeBook};
 
 // What a call that writes a book, a sheet or an entry reports.
@@ -302,6 +303,22 @@ pub fn list(book: &[u8], dst: &mut [u8]) -> Written
         return Written::Refused(7);
     }
     sheet::fill_sheet(book, n, total, dst);
+    Written::Wrote {
+        entries: n,
+        bytes: total,
+    }
+}
+
+// Writes the trie of a book's entries.
+pub fn write_trie(book: &[u8], dst: &mut [u8]) -> Written
+    ensures { λ r. ⌜ Answered (writeTrie (now (book .entry)) (now (dst .entry))) r (now (dst .exit)) ⌝ }
+{
+    let book_check::Checked::Book(n) = book_check::check(book) else {
+        return Written::Refused(1);
+    };
+    let trie_writer::Wrote::Bytes(total) = trie_writer::write(book, n, dst) else {
+        return Written::Refused(7);
+    };
     Written::Wrote {
         entries: n,
         bytes: total,
