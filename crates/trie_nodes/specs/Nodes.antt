@@ -1,34 +1,20 @@
--- The nodes of a sibling group as the writer holds them: ranges of rows in the order of the siblings, and the bytes that they make.
-use Prim.Native.Nat.{ℕ, zero, suc, _+_, _*_, _-_, _≤_, _<_}
+-- The bytes that the runs of a sibling group make (document 01, "Trie image").
+use Prim.Native.Nat.{_*_, _+_, _-_, _<_, _≤_, ℕ}
 use mathlib.Core.Path.{_≡_}
-use mathlib.Core.Bool.{Bool, true, false}
-use mathlib.Core.Logic.{_⊎_}
-use mathlib.Core.List.{List, [], _∷_, _++_}
+use mathlib.Core.Bool.{Bool, true}
+use mathlib.Core.List.{List, [], _++_, _∷_}
 use lib.Dec.{eqb}
-use lib.ListN.{length, getD, take, drop}
+use lib.ListN.{drop, length, take}
 use lib.Seq.{sets}
 use Rattle.octets.specs.Lists.{if_then_else_}
 use Rattle.octets.specs.Octets.{be}
-use Rattle.trie.specs.Trie.{sizeOf, ownSize, headerByte}
-use Rattle.trie_nodes.specs.declared.Run.{Run}
+use Rattle.entries.specs.Names.{longestName}
+use Rattle.trie.specs.Trie.{headerByte, longestLabel, ownSize, sizeOf}
+use Rattle.trie_nodes.specs.Runs.{Each, Falls, endsHere, firstHigh}
 use Rattle.trie_nodes.specs.declared.Next.{Next}
-use Rattle.trie_nodes.specs.declared.Siblings.{Siblings}
+use Rattle.trie_nodes.specs.declared.Run.{Run}
 
--- the runs that are held
-abbrev pub held : Siblings → List Run
-held g = take (g .count) (g .runs)
-
-abbrev pub noRun : Run
-noRun = record { lo = 0; hi = 0; high = 0; len = 0; under = 0 }
-
-abbrev pub firstHigh : List Run → ℕ
-firstHigh [] = 0
-firstHigh (r ∷ rs) = r .high
-
-abbrev pub endsHere : List Run → Bool
-endsHere [] = true
-endsHere (r ∷ rs) = false
-
+-- the child field of a node whose fields are f: none and 0 for a leaf
 abbrev pub childSize : Run → Next → ℕ
 childSize r f = if eqb (r .under) 0 then 0 else f .size
 
@@ -51,10 +37,11 @@ abbrev pub nodesLength : Next → List Run → ℕ
 nodesLength f [] = 0
 nodesLength f (r ∷ rs) = nodeLength r f + nodesLength (after r f (firstHigh rs)) rs
 
--- the label of a run, of names that begin at the byte d of their rows
+-- the label of a run, of names that go on behind the first d bytes of their rows
 unfoldable pub labelIn : List ℕ → ℕ → Run → List ℕ
-labelIn names d r = take (r .len) (drop (r .lo * 48 + d) names)
+labelIn names d r = take (r .len) (drop (r .lo * longestName + d) names)
 
+-- a node: header byte, score field, child field, label
 unfoldable pub oneNode : List ℕ → ℕ → Run → Next → Bool → List ℕ
 oneNode names d r f last =
     headerByte (sizeOf (f .score)) (childSize r f) last (r .len)
@@ -64,7 +51,7 @@ abbrev pub nodesBytes : List ℕ → ℕ → Next → List Run → List ℕ
 nodesBytes names d f [] = []
 nodesBytes names d f (r ∷ rs) = oneNode names d r f (endsHere rs) ++ nodesBytes names d (after r f (firstHigh rs)) rs
 
--- the fields of a group's first sibling
+-- the fields of a group's first sibling: without a child field, and with `other` bytes besides the child field that counts its own
 abbrev pub plain : ℕ → Next
 plain s = record { score = s; child = 0; size = 0 }
 
@@ -81,53 +68,37 @@ putAt put dst at bs = if put then sets dst at bs else dst
 
 -- what the code needs of runs: labels of at most 7 bytes that stand in the rows, scores falling
 pub record Sound (size d : ℕ) (r : Run) : Type 0 where
-  pub short : r .len ≤ 7
-  pub inside : r .lo * 48 + d + r .len ≤ size
+  pub short : r .len ≤ longestLabel
+  pub inside : r .lo * longestName + d + r .len ≤ size
 
-abbrev pub Each : (Run → Type 0) → List Run → Type 0
-Each P [] = Unit {0}
-Each P (r ∷ rs) = P r × Each P rs
-
-abbrev pub Falls : List Run → Type 0
-Falls [] = Unit {0}
-Falls (r ∷ rs) = (firstHigh rs ≤ r .high) × Falls rs
-
-pub record Writable (size d : ℕ) (g : Siblings) : Type 0 where
-  pub few : g .count ≤ 96
-  pub each : Each (Sound size d) (held g)
-  pub falls : Falls (held g)
+pub record Writable (size d : ℕ) (rs : List Run) : Type 0 where
+  pub each : Each (Sound size d) rs
+  pub falls : Falls rs
 
 -- what measuring needs
-pub record Sized (g : Siblings) (first : Next) : Type 0 where
-  pub few : g .count ≤ 96
-  pub short : Each (λ r. r .len ≤ 7) (held g)
-  pub falls : Falls (held g)
+pub record Sized (rs : List Run) (first : Next) : Type 0 where
+  pub short : Each (λ r. r .len ≤ longestLabel) rs
+  pub falls : Falls rs
   pub size : first .size ≤ 4
 
--- the sizes of a field
-abbrev pub IsSize : ℕ → Type 0
-IsSize k = (k ≡ 0) ⊎ ((k ≡ 1) ⊎ ((k ≡ 2) ⊎ (k ≡ 4)))
-
--- a node fits a buffer of n bytes at an index
+-- a node fits a buffer of n bytes at an index, and so do nodes
 pub record OneFits (size d : ℕ) (r : Run) (f : Next) (n at : ℕ) : Type 0 where
   pub sound : Sound size d r
   pub small : f .size ≤ 4
-  pub sizes : IsSize (f .size)
   pub room : at + nodeLength r f ≤ n
 
--- the nodes fit a buffer of n bytes from an index on
-pub record AllFit (size d : ℕ) (g : Siblings) (first : Next) (n from : ℕ) : Type 0 where
-  pub able : Writable size d g
+pub record AllFit (size d : ℕ) (rs : List Run) (first : Next) (n start : ℕ) : Type 0 where
+  pub able : Writable size d rs
   pub small : first .size ≤ 4
-  pub sizes : IsSize (first .size)
-  pub room : from + nodesLength first (held g) ≤ n
+  pub room : start + nodesLength first rs ≤ n
 
-pub record Finishing (names : List ℕ) (d : ℕ) (g : Siblings) (s n total back : ℕ) (put : Bool) : Type 0 where
-  pub able : Writable (length names) d g
+-- the group's own bytes end `back` bytes before index `total` of a buffer of n bytes
+pub record Finishing (names : List ℕ) (d : ℕ) (rs : List Run) (s n total back : ℕ) (put : Bool) : Type 0 where
+  pub able : Writable (length names) d rs
   pub low : back < 16777216
-  pub room : put ≡ true → back + length (ownBytes names d s (held g)) ≤ total
+  pub room : put ≡ true → back + length (ownBytes names d s rs) ≤ total
   pub inside : put ≡ true → total ≤ n
 
-pub record Finished (names : List ℕ) (d : ℕ) (g : Siblings) (s : ℕ) (dst out : List ℕ) (total back : ℕ) (put : Bool) (r : ℕ) : Type 0 where
-  pub end : r ≡ back + length (ownBytes names d s (held g))
-  pub bytes : out ≡ putAt put dst (total - r) (ownBytes names d s (held g))
+pub record Finished (names : List ℕ) (d : ℕ) (rs : List Run) (s : ℕ) (dst out : List ℕ) (total back : ℕ) (put : Bool) (r : ℕ) : Type 0 where
+  pub end : r ≡ back + length (ownBytes names d s rs)
+  pub bytes : out ≡ putAt put dst (total - r) (ownBytes names d s rs)

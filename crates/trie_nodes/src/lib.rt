@@ -1,29 +1,20 @@
-// The nodes of a sibling group: their fields, their size, their bytes.
+// The nodes of a sibling group: the rows that they stand for, their fields, their size, their bytes.
 ghost use mathlib.Core.Path.{_≡_};
-ghost use mathlib.Core.Bool.{true, false};
-ghost use mathlib.Core.List.{[], _∷_, _++_};
-ghost use Prim.Native.Nat.{ℕ, _+_, _-_, _*_, _<_, _≤_, _^_};
-ghost use lib.Dec.{eqb};
-ghost use lib.ListN.{length, getD, take, drop};
+ghost use mathlib.Core.List.{[], _∷_};
+ghost use Prim.Native.Nat.{_*_, _≤_};
+ghost use lib.ListN.{drop, getD, length};
 ghost use lib.Seq.{sets};
-ghost use Rattle.octets.specs.Lists.{if_then_else_};
 ghost use Rattle.octets.specs.Octets.{be};
-ghost use Rattle.trie.specs.Trie.{sizeOf, ownSize, codeOf, headerByte};
-ghost use Rattle.trie_nodes.specs.Nodes.{held, noRun, firstHigh, endsHere, childSize, childValue, after, nodeLength, nodesLength, labelIn, oneNode, nodesBytes, plain, firstOf, ownBytes, putAt, Sound, Writable, Sized, IsSize, OneFits, AllFit, Finishing, Finished};
+ghost use Rattle.trie_nodes.specs.Runs.{Kept, Within, firstHigh, held, noRun, runsIn, wordsOf};
+ghost use Rattle.trie_nodes.specs.Nodes.{AllFit, Finished, Finishing, OneFits, Sized, after, childSize, childValue, nodeLength, nodesBytes, nodesLength, oneNode};
 
-// A node: rows lo to hi, their highest score, the label's length, the bytes of what stands under it.
+// A node: rows lo to before hi, their highest score, the label's length, the bytes of what stands under it.
 pub struct Run {
-    pub lo: usize,
-    pub hi: usize,
+    pub lo: u32,
+    pub hi: u32,
     pub high: u32,
-    pub len: usize,
-    pub under: usize,
-}
-
-// The nodes of a group, in their order.
-pub struct Siblings {
-    pub runs: [Run; 96],
-    pub count: usize,
+    pub len: u32,
+    pub under: u32,
 }
 
 // What the fields of the next sibling say: its score field, and its child field if it has children.
@@ -33,81 +24,54 @@ pub struct Next {
     pub size: usize,
 }
 
-pub fn size_of(v: usize) -> usize
-    ensures { λ r. ⌜ r ≡ sizeOf v ⌝ }
+// The run at an index of a group's runs, which are kept as five numbers each.
+pub fn run_at(runs: &[u32], i: usize) -> Run
+    requires { ⌜ Within (now runs) i ⌝ }
+    ensures { λ r. ⌜ r ≡ getD (runsIn (now (runs .entry))) i noRun ⌝ }
 {
-    if v == 0 {
-        return 0;
+    let k = i * 5;
+    Run {
+        lo: runs[k],
+        hi: runs[k + 1],
+        high: runs[k + 2],
+        len: runs[k + 3],
+        under: runs[k + 4],
     }
-    if v < 256 {
-        return 1;
-    }
-    if v < 65536 {
-        return 2;
-    }
-    4
 }
 
-pub fn own_size(rest: usize) -> usize
-    requires { ⌜ rest < 65536 ⌝ }
-    ensures { λ r. ⌜ r ≡ ownSize rest ⌝ }
+// Keeps a run at an index.
+pub fn put_run(runs: &mut [u32], i: usize, r: Run)
+    requires { ⌜ Within (now runs) i ⌝ }
+    ensures { λ _. ⌜ now (runs .exit) ≡ sets (now (runs .entry)) (i * 5) (wordsOf r) ⌝ }
 {
-    if rest + 1 < 256 {
-        return 1;
-    }
-    if rest + 2 < 65536 {
-        return 2;
-    }
-    4
+    let k = i * 5;
+    runs[k] = r.lo;
+    runs[k + 1] = r.hi;
+    runs[k + 2] = r.high;
+    runs[k + 3] = r.len;
+    runs[k + 4] = r.under;
 }
 
-fn code_of(size: usize) -> u8
-    requires { ⌜ size ≤ 4 ⌝ }
-    ensures { λ r. ⌜ r ≡ codeOf size ⌝ }
+// The score of the sibling at an index; 0 behind the last.
+fn score_at(runs: &[u32], count: usize, i: usize) -> usize
+    requires { ⌜ Kept (now runs) count ⌝ }
+    ensures { λ r. ⌜ r ≡ firstHigh (drop i (held (now (runs .entry)) count)) ⌝ }
 {
-    if size == 4 {
-        return 3;
-    }
-    size as u8
-}
-
-fn mark_of(last: bool) -> u8
-    ensures { λ r. ⌜ r ≡ (if last then 8 else 0) ⌝ }
-{
-    if last {
-        return 8;
-    }
-    0
-}
-
-// The four fields of a header byte, put together from the lowest up.
-fn header(score: u8, child: u8, last: bool, label: u8) -> u8
-    requires { ⌜ (score < 4) × (child < 4) × (label < 8) ⌝ }
-    ensures { λ r. ⌜ r ≡ score * 64 + child * 16 + (if last then 8 else 0) + label ⌝ }
-{
-    let mark = mark_of(last);
-    (score << 6) | ((child << 4) | (mark | label))
-}
-
-fn score_at(g: Siblings, i: usize) -> usize
-    requires { ⌜ g .count ≤ 96 ⌝ }
-    ensures { λ r. ⌜ r ≡ firstHigh (drop i (held g)) ⌝ }
-{
-    let count = g.count;
     if i < count {
-        let r = g.runs[i];
+        let r = run_at(runs, i);
         return r.high as usize;
     }
     0
 }
 
-// The fields of the sibling after r, whose score is given.
+// The fields of the sibling after r, whose score is given: the difference, and where its children are counted from.
 fn next_after(r: Run, f: Next, score: usize) -> Next
     requires { ⌜ score ≤ r .high ⌝ }
     ensures { λ n. ⌜ n ≡ after r f score ⌝ }
 {
     let high = r.high as usize;
-    if r.under == 0 {
+    let under = r.under as usize;
+    if under == 0 {
         return Next {
             score: high - score,
             child: f.child,
@@ -116,11 +80,12 @@ fn next_after(r: Run, f: Next, score: usize) -> Next
     }
     Next {
         score: high - score,
-        child: r.under,
-        size: size_of(r.under),
+        child: under,
+        size: trie_header::size_of(under),
     }
 }
 
+// The size of a node's child field: none for a leaf.
 fn child_size(r: Run, f: Next) -> usize
     ensures { λ n. ⌜ n ≡ childSize r f ⌝ }
 {
@@ -130,6 +95,7 @@ fn child_size(r: Run, f: Next) -> usize
     f.size
 }
 
+// The value of a node's child field: 0 for a leaf.
 fn child_value(r: Run, f: Next) -> usize
     ensures { λ n. ⌜ n ≡ childValue r f ⌝ }
 {
@@ -139,28 +105,28 @@ fn child_value(r: Run, f: Next) -> usize
     f.child
 }
 
+// The bytes of a node: header, score field, child field, label.
 fn node_size(r: Run, f: Next) -> usize
     requires { ⌜ (r .len ≤ 7) × (f .size ≤ 4) ⌝ }
     ensures { λ n. ⌜ (n ≡ nodeLength r f) × (n ≤ 16) ⌝ }
 {
-    let ss = size_of(f.score);
-    let cs = child_size(r, f);
-    1 + ss + cs + r.len
+    let score = trie_header::size_of(f.score);
+    let child = child_size(r, f);
+    1 + score + child + r.len as usize
 }
 
 // The bytes of a group's own nodes, where the fields of the first are given.
-fn nodes_size(g: Siblings, first: Next) -> usize
-    requires { ⌜ Sized g first ⌝ }
-    ensures { λ r. ⌜ (r ≡ nodesLength first (held g)) × (r ≤ 1536) ⌝ }
+fn nodes_size(runs: &[u32], count: usize, first: Next) -> usize
+    requires { ⌜ Kept (now runs) count × Sized (held (now runs) count) first ⌝ }
+    ensures { λ n. ⌜ (n ≡ nodesLength first (held (now (runs .entry)) count)) × (n ≤ 1536) ⌝ }
 {
-    let count = g.count;
     let mut f = first;
     let mut sum = 0;
     let mut i = 0;
     while i < count {
-        let r = g.runs[i];
+        let r = run_at(runs, i);
         let m = node_size(r, f);
-        let score = score_at(g, i + 1);
+        let score = score_at(runs, count, i + 1);
         sum += m;
         f = next_after(r, f, score);
         i += 1;
@@ -168,70 +134,56 @@ fn nodes_size(g: Siblings, first: Next) -> usize
     sum
 }
 
-// A number as k bytes, big-endian.
-pub fn put_be(dst: &mut [u8], at: usize, k: usize, v: usize)
-    requires { ⌜ (at + k ≤ length (now dst)) × IsSize k ⌝ }
+// Stores v as k bytes from index at, the high byte first.
+fn put_be(dst: &mut [u8], at: usize, k: usize, v: usize)
+    requires { ⌜ k ≤ 4 ⌝ }
     ensures { λ _. ⌜ now (dst .exit) ≡ sets (now (dst .entry)) at (be k v) ⌝ }
 {
-    if k == 0 {
-        return;
-    }
-    if k == 1 {
-        dst[at] = (v % 256) as u8;
-        return;
-    }
-    if k == 2 {
-        dst[at] = (v / 256 % 256) as u8;
-        dst[at + 1] = (v % 256) as u8;
-        return;
-    }
-    dst[at] = (v / 16777216 % 256) as u8;
-    dst[at + 1] = (v / 65536 % 256) as u8;
-    dst[at + 2] = (v / 256 % 256) as u8;
-    dst[at + 3] = (v % 256) as u8;
+    let bytes = [
+        (v / 16777216 % 256) as u8,
+        (v / 65536 % 256) as u8,
+        (v / 256 % 256) as u8,
+        (v % 256) as u8,
+    ];
+    octets::copy(dst, at, &bytes[4 - k..]);
 }
 
-pub fn copy(dst: &mut [u8], at: usize, src: &[u8])
-    requires { ⌜ at + length (now src) ≤ length (now dst) ⌝ }
-    ensures { λ _. ⌜ now (dst .exit) ≡ sets (now (dst .entry)) at (now (src .entry)) ⌝ }
-{
-    let mut j = 0;
-    while j < src.len() {
-        dst[at + j] = src[j];
-        j += 1;
-    }
-}
-
-// One node at `at`.
+// One node at index at, of names that go on behind their first d bytes.
 fn put_node(names: &[u8], d: usize, r: Run, f: Next, last: bool, dst: &mut [u8], at: usize)
     requires { ⌜ OneFits (length (now names)) d r f (length (now dst)) at ⌝ }
     ensures { λ _. ⌜ now (dst .exit) ≡ sets (now (dst .entry)) at (oneNode (now (names .entry)) d r f last) ⌝ }
 {
-    let ss = size_of(f.score);
-    let cs = child_size(r, f);
-    let cv = child_value(r, f);
-    let len = r.len;
-    let h = header(code_of(ss), code_of(cs), last, len as u8);
-    dst[at] = h;
-    put_be(dst, at + 1, ss, f.score);
-    put_be(dst, at + 1 + ss, cs, cv);
-    let from = r.lo * 48 + d;
-    copy(dst, at + 1 + ss + cs, &names[from..from + len]);
+    let score = trie_header::size_of(f.score);
+    let child = child_size(r, f);
+    let value = child_value(r, f);
+    let len = r.len as usize;
+    let from = r.lo as usize * 48 + d;
+    dst[at] = trie_header::header(score, child, last, len);
+    put_be(dst, at + 1, score, f.score);
+    put_be(dst, at + 1 + score, child, value);
+    octets::copy(dst, at + 1 + score + child, &names[from..from + len]);
 }
 
-// The group's own nodes from index `from` on.
-fn put_nodes(names: &[u8], d: usize, g: Siblings, first: Next, dst: &mut [u8], from: usize)
-    requires { ⌜ AllFit (length (now names)) d g first (length (now dst)) from ⌝ }
-    ensures { λ _. ⌜ now (dst .exit) ≡ sets (now (dst .entry)) from (nodesBytes (now (names .entry)) d first (held g)) ⌝ }
+// The group's own nodes from index start on.
+fn put_nodes(
+    names: &[u8],
+    d: usize,
+    runs: &[u32],
+    count: usize,
+    first: Next,
+    dst: &mut [u8],
+    start: usize,
+)
+    requires { ⌜ Kept (now runs) count × AllFit (length (now names)) d (held (now runs) count) first (length (now dst)) start ⌝ }
+    ensures { λ _. ⌜ now (dst .exit) ≡ sets (now (dst .entry)) start (nodesBytes (now (names .entry)) d first (held (now (runs .entry)) count)) ⌝ }
 {
-    let count = g.count;
     let mut f = first;
-    let mut at = from;
+    let mut at = start;
     let mut i = 0;
     while i < count {
-        let r = g.runs[i];
+        let r = run_at(runs, i);
         let m = node_size(r, f);
-        let score = score_at(g, i + 1);
+        let score = score_at(runs, count, i + 1);
         put_node(names, d, r, f, i + 1 == count, dst, at);
         at += m;
         f = next_after(r, f, score);
@@ -243,31 +195,66 @@ fn put_nodes(names: &[u8], d: usize, g: Siblings, first: Next, dst: &mut [u8], f
 pub fn finish(
     names: &[u8],
     d: usize,
-    g: Siblings,
+    runs: &[u32],
+    count: usize,
     s: usize,
     dst: &mut [u8],
     total: usize,
     back: usize,
     put: bool,
 ) -> usize
-    requires { ⌜ Finishing (now names) d g s (length (now dst)) total back put ⌝ }
-    ensures { λ r. ⌜ Finished (now (names .entry)) d g s (now (dst .entry)) (now (dst .exit)) total back put r ⌝ }
+    requires { ⌜ Kept (now runs) count × Finishing (now names) d (held (now runs) count) s (length (now dst)) total back put ⌝ }
+    ensures { λ r. ⌜ Finished (now (names .entry)) d (held (now (runs .entry)) count) s (now (dst .entry)) (now (dst .exit)) total back put r ⌝ }
 {
     let plain = Next {
         score: s,
         child: 0,
         size: 0,
     };
-    let other = nodes_size(g, plain);
-    let own = own_size(other);
+    let other = nodes_size(runs, count, plain);
+    let own = trie_header::own_size(other);
     let first = Next {
         score: s,
         child: other + own,
         size: own,
     };
-    let full = nodes_size(g, first);
+    let full = nodes_size(runs, count, first);
     if put {
-        put_nodes(names, d, g, first, dst, total - back - full);
+        put_nodes(names, d, runs, count, first, dst, total - back - full);
+        return back + full;
+    }
+    back + full
+}
+
+// The same for a group of one node.
+pub fn finish_one(
+    names: &[u8],
+    d: usize,
+    r: Run,
+    s: usize,
+    dst: &mut [u8],
+    total: usize,
+    back: usize,
+    put: bool,
+) -> usize
+    requires { ⌜ Finishing (now names) d (r ∷ []) s (length (now dst)) total back put ⌝ }
+    ensures { λ n. ⌜ Finished (now (names .entry)) d (r ∷ []) s (now (dst .entry)) (now (dst .exit)) total back put n ⌝ }
+{
+    let plain = Next {
+        score: s,
+        child: 0,
+        size: 0,
+    };
+    let other = node_size(r, plain);
+    let own = trie_header::own_size(other);
+    let first = Next {
+        score: s,
+        child: other + own,
+        size: own,
+    };
+    let full = node_size(r, first);
+    if put {
+        put_node(names, d, r, first, true, dst, total - back - full);
         return back + full;
     }
     back + full

@@ -16,9 +16,6 @@ use Rattle.entries.specs.Entries.{Entry, entry, at, noEntry, rising}
 use Rattle.trie.specs.Trie.{remains, highest, labelOf, byFirst, sameFirst, usedUp}
 use Rattle.octets.proofs.Tests.{by-test, and-intro}
 use Rattle.trie_table.proofs.Rows.{entries-at, entries-length, rest-cons, rest-nil, row-inside, row-length}
-use Rattle.trie_nodes.specs.declared.Run.{Run}
-use Rattle.trie_nodes.specs.declared.Siblings.{Siblings}
-use Rattle.trie_nodes.specs.Nodes.{held, noRun, Each, Falls}
 use Rattle.trie_rows.proofs.Siblings.{lastOf, label-ends}
 use Rattle.trie_rows.specs.Rows.{setAt, restAt, Chain, Starts, Shared, ahead, behind, carried, higher, setOf, Good, Split}
 use Rattle.trie_table.specs.Table.{rowAt, entries, Table}
@@ -78,49 +75,6 @@ used-not es lo hi d e l k = sym (go (setAt es lo hi d) refl)
     go [] q = refl
     go (x ∷ []) q = absurd (e (sym long ∙ ap length q))
     go (x ∷ y ∷ s) q = refl
-
--- ---- one more sibling
-pub record Carrying (g : Siblings) (x : Run) (runs : List Run) (carry : Run) (i : ℕ) : Type 0 where
-  pub upto : i ≤ g .count
-  pub long : length runs ≡ 96
-  pub rest : take i runs ++ carried carry (drop i (take (g .count) runs)) ≡ carried x (held g)
-
-pub carrying-start : (g : Siblings) (x : Run) → length (g .runs) ≡ 96 → Carrying g x (g .runs) x 0
-carrying-start g x h = record { upto = omega arith; long = h; rest = refl }
-
-take-snoc : (l : List Run) (i : ℕ) (a : Run) (ys : List Run) → i < length l → take (suc i) (set l i a) ++ ys ≡ take i l ++ (a ∷ ys)
-take-snoc l i a ys h = rw (take-suc-set l i a h) (append-assoc (take i l) (a ∷ []) ys)
-
-drop-take-cons : (l : List Run) (n i : ℕ) → i < n → n ≤ length l → drop i (take n l) ≡ getD l i noRun ∷ drop (suc i) (take n l)
-drop-take-cons l n i h k =
-    let a = length-take-le n l k in
-    drop-cons (take n l) i noRun (omega arith) ∙ ap (λ (x : Run). x ∷ drop (suc i) (take n l)) (getD-take n l i noRun h)
-
-drop-take-set : (l : List Run) (n i : ℕ) (a : Run) → drop (suc i) (take n (set l i a)) ≡ drop (suc i) (take n l)
-drop-take-set [] zero i a = refl
-drop-take-set [] (suc n) i a = refl
-drop-take-set (x ∷ l) zero i a = refl
-drop-take-set (x ∷ l) (suc n) zero a = refl
-drop-take-set (x ∷ l) (suc n) (suc i) a = drop-take-set l n i a
-
-module _ (g : Siblings) (x : Run) (few : g .count < 96) (runs : List Run) (carry : Run) (i : ℕ) (v : Carrying g x runs carry i) where
-  pub carrying-on : i < g .count → (a b : Run) → a ≡ ahead carry (getD runs i noRun) → b ≡ behind carry (getD runs i noRun) → Carrying g x (set runs i a) b (i + 1)
-  carrying-on h a b p q =
-      let l = v .long in
-      let c = v .upto in
-      record {
-        upto = omega arith;
-        long = rw length-set l;
-        rest = rw (add-one i, drop-take-set runs (g .count) i a, take-snoc runs i a (carried b (drop (suc i) (take (g .count) runs))) (omega arith), p, q) (rw (drop-take-cons runs (g .count) i h (omega arith)) at (v .rest));
-      }
-
-  pub carrying-end : g .count ≤ i → take (g .count + 1) (set runs (g .count) carry) ≡ carried x (held g)
-  carrying-end h =
-      let l = v .long in
-      let c = v .upto in
-      let e : i ≡ g .count = omega arith in
-      let n : length (take (g .count) runs) ≤ g .count = omega (arith, length-take (g .count) runs) in
-      rw (add-one (g .count), take-suc-set runs (g .count) carry (omega arith)) (rw (e, drop-of-length-le (take (g .count) runs) n) at (v .rest))
 
 pub highest-end : (es : List Entry) (m i b x : ℕ) → i ≡ b → max m (highest (slice i b es)) ≡ x → m ≡ x
 highest-end es m i b x e q = let z : max m (highest []) ≡ x = rw (e, slice-empty b es) at q in omega arith

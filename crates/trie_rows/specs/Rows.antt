@@ -13,8 +13,7 @@ use Rattle.entries.specs.Names.{allowedBytes}
 use Rattle.trie.specs.Trie.{remains, highest, labelOf, byFirst, sameFirst, usedUp}
 use Rattle.trie_table.specs.Table.{Table, entries}
 use Rattle.trie_nodes.specs.declared.Run.{Run}
-use Rattle.trie_nodes.specs.declared.Siblings.{Siblings}
-use Rattle.trie_nodes.specs.Nodes.{held, Each, Falls}
+use Rattle.trie_nodes.specs.Runs.{Each, Falls}
 
 -- what is left of the names of rows lo to hi behind their first d bytes
 abbrev pub setAt : List Entry → ℕ → ℕ → ℕ → List Entry
@@ -73,11 +72,10 @@ pub record Good (es : List Entry) (d lo hi : ℕ) (r : Run) : Type 0 where
   pub high : r .high ≡ highest (setOf es d r)
   pub len : r .len ≡ length (labelOf (setOf es d r))
 
-pub record Split (es : List Entry) (d lo hi : ℕ) (g : Siblings) : Type 0 where
-  pub few : g .count ≤ 96
-  pub sets : map (setOf es d) (held g) ≡ sortBy higher (byFirst (setAt es lo hi d))
-  pub good : Each (Good es d lo hi) (held g)
-  pub falls : Falls (held g)
+pub record Split (es : List Entry) (d lo hi : ℕ) (rs : List Run) : Type 0 where
+  pub sets : map (setOf es d) rs ≡ sortBy higher (byFirst (setAt es lo hi d))
+  pub good : Each (Good es d lo hi) rs
+  pub falls : Falls rs
 
 pub record Splittable (names lens scores : List ℕ) (lo hi d : ℕ) : Type 0 where
   pub table : Table names lens scores

@@ -21,7 +21,7 @@ use Rattle.trie.proofs.Sets.{OneFirst, flat, byFirst-run, byFirst-flat, label-s
 use Rattle.octets.proofs.Lists.{map-in}
 use Rattle.trie.proofs.Trie.{set-in, set-different, run-some, node-leaf, node-inner, node-label, node-score}
 use lib.ListN.{length-map}
-use Rattle.trie_nodes.proofs.Laws.{sizeOf-le, ownSize-le}
+use Rattle.trie_nodes.proofs.Fields.{ownSize-le, sizeOf-le}
 
 -- what a set must have so that d levels are enough
 pub record Enough (d : ℕ) (es : List Entry) : Type 0 where

@@ -23,9 +23,9 @@ use Rattle.octets.proofs.Lists.{sort-map}
 use Rattle.trie.proofs.Trie.{set-different, node-leaf, node-inner, node-label, node-score}
 use Rattle.trie_nodes.specs.declared.Run.{Run}
 use Rattle.trie_nodes.specs.declared.Next.{Next}
-use Rattle.trie_nodes.specs.declared.Siblings.{Siblings}
-use Rattle.trie_nodes.specs.Nodes.{held, firstHigh, endsHere, childSize, childValue, after, nodesLength, labelIn, oneNode, nodesBytes, plain, firstOf, ownBytes, Sound, Each, Falls}
-use Rattle.trie_nodes.proofs.Laws.{length-nodesBytes}
+use Rattle.trie_nodes.specs.Runs.{Each, Falls, endsHere, firstHigh}
+use Rattle.trie_nodes.specs.Nodes.{Sound, after, childSize, childValue, firstOf, labelIn, nodesBytes, nodesLength, oneNode, ownBytes, plain}
+use Rattle.trie_nodes.proofs.Loops.{length-nodesBytes}
 use Rattle.trie_rows.specs.Rows.{setAt, restAt, Shared, Named, higher, setOf, Good, Split}
 use Rattle.trie_table.specs.Table.{rowAt, entries, Table}
 use Rattle.trie_rows.proofs.Laws.{set-cons, shared-rising, row-facts, rest-part}
@@ -245,8 +245,8 @@ module _ (u m sc : List ℕ) (z : Table u m sc) (lo hi d : ℕ) (sh : Shared (en
             rw (g .len, ← (drop-drop (length (labelOf own)) d (at es p .name)), ← (drop-drop (length (labelOf own)) d (at es (suc p) .name)))
             (sym (below-append (labelOf own) (drop (length (labelOf own)) (restAt es d p)) (drop (length (labelOf own)) (restAt es d (suc p)))) ∙ sym (below-same-two x y) ∙ o)
 
-  module _ (g : Siblings) (sp : Split es d lo hi g) where
-    pub in-group : (t : List Entry) → t ∈ map (setOf es d) (held g) → t ∈ byFirst whole
+  module _ (L : List Run) (sp : Split es d lo hi L) where
+    pub in-group : (t : List Entry) → t ∈ map (setOf es d) L → t ∈ byFirst whole
     in-group t q = sort-in higher t (byFirst whole) (rw (sp .sets) at q)
 
     shows-all : (rs : List Run) → Each (Good es d lo hi) rs → ((t : List Entry) → t ∈ map (setOf es d) rs → t ∈ byFirst whole) → AllShow u d (map (nodeOf (groupOf 48 0)) (map (setOf es d) rs)) (map (fill es d) rs)
@@ -268,21 +268,21 @@ module _ (u m sc : List ℕ) (z : Table u m sc) (lo hi d : ℕ) (sh : Shared (en
     falls-fill (r ∷ []) f = (omega arith, tt)
     falls-fill (r ∷ q ∷ rs) f = (f .0, falls-fill (q ∷ rs) (f .1))
 
-    pub filled-sound : Each (Sound (length u) d) (map (fill es d) (held g))
-    filled-sound = sound-all (held g) (sp .good) in-group
+    pub filled-sound : Each (Sound (length u) d) (map (fill es d) L)
+    filled-sound = sound-all L (sp .good) in-group
 
-    pub filled-falls : Falls (map (fill es d) (held g))
-    filled-falls = falls-fill (held g) (sp .falls)
+    pub filled-falls : Falls (map (fill es d) L)
+    filled-falls = falls-fill L (sp .falls)
 
-    pub group-runs : (s : ℕ) → usedUp 0 whole ≡ false → underAt es lo hi d s ≡ ownBytes u d s (map (fill es d) (held g)) ++ concatMap (underRun es d) (held g)
+    pub group-runs : (s : ℕ) → usedUp 0 whole ≡ false → underAt es lo hi d s ≡ ownBytes u d s (map (fill es d) L) ++ concatMap (underRun es d) L
     unfolding underAt nodeOf
     group-runs s n =
         let f = nodeOf (groupOf 48 0) in
-        let o : sortBy standsBefore (map f (byFirst whole)) ≡ map f (map (setOf es d) (held g)) =
+        let o : sortBy standsBefore (map f (byFirst whole)) ≡ map f (map (setOf es d) L) =
         sym (sort-map f standsBefore (byFirst whole))
         ∙ ap (map f) (sort-higher (byFirst whole) (byFirst-ordered whole (shared-rising es d lo hi sh)) (byFirst-run whole) ∙ sym (sp .sets))
         in
         rw (n, underAt)
         (ap (groupBytes s) o
-        ∙ group-shown u d s (map f (map (setOf es d) (held g))) (map (fill es d) (held g)) (shows-all (held g) (sp .good) in-group) filled-sound
-        ∙ ap (λ x. ownBytes u d s (map (fill es d) (held g)) ++ x) (unders-all (held g) (sp .good) in-group))
+        ∙ group-shown u d s (map f (map (setOf es d) L)) (map (fill es d) L) (shows-all L (sp .good) in-group) filled-sound
+        ∙ ap (λ x. ownBytes u d s (map (fill es d) L) ++ x) (unders-all L (sp .good) in-group))

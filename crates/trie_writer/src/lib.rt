@@ -1,17 +1,18 @@
 // Writing the trie image of a table of names.
 use trie_nodes::Run;
-use trie_nodes::Siblings;
 ghost use mathlib.Core.Path.{_≡_};
 ghost use mathlib.Core.Bool.{true, false};
-ghost use Prim.Native.Nat.{ℕ, _+_, _-_, _*_, _<_, _≤_};
+ghost use Prim.Native.Nat.{ℕ, _+_, _-_, _*_, _<_, _≤_, min};
 ghost use lib.ListN.{length};
+ghost use Rattle.trie.specs.Trie.{longestLabel};
 ghost use Rattle.entries.specs.Entries.{valid};
 ghost use Rattle.trie_table.specs.Table.{entries, Table};
 ghost use Rattle.book.specs.Book.{inBook};
 ghost use Rattle.book.specs.Held.{Held};
 ghost use Rattle.trie_writer.specs.Writing.{Groupable, Grouped, Answered};
 
-fn with_under(r: Run, n: usize) -> Run
+// A run with the bytes of what stands under it.
+fn with_under(r: Run, n: u32) -> Run
     ensures { λ x. ⌜ x ≡ record { lo = r .lo; hi = r .hi; high = r .high; len = r .len; under = n } ⌝ }
 {
     Run {
@@ -23,7 +24,52 @@ fn with_under(r: Run, n: usize) -> Run
     }
 }
 
-// What stands under rows lo to hi, which share their first d bytes, put so that it ends `back` bytes before index `total`, or only measured.
+// The label of a lone suffix: all of it, cut to 7 bytes.
+fn cut(rest: usize) -> usize
+    ensures { λ r. ⌜ r ≡ min longestLabel rest ⌝ }
+{
+    if rest < 7 {
+        return rest;
+    }
+    7
+}
+
+// What stands under one row behind its first d bytes: groups of one node each, put so that they end `back` bytes before index `total`, or
+// only measured.
+fn lone(
+    names: &[u8],
+    lens: &[u8],
+    scores: &[u32],
+    row: usize,
+    d: usize,
+    s: usize,
+    dst: &mut [u8],
+    total: usize,
+    back: usize,
+    put: bool,
+) -> usize
+    requires { ⌜ Groupable (now names) (now lens) (now scores) row (row + 1) d s (length (now dst)) total back put ⌝ }
+    ensures { λ r. ⌜ Grouped (entries (now (names .entry)) (now (lens .entry)) (now (scores .entry))) row (row + 1) d s (now (dst .entry)) (now (dst .exit)) total back put r ⌝ }
+{
+    let all = lens[row] as usize;
+    let len = cut(all - d);
+    if len == 0 {
+        return back;
+    }
+    let high = scores[row];
+    let n = lone(names, lens, scores, row, d + len, 0, dst, total, back, put);
+    let r = Run {
+        lo: row as u32,
+        hi: (row + 1) as u32,
+        high: high,
+        len: len as u32,
+        under: (n - back) as u32,
+    };
+    trie_nodes::finish_one(names, d, r, s, dst, total, n, put)
+}
+
+// What stands under rows lo to hi, which share their first d bytes: their group, and behind it the groups of its nodes, put so that it ends
+// `back` bytes before index `total`, or only measured. The last node's group is put first.
 fn group(
     names: &[u8],
     lens: &[u8],
@@ -40,30 +86,34 @@ fn group(
     requires { ⌜ Groupable (now names) (now lens) (now scores) lo hi d s (length (now dst)) total back put ⌝ }
     ensures { λ r. ⌜ Grouped (entries (now (names .entry)) (now (lens .entry)) (now (scores .entry))) lo hi d s (now (dst .entry)) (now (dst .exit)) total back put r ⌝ }
 {
-    if trie_rows::used_up(names, lens, scores, lo, hi, d) {
-        return back;
+    if hi - lo == 1 {
+        return lone(names, lens, scores, lo, d, s, dst, total, back, put);
     }
-    let g = trie_rows::split(names, lens, scores, lo, hi, d);
-    let count = g.count;
-    let mut runs = g.runs;
+    let mut runs = [0; 480];
+    let count = trie_rows::split(names, lens, scores, lo, hi, d, &mut runs);
     let mut b = back;
     let mut i = count;
     while 0 < i {
         i -= 1;
-        let r = runs[i];
-        let from = r.lo;
-        let upto = r.hi;
-        let deep = d + r.len;
-        let n = group(names, lens, scores, from, upto, deep, 0, dst, total, b, put);
-        let filled = with_under(r, n - b);
-        runs[i] = filled;
+        let r = trie_nodes::run_at(&runs, i);
+        let n = group(
+            names,
+            lens,
+            scores,
+            r.lo as usize,
+            r.hi as usize,
+            d + r.len as usize,
+            0,
+            dst,
+            total,
+            b,
+            put,
+        );
+        let filled = with_under(r, (n - b) as u32);
+        trie_nodes::put_run(&mut runs, i, filled);
         b = n;
     }
-    let all = Siblings {
-        runs: runs,
-        count: count,
-    };
-    trie_nodes::finish(names, d, all, s, dst, total, b, put)
+    trie_nodes::finish(names, d, &runs, count, s, dst, total, b, put)
 }
 
 // Too short a destination, or the bytes written.

@@ -1,42 +1,48 @@
-use lib.ListN.{length, getD, take, drop}
-use Rattle.trie_nodes.proofs.Laws as laws
-use borrow.Author.Tests.{leb-true, ltb-true, ltb-false, lt-ltb, le-ltb, eqb-true, eqb-false, eq-eqb, ne-eqb, not-true}
+-- `trie_nodes::node_size` meets its contract: the sum of the sizes of a node's parts.
+-- No loop, so no invariant. Assumes nothing.
 use native.Mathlib.Omega.{arith}
-use Prim.Native.Nat.{ℕ, zero, suc, _+_, _*_, _-_, _≤_, _<_}
-use mathlib.Core.Path.{_≡_, refl, sym, ap, _∙_}
 use borrow.Author.Needs.{needs}
+use Rattle.trie_nodes.proofs.Fields.{childSize-le, node-length, sizeOf-le}
 use Rattle.trie_nodes.proofs.node_size.Statement.{statement}
 use Rattle.trie_nodes.proofs.node_size.Tie as tie
-use Rattle.trie_nodes.proofs.node_size.Reads as reads
-use Rattle.trie_nodes.proofs.node_size.Lts as lts
-use Rattle.trie_nodes.proofs.child_size.Reads as child-size-reads
-use Rattle.trie_nodes.proofs.size_of.Reads as size-of-reads
 
--- src/lib.rt:145:9
 size-of-requires : tie.Need-size-of-requires
-size-of-requires c κs = search needs
+size-of-requires c κs = tt
 
--- src/lib.rt:146:9
 child-size-requires : tie.Need-child-size-requires
-child-size-requires c κs = search needs
+child-size-requires c κs = tt
 
--- src/lib.rt:147:5
 add-result : tie.Need-add-result
-add-result c = omega (arith, laws.sizeOf-le (c .before .before .args .f .score), c .before .size-of .ensures)
+add-result c = let s = c .before .before in omega (arith, sizeOf-le (s .args .f .score), c .before .size-of .ensures)
 
--- src/lib.rt:147:5
 add-result-2 : tie.Need-add-result-2
-add-result-2 c = omega (arith, laws.sizeOf-le (c .before .before .args .f .score), c .before .size-of .ensures, laws.childSize-le (c .before .before .args .r) (c .before .before .args .f) (c .before .before .pre .1), c .child-size .ensures)
+add-result-2 c =
+    let s = c .before .before in
+    omega (arith, sizeOf-le (s .args .f .score), c .before .size-of .ensures, childSize-le (s .args .r) (s .args .f) (s .pre .1), c .child-size .ensures)
 
--- src/lib.rt:147:5
+cast-result : tie.Need-cast-result
+cast-result c = search needs
+
 add-result-3 : tie.Need-add-result-3
-add-result-3 c = omega (arith, laws.sizeOf-le (c .before .before .before .args .f .score), c .before .before .size-of .ensures, laws.childSize-le (c .before .before .before .args .r) (c .before .before .before .args .f) (c .before .before .before .pre .1), c .before .child-size .ensures, c .before .before .before .pre .0)
+add-result-3 c =
+    let k = c .before in
+    let s = k .before .before in
+    omega (arith, node-length (s .args .r) (s .args .f) (s .pre .0) (s .pre .1) (k .before .size-of .ensures) (k .child-size .ensures) .1)
 
--- src/lib.rt:141:1
 returns : tie.Need-returns
-returns c = laws.nodeLength-le _ _ 0 _ _ (c .before .before .before .pre .0) (c .before .before .before .pre .1) (c .before .before .size-of .ensures) (c .before .child-size .ensures)
+returns c =
+    let k = c .before in
+    let s = k .before .before in
+    node-length (s .args .r) (s .args .f) (s .pre .0) (s .pre .1) (k .before .size-of .ensures) (k .child-size .ensures)
 
 pub node-size-spec : {M : Type 1} → statement M
 node-size-spec =
     tie.close
-    (tie.spec size-of-requires child-size-requires add-result add-result-2 add-result-3 returns)
+    (tie.spec
+    size-of-requires
+    child-size-requires
+    add-result
+    add-result-2
+    cast-result
+    add-result-3
+    returns)

@@ -1,75 +1,75 @@
-use Rattle.trie_nodes.proofs.Laws.{Sizing}
-use Rattle.trie_nodes.proofs.Laws as laws
-use lib.ListN.{length, getD, take, drop, length-set}
-use borrow.Author.Tests.{leb-true, ltb-true, ltb-false, lt-ltb, le-ltb, eqb-true, eqb-false, eq-eqb, ne-eqb, not-true}
+-- `trie_nodes::nodes_size` meets its contract. The loop's invariant: the bytes counted, with the nodes left counted now, are the whole.
+-- The measure is the number of nodes left. Assumes nothing.
+use Prim.Native.Nat.{_-_}
 use native.Mathlib.Omega.{arith}
-use Prim.Native.Nat.{ℕ, zero, suc, _+_, _*_, _-_, _≤_, _<_}
-use mathlib.Core.Path.{_≡_, refl, sym, ap, _∙_}
 use borrow.Author.Needs.{needs}
+use Rattle.trie_nodes.proofs.Loops.{Sizing, here-falls, here-short, sizing-end, sizing-start, sizing-turn}
+use Rattle.trie_nodes.proofs.Runs.{within}
 use Rattle.trie_nodes.proofs.nodes_size.Statement.{statement}
 use Rattle.trie_nodes.proofs.nodes_size.Tie as tie
-use Rattle.trie_nodes.proofs.nodes_size.Reads as reads
-use Rattle.trie_nodes.proofs.nodes_size.Lts as lts
-use Rattle.trie_nodes.proofs.next_after.Reads as next-after-reads
-use Rattle.trie_nodes.proofs.node_size.Reads as node-size-reads
-use Rattle.trie_nodes.proofs.score_at.Reads as score-at-reads
 
 abbrev Inv-loop : tie.InvT-loop
-Inv-loop g count f₀ sum₀ i₀ f sum i = Sizing g f₀ f sum i
+Inv-loop runs count f₀ sum₀ i₀ f sum i = Sizing runs count f₀ f sum i
 
 abbrev μ-loop : tie.MeasureT-loop
-μ-loop g count f₀ sum₀ i₀ f sum i = g .count - i
+μ-loop runs count f₀ sum₀ i₀ f sum i = count - i
 
-long : (c : tie.Start Inv-loop μ-loop) → length (c .args .t1 .runs) ≡ 96
-long c = search (needs, laws.length-mapped)
+-- the entry, from the loop's head
+abbrev start : tie.At-loop Inv-loop μ-loop → tie.Start Inv-loop μ-loop
+start l = l .before .before
 
--- src/lib.rt:159:5
 loop-holds : tie.Need-loop-holds Inv-loop μ-loop
-loop-holds c = laws.sizing-start _ _ (c .pre)
+loop-holds c = sizing-start (c .before .pre .1)
 
--- src/lib.rt:160:17
-mul-r : tie.Need-mul-r Inv-loop μ-loop
-mul-r c = search needs
+run-at-requires : tie.Need-run-at-requires Inv-loop μ-loop
+run-at-requires c κs = within (start (c .before) .pre .0) (c .loop-test .taken)
 
--- src/lib.rt:160:17
-element-copy-out-r : tie.Need-element-copy-out-r Inv-loop μ-loop
-element-copy-out-r c = search needs
-
--- src/lib.rt:161:13
 node-size-requires : tie.Need-node-size-requires Inv-loop μ-loop
-node-size-requires c κs = let l = c .before .before in let s = l .before in (laws.here-short (s .args .t1) (s .args .first) (s .pre) (long s) (l .loop .f) (l .loop .sum) (l .loop .i) (l .loop .inv) (c .before .loop-test .taken), l .loop .inv .size)
+node-size-requires c κs =
+    let t = c .before in
+    let l = t .before in
+    let s = start l in
+    (rw (c .run-at .ensures) (here-short (s .pre .0) (s .pre .1) (l .loop .inv) (t .loop-test .taken)), l .loop .inv .size)
 
--- src/lib.rt:162:33
 add-score-at : tie.Need-add-score-at Inv-loop μ-loop
 add-score-at c = search needs
 
--- src/lib.rt:162:13
 score-at-requires : tie.Need-score-at-requires Inv-loop μ-loop
-score-at-requires c κs = search needs
+score-at-requires c κs = start (c .before .before .before) .pre .0
 
--- src/lib.rt:163:9
 add-sum : tie.Need-add-sum Inv-loop μ-loop
-add-sum c = search needs
+add-sum c =
+    let n = c .before in
+    let l = n .before .before .before in
+    omega (arith, n .node-size .ensures .1, l .loop .inv .low, l .loop .inv .upto, start l .pre .0 .few)
 
--- src/lib.rt:164:9
 next-after-requires : tie.Need-next-after-requires Inv-loop μ-loop
-next-after-requires c κs = let l = c .before .before .before .before in let s = l .before in rw (c .score-at .ensures) (laws.here-falls (s .args .t1) (s .args .first) (s .pre) (long s) (l .loop .f) (l .loop .sum) (l .loop .i) (l .loop .inv) (c .before .before .before .loop-test .taken))
+next-after-requires c κs =
+    let a = c .before .before in
+    let t = a .before in
+    let l = t .before in
+    let s = start l in
+    rw (c .score-at .ensures, a .run-at .ensures) (here-falls (s .pre .0) (s .pre .1) (l .loop .inv) (t .loop-test .taken))
 
--- src/lib.rt:165:9
 add-i : tie.Need-add-i Inv-loop μ-loop
 add-i c = search needs
 
--- src/lib.rt:159:5
 loop-less : tie.Need-loop-less Inv-loop μ-loop
 loop-less c = search needs
 
--- src/lib.rt:159:5
 loop-again : tie.Need-loop-again Inv-loop μ-loop
-loop-again c = let l = c .before .before .before .before .before in let s = l .before in laws.sizing-on (s .args .t1) (s .args .first) (s .pre) (long s) (l .loop .f) (l .loop .sum) (l .loop .i) (l .loop .inv) (c .before .before .before .before .loop-test .taken) (c .before .before .node-size .result) (c .next-after .result) (c .before .score-at .result) (c .before .before .node-size .ensures .0) (c .before .before .node-size .ensures .1) (c .before .score-at .ensures) (c .next-after .ensures)
+loop-again c =
+    let b = c .before in
+    let n = b .before in
+    let a = n .before in
+    let t = a .before in
+    let l = t .before in
+    let s = start l in
+    sizing-turn (s .pre .0) (s .pre .1) (l .loop .inv) (t .loop-test .taken) (a .run-at .ensures) (n .node-size .ensures) (b .score-at .ensures)
+    (c .next-after .ensures)
 
--- src/lib.rt:151:1
 returns : tie.Need-returns Inv-loop μ-loop
-returns c = let l = c .before in let s = l .before in laws.sizing-end (s .args .t1) (s .args .first) (s .pre) (long s) (l .loop .f) (l .loop .sum) (l .loop .i) (l .loop .inv) (c .loop-test .left)
+returns c = let l = c .before in let s = start l in sizing-end (s .pre .0) (s .pre .1) (l .loop .inv) (c .loop-test .left)
 
 pub nodes-size-spec : {M : Type 1} → statement M
 nodes-size-spec =
@@ -78,8 +78,7 @@ nodes-size-spec =
     Inv-loop
     μ-loop
     loop-holds
-    mul-r
-    element-copy-out-r
+    run-at-requires
     node-size-requires
     add-score-at
     score-at-requires
