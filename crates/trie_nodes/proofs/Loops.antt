@@ -11,8 +11,8 @@ use borrow.Author.Tests.{eqb-false, eqb-true, ltb-false, ltb-true}
 use Rattle.octets.proofs.Stores.{sets-append}
 use Rattle.octets.proofs.Tests.{by-test}
 use Rattle.trie.specs.Trie.{longestLabel, ownSize}
-use Rattle.trie_nodes.specs.Nodes.{AllFit, Finished, Finishing, OneFits, Sized, Sound, Writable, after, firstOf, nodeLength, nodesBytes, nodesLength, oneNode, ownBytes, plain, putAt}
-use Rattle.trie_nodes.specs.Runs.{Each, Falls, Kept, endsHere, firstHigh, held, mostRuns, noRun, runsIn}
+use Rattle.trie_nodes.specs.Nodes.{AllFit, Finished, Finishing, OneFits, Sized, Sound, Writable, after, nodeLength, nodesBytes, nodesLength, oneNode, ownBytes, plain, putAt}
+use Rattle.trie_nodes.specs.Runs.{Each, Kept, endsHere, firstHigh, held, noRun, runsIn}
 use Rattle.trie_nodes.proofs.Fields.{after-size, length-oneNode, ownSize-le}
 use Rattle.trie_nodes.proofs.Runs.{each-drop, each-map, falls-drop, held-end, held-length, held-next}
 use Rattle.trie_nodes.specs.declared.Next.{Next}

@@ -2,11 +2,11 @@
 use Prim.Native.Nat.{_*_, _+_, _<_, _≤_, suc, zero, ℕ}
 use mathlib.Core.Path.{_∙_, _≡_, ap, refl}
 use mathlib.Core.List.{List, [], _∷_}
-use lib.ListN.{drop, drop-of-length-le, getD, length, set, take}
+use lib.ListN.{drop, drop-of-length-le, getD, length, set}
 use lib.Seq.{drop-cons, getD-take, length-sets, length-take-le, sets}
 use native.Mathlib.Numerals.{add-one}
 use native.Mathlib.Omega.{arith}
-use Rattle.trie_nodes.specs.Runs.{Each, Falls, Kept, Within, firstHigh, held, mostRuns, noRun, runsIn, wordsOf}
+use Rattle.trie_nodes.specs.Runs.{Each, Falls, Kept, Within, held, mostRuns, noRun, runsIn, wordsOf}
 use Rattle.trie_nodes.specs.declared.Run.{Run}
 
 -- five numbers further on

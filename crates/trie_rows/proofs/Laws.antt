@@ -1,61 +1,110 @@
 -- The entries of a table, row by row; ranges of rows.
-use Prim.Native.Nat.{ℕ, zero, suc, _+_, _*_, _-_, _≤_, _<_, max, min}
-use mathlib.Core.Path.{_≡_, refl, sym, ap, _∙_}
-use mathlib.Core.Bool.{Bool, true, false}
-use mathlib.Core.List.{List, [], _∷_, _++_, map, append-assoc, append-nil}
+use Prim.Native.Nat.{_*_, _+_, _-_, _<_, _≤_, max, min, suc, zero, ℕ}
+use mathlib.Core.Path.{_∙_, _≡_, ap, refl, sym}
+use mathlib.Core.Bool.{Bool, false, true}
+use mathlib.Core.List.{List, [], _∷_}
+use lib.Dec.{eqb}
+use lib.ListN.{drop, getD, length, length-drop, length-map, take}
+use lib.Seq.{drop-drop, length-slice, slice, slice-cons, slice-empty, take-nil}
 use native.Mathlib.Numerals.{add-one}
-use native.Mathlib.Nat.{not-suc-le-zero, add-zero, add-suc, suc-add}
 use native.Mathlib.Omega.{arith}
-use lib.Dec.{eqb, ltb}
-use lib.ListN.{length, getD, set, take, drop, length-append, length-take, length-drop, length-set, length-map, drop-of-length-le}
-use lib.Seq.{slice, slice-cons, slice-empty, length-slice, drop-cons, getD-take, getD-drop, length-take-le, take-suc, take-suc-set, drop-set-lt, take-set-le, getD-set-other, set-split, take-at, take-append-le, append-snoc, drop-drop, take-nil}
-use borrow.Author.Tests.{ltb-true, ltb-false, lt-ltb, le-ltb, eqb-true, eqb-false, eq-eqb, ne-eqb}
-use Rattle.octets.specs.Lists.{if_then_else_, countFrom, insertBy, sortBy}
+use borrow.Author.Tests.{eq-eqb, eqb-false, eqb-true, ne-eqb}
 use Rattle.octets.specs.Octets.{below, common}
-use Rattle.entries.specs.Entries.{Entry, entry, at, noEntry, rising}
-use Rattle.trie.specs.Trie.{remains, highest, labelOf, byFirst, sameFirst, usedUp}
-use Rattle.octets.proofs.Tests.{by-test, and-intro}
+use Rattle.octets.proofs.Tests.{and-intro}
+use Rattle.entries.specs.Entries.{Entry, at, entry, noEntry, rising}
+use Rattle.entries.specs.Names.{longestName}
+use Rattle.trie.specs.Trie.{highest, labelOf, remains, sameFirst, usedUp}
+use Rattle.trie_table.specs.Table.{Table, entries}
 use Rattle.trie_table.proofs.Rows.{entries-at, entries-length, rest-cons, rest-nil, row-inside, row-length}
-use Rattle.trie_rows.proofs.Siblings.{lastOf, label-ends}
-use Rattle.trie_rows.specs.Rows.{setAt, restAt, Chain, Starts, Shared, ahead, behind, carried, higher, setOf, Good, Split}
-use Rattle.trie_table.specs.Table.{rowAt, entries, Table}
+use Rattle.trie_rows.specs.Rows.{Chain, Shared, Starts, restAt, setAt}
+use Rattle.trie_rows.proofs.Siblings.{label-ends, lastOf}
 
-module _ (u m sc : List ℕ) where
-  -- do two suffixes begin alike?
-  module _ (z : Table u m sc) (i j d : ℕ) (hi : i < length m) (hj : j < length m) where
-    pub same-none : getD m i 0 ≤ d → (b : Bool) → (b ≡ true → getD m j 0 ≤ d) → (b ≡ false → d < getD m j 0) → b ≡ sameFirst (restAt (entries u m sc) d i) (restAt (entries u m sc) d j)
-    same-none a true f g = rw (rest-nil u m sc z i hi d a, rest-nil u m sc z j hj d (f refl))
-    same-none a false f g = rw (rest-nil u m sc z i hi d a, rest-cons u m sc z j hj d (g refl))
+-- do two suffixes begin alike?
+module _ {u m sc : List ℕ} (z : Table u m sc) (d : ℕ) {i j : ℕ} (hi : i < length m) (hj : j < length m) where
+  abbrev alike : Bool
+  alike = sameFirst (restAt (entries u m sc) d i) (restAt (entries u m sc) d j)
 
-    pub same-one : d < getD m i 0 → getD m j 0 ≤ d → false ≡ sameFirst (restAt (entries u m sc) d i) (restAt (entries u m sc) d j)
-    same-one a b = rw (rest-cons u m sc z i hi d a, rest-nil u m sc z j hj d b)
+  pub same-none : getD m i 0 ≤ d → {b : Bool} → (b ≡ true → getD m j 0 ≤ d) → (b ≡ false → d < getD m j 0) → b ≡ alike
+  same-none a {b} f g = go b f g
+    where
+      go : (b : Bool) → (b ≡ true → getD m j 0 ≤ d) → (b ≡ false → d < getD m j 0) → b ≡ alike
+      go true f g = rw (rest-nil u m sc z i hi d a, rest-nil u m sc z j hj d (f refl))
+      go false f g = rw (rest-nil u m sc z i hi d a, rest-cons u m sc z j hj d (g refl))
 
-    pub same-both : d < getD m i 0 → d < getD m j 0 → eqb (getD u (i * 48 + d) 0) (getD u (j * 48 + d) 0) ≡ sameFirst (restAt (entries u m sc) d i) (restAt (entries u m sc) d j)
-    same-both a b = rw (rest-cons u m sc z i hi d a, rest-cons u m sc z j hj d b)
+  pub same-one : d < getD m i 0 → getD m j 0 ≤ d → false ≡ alike
+  same-one a b = rw (rest-cons u m sc z i hi d a, rest-nil u m sc z j hj d b)
 
--- ---- ranges
+  pub same-both : d < getD m i 0 → d < getD m j 0 → eqb (getD u (i * longestName + d) 0) (getD u (j * longestName + d) 0) ≡ alike
+  same-both a b = rw (rest-cons u m sc z i hi d a, rest-cons u m sc z j hj d b)
+
+-- ranges of rows
 pub set-cons : (es : List Entry) (a e d : ℕ) → a < e → e ≤ length es → setAt es a e d ≡ entry (restAt es d a) (at es a .score) ∷ setAt es (suc a) e d
 set-cons es a e d h k = ap (remains d) (slice-cons a e es noEntry h k)
 
 pub set-empty : (es : List Entry) (a d : ℕ) → setAt es a a d ≡ []
 set-empty es a d = ap (remains d) (slice-empty a es)
 
--- ---- the highest of a range, from the left
-pub highest-on : (es : List Entry) (m a b : ℕ) → a < b → b ≤ length es → max (max m (at es a .score)) (highest (slice (a + 1) b es)) ≡ max m (highest (slice a b es))
-highest-on es m a b h k = rw (slice-cons a b es noEntry h k, add-one a) (omega arith)
+-- the highest of a range, from the left: the highest so far, with that of the rows left, is the whole's
+pub record Topping (es : List Entry) (a b top i : ℕ) : Type 0 where
+  pub upto : i ≤ b
+  pub rest : max top (highest (slice i b es)) ≡ highest (slice a b es)
 
--- ---- where a set starts
-pub chain-last : (es : List Entry) (e d : ℕ) → 0 < e → e ≤ length es → Chain (setAt es (e - 1) e d)
-chain-last es e d h k =
+pub top-start : {es : List Entry} {a b : ℕ} → a ≤ b → Topping es a b 0 a
+top-start h = record { upto = h; rest = omega arith }
+
+module _ {u m sc : List ℕ} (z : Table u m sc) {a b top i : ℕ} (v : Topping (entries u m sc) a b top i) (inside : b ≤ length m) where
+  pub top-turn : i < b → {new : ℕ} → new ≡ max top (getD sc i 0) → Topping (entries u m sc) a b new (i + 1)
+  top-turn h {new} e =
+      let es = entries u m sc in
+      let score : at es i .score ≡ getD sc i 0 = ap (λ x. x .score) (entries-at u m sc i (omega arith)) in
+      let next : highest (slice i b es) ≡ max (at es i .score) (highest (slice (i + 1) b es)) = rw (slice-cons i b es noEntry h (omega (arith, inside, entries-length u m sc)), add-one i) in
+      record { upto = omega arith; rest = omega (arith, e, score, next, v .rest) }
+
+  pub top-end : b ≤ i → top ≡ highest (slice a b (entries u m sc))
+  top-end h =
+      let e : i ≡ b = omega (arith, v .upto) in
+      let q : max top (highest []) ≡ highest (slice a b (entries u m sc)) = rw (e, slice-empty b (entries u m sc)) at (v .rest) in
+      omega (arith, q)
+
+-- where the set that ends before row e starts, row by row from the last
+pub record Starting (es : List Entry) (d lo e a : ℕ) : Type 0 where
+  pub from : lo ≤ a
+  pub before : a < e
+  pub chain : Chain (setAt es a e d)
+
+pub start-last : {u m sc : List ℕ} → Table u m sc → {lo e : ℕ} (d : ℕ) → lo < e → e ≤ length m → Starting (entries u m sc) d lo e (e - 1)
+start-last {u} {m} {sc} z {e = e} d h k =
     let q : suc (e - 1) ≡ e = omega arith in
-    rw (set-cons es (e - 1) e d (omega arith) k, q, set-empty es e d) tt
+    let es = entries u m sc in
+    record {
+      from = omega arith;
+      before = omega arith;
+      chain = rw (set-cons es (e - 1) e d (omega arith) (omega (arith, k, entries-length u m sc)), q, set-empty es e d) tt;
+    }
 
-pub chain-more : (es : List Entry) (a e d : ℕ) → 0 < a → a < e → e ≤ length es → sameFirst (restAt es d (a - 1)) (restAt es d a) ≡ true → Chain (setAt es a e d) → Chain (setAt es (a - 1) e d)
-chain-more es a e d z h k t c =
-    let q : suc (a - 1) ≡ a = omega arith in
-    rw (set-cons es (a - 1) e d (omega arith) k, q, set-cons es a e d h k) (t, rw (set-cons es a e d h k) at c)
+module _ {u m sc : List ℕ} (z : Table u m sc) {d lo e a : ℕ} (v : Starting (entries u m sc) d lo e a) (k : e ≤ length m) where
+  abbrev rest : ℕ → List ℕ
+  rest p = restAt (entries u m sc) d p
 
--- ---- a name used up
+  pub start-turn : lo < a → {b : Bool} → b ≡ sameFirst (rest (a - 1)) (rest a) → b ≡ true → Starting (entries u m sc) d lo e (a - 1)
+  start-turn h f t =
+      let q : suc (a - 1) ≡ a = omega arith in
+      let es = entries u m sc in
+      let l : e ≤ length es = omega (arith, k, entries-length u m sc) in
+      let w = set-cons es a e d (v .before) l in
+      record {
+        from = omega arith;
+        before = omega (arith, v .before);
+        chain = rw (set-cons es (a - 1) e d (omega (arith, v .before)) l, q, w) (sym f ∙ t, rw w at (v .chain));
+      }
+
+  pub start-edge : {b : Bool} → b ≡ sameFirst (rest (a - 1)) (rest a) → b ≡ false → Starts (entries u m sc) d lo e a
+  start-edge f t = record { from = v .from; before = v .before; chain = v .chain; edge = λ h. sym f ∙ t }
+
+  pub start-end : a ≤ lo → Starts (entries u m sc) d lo e a
+  start-end h = record { from = v .from; before = v .before; chain = v .chain; edge = λ l. absurd (omega arith) }
+
+-- is a range one suffix that is used up?
 pub used-one : (es : List Entry) (lo hi d : ℕ) → hi - lo ≡ 1 → hi ≤ length es → d ≤ length (at es lo .name) → eqb (length (at es lo .name)) d ≡ usedUp 0 (setAt es lo hi d)
 used-one es lo hi d e k l =
     let q : suc lo ≡ hi = omega arith in
@@ -76,10 +125,7 @@ used-not es lo hi d e l k = sym (go (setAt es lo hi d) refl)
     go (x ∷ []) q = absurd (e (sym long ∙ ap length q))
     go (x ∷ y ∷ s) q = refl
 
-pub highest-end : (es : List Entry) (m i b x : ℕ) → i ≡ b → max m (highest (slice i b es)) ≡ x → m ≡ x
-highest-end es m i b x e q = let z : max m (highest []) ≡ x = rw (e, slice-empty b es) at q in omega arith
-
--- ---- the label of a range, by its first and last row
+-- the label of a range, by its first and last row
 drop-take : (d n : ℕ) (l : List ℕ) → drop d (take n l) ≡ take (n - d) (drop d l)
 drop-take zero n l = let q : n - 0 ≡ n = omega arith in rw q
 drop-take (suc d) zero l = let q : 0 - suc d ≡ 0 = omega arith in rw q
@@ -122,10 +168,10 @@ pub row-facts : (u m sc : List ℕ) (z : Table u m sc) (p d : ℕ) → p < lengt
 row-facts u m sc z p d h k = let a = row-length u m sc z p h in (omega arith, z .short p h, row-inside u m sc z p h)
 
 pub label-code :
-    (u m sc : List ℕ) (z : Table u m sc) (a b d c : ℕ) → a < b → b ≤ length m → Shared (entries u m sc) d a b
+    {u m sc : List ℕ} (z : Table u m sc) {a b d c : ℕ} → a < b → b ≤ length m → Shared (entries u m sc) d a b
     → c ≡ common (take ((a * 48 + getD m a 0) - (a * 48 + d)) (drop (a * 48 + d) u)) (take (((b - 1) * 48 + getD m (b - 1) 0) - ((b - 1) * 48 + d)) (drop ((b - 1) * 48 + d) u))
     → length (labelOf (setAt (entries u m sc) a b d)) ≡ min 7 c
-label-code u m sc z a b d c h k s e =
+label-code {u} {m} {sc} z {a} {b} {d} h k s e =
     let n = entries-length u m sc in
     let fa = row-facts u m sc z a d (omega arith) (s .long a (omega arith) h) in
     let fb = row-facts u m sc z (b - 1) d (omega arith) (s .long (b - 1) (omega arith) (omega arith)) in

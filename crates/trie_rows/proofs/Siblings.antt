@@ -1,26 +1,23 @@
 -- The sets of suffixes by first byte, set by set from the last; their order, their labels, how many there are.
-use Prim.Native.Nat.{ℕ, zero, suc, _+_, _*_, _-_, _≤_, _<_, max, min}
-use mathlib.Core.Path.{_≡_, refl, sym, ap, _∙_}
+use Prim.Native.Nat.{_+_, _<_, _≤_, min, suc, ℕ}
+use mathlib.Core.Path.{_∙_, _≡_, ap, refl, sym}
 use mathlib.Core.Logic.{_⊎_, inl, inr}
-use mathlib.Core.Bool.{Bool, true, false, false≢true, _&&_}
-use mathlib.Core.List.{List, [], _∷_, _++_, map, append-assoc, append-nil}
+use mathlib.Core.Bool.{Bool, false, false≢true, true}
+use mathlib.Core.List.{List, [], _++_, _∷_}
+use lib.Dec.{eqb}
+use lib.ListN.{length, length-take, take}
 use native.Mathlib.Nat.{not-suc-le-zero}
 use native.Mathlib.Omega.{arith}
-use lib.Dec.{eqb, ltb, leb}
-use lib.ListN.{length, getD, take, drop, length-append, length-take, length-drop}
-use lib.Seq.{take-nil, take-take, take-all}
-use borrow.Author.Tests.{leb-true, ltb-true, ltb-false, lt-ltb, le-ltb, eqb-true, eqb-false, eq-eqb, ne-eqb}
-use Rattle.octets.specs.Lists.{if_then_else_, _∈_, all, insertBy, sortBy}
-use Rattle.octets.specs.Octets.{common, begins, below}
+use borrow.Author.Tests.{eq-eqb, eqb-false, eqb-true, le-ltb, ne-eqb}
+use Rattle.octets.specs.Lists.{_∈_, insertBy, sortBy}
+use Rattle.octets.specs.Octets.{begins, below, common}
+use Rattle.octets.proofs.Lists.{sort-in}
+use Rattle.octets.proofs.Order.{begins-take, below-cases, below-trans}
+use Rattle.octets.proofs.Tests.{and-true, by-test, eqb-self}
 use Rattle.entries.specs.Entries.{Entry, entry, outranks, rising}
-use Rattle.trie.specs.Trie.{remains, highest, commonPrefix, labelOf, byFirst, joinFirst, sameFirst, usedUp}
-use Rattle.octets.proofs.Tests.{and-true, eqb-self}
-use Rattle.octets.proofs.Order.{below-cases, below-trans, below-irrefl}
-use Rattle.octets.proofs.Tests.{by-test}
-use Rattle.entries.proofs.Valid.{rising-tail, rising-head}
-use Rattle.octets.proofs.Lists.{sort-in, all-in}
-use Rattle.trie.proofs.Sets.{one-first, OneFirst, byFirst-run, commonPrefix-begins, starts, starts-prefix, sameFirst-starts, sameFirst-empty}
-use Rattle.octets.proofs.Order.{begins-take}
+use Rattle.entries.proofs.Valid.{rising-tail}
+use Rattle.trie.specs.Trie.{byFirst, commonPrefix, highest, joinFirst, labelOf, sameFirst}
+use Rattle.trie.proofs.Sets.{OneFirst, commonPrefix-begins, one-first, sameFirst-starts, starts, starts-prefix}
 use Rattle.trie_rows.specs.Rows.{Chain, higher}
 
 -- ---- a chain of suffixes in front of others that begin otherwise is a set of its own

@@ -1,19 +1,19 @@
 -- A table of names: rows of 48 bytes, their lengths, their scores. The sets of suffixes of ranges of rows.
-use Prim.Native.Nat.{ℕ, zero, suc, _+_, _*_, _-_, _≤_, _<_, max}
+use Prim.Native.Nat.{_-_, _<_, _≤_, suc, ℕ}
 use mathlib.Core.Path.{_≡_}
-use mathlib.Core.Bool.{Bool, true, false}
-use mathlib.Core.List.{List, [], _∷_, _++_, map}
-use lib.Dec.{eqb, ltb}
-use lib.ListN.{length, getD, take, drop}
+use mathlib.Core.Bool.{Bool, false, true}
+use mathlib.Core.List.{List, [], _∷_, map}
+use lib.Dec.{ltb}
+use lib.ListN.{drop, length}
 use lib.Seq.{slice}
-use Rattle.octets.specs.Lists.{if_then_else_, all, countFrom, insertBy, sortBy}
+use Rattle.octets.specs.Lists.{all, if_then_else_, sortBy}
 use Rattle.octets.specs.Octets.{below}
-use Rattle.entries.specs.Entries.{Entry, entry, at}
+use Rattle.entries.specs.Entries.{Entry, at}
 use Rattle.entries.specs.Names.{allowedBytes}
-use Rattle.trie.specs.Trie.{remains, highest, labelOf, byFirst, sameFirst, usedUp}
+use Rattle.trie.specs.Trie.{byFirst, highest, labelOf, remains, sameFirst}
 use Rattle.trie_table.specs.Table.{Table, entries}
-use Rattle.trie_nodes.specs.declared.Run.{Run}
 use Rattle.trie_nodes.specs.Runs.{Each, Falls}
+use Rattle.trie_nodes.specs.declared.Run.{Run}
 
 -- what is left of the names of rows lo to hi behind their first d bytes
 abbrev pub setAt : List Entry → ℕ → ℕ → ℕ → List Entry

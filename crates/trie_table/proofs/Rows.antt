@@ -1,8 +1,8 @@
 -- The entries of a table, row by row.
-use Prim.Native.Nat.{_*_, _+_, _-_, _<_, _≤_, suc, zero, ℕ}
+use Prim.Native.Nat.{_*_, _+_, _<_, _≤_, suc, zero, ℕ}
 use mathlib.Core.Path.{_∙_, _≡_, ap, refl}
 use mathlib.Core.List.{List, [], _∷_, map}
-use lib.ListN.{drop, drop-of-length-le, getD, length, length-drop, length-map, take}
+use lib.ListN.{drop, drop-of-length-le, getD, length, length-drop, length-map}
 use lib.Seq.{drop-cons, getD-drop, getD-take, length-take-le}
 use native.Mathlib.Nat.{add-zero, not-suc-le-zero}
 use native.Mathlib.Omega.{arith}

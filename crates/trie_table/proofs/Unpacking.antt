@@ -1,14 +1,14 @@
 -- The loop that unpacks a book: the rows before the cursor hold its entries.
 use Prim.Native.Nat.{_*_, _+_, _<_, _≤_, suc, ℕ}
-use mathlib.Core.Path.{_∙_, _≡_, ap, refl, sym}
+use mathlib.Core.Path.{_∙_, _≡_, ap, refl}
 use mathlib.Core.Logic.{inl}
 use mathlib.Core.Bool.{true}
 use mathlib.Core.List.{List, map}
+use lib.Dec.{ltb}
 use lib.ListN.{drop, getD, length, length-set, set, take}
 use lib.Seq.{getD-set-other, getD-set-same, getD-take, length-sets, length-take-le, sets}
 use native.Mathlib.Omega.{arith}
 use borrow.Author.Tests.{ltb-false, ltb-true}
-use lib.Dec.{ltb}
 use Rattle.octets.specs.Lists.{countFrom}
 use Rattle.octets.specs.Octets.{begins}
 use Rattle.octets.proofs.Lists.{at-all}
@@ -27,7 +27,7 @@ use Rattle.book.specs.Held.{Held}
 use Rattle.book.proofs.Lookups.{held-few, held-stored, held-valid}
 use Rattle.book_writer.specs.Calls.{Started}
 use Rattle.sheet.proofs.Listing.{Listed, read-start}
-use Rattle.trie_table.specs.Table.{Room, Table, Unpacked, entries, rowAt}
+use Rattle.trie_table.specs.Table.{Room, Unpacked, entries, rowAt}
 use Rattle.trie_table.proofs.Rows.{map-count}
 use Rattle.front_coding.specs.declared.Cursor.{Cursor}
 

@@ -1,7 +1,7 @@
 -- What stands under one row: a group of one node, and what stands under that.
 use Prim.Native.Nat.{_+_, _-_, _<_, _≤_, min, suc, ℕ}
 use mathlib.Core.Path.{_∙_, _≡_, ap, refl, sym}
-use mathlib.Core.Bool.{Bool, false, true}
+use mathlib.Core.Bool.{Bool, false}
 use mathlib.Core.List.{List, [], _∷_}
 use lib.ListN.{getD, length, length-drop, length-take}
 use native.Mathlib.Omega.{arith}
@@ -10,7 +10,7 @@ use Rattle.entries.specs.Entries.{Entry, at, entry}
 use Rattle.entries.specs.Names.{longestName}
 use Rattle.trie.specs.Trie.{longestLabel, usedUp}
 use Rattle.trie_table.specs.Table.{Table, entries}
-use Rattle.trie_table.proofs.Rows.{entries-at, entries-length, row-length}
+use Rattle.trie_table.proofs.Rows.{entries-at, row-length}
 use Rattle.trie_nodes.specs.Nodes.{Finished, Finishing}
 use Rattle.trie_rows.specs.Rows.{Split, restAt, setAt}
 use Rattle.trie_rows.proofs.Laws.{set-cons, set-empty, used-one}

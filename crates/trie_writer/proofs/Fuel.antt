@@ -1,26 +1,23 @@
 -- The group of a set does not depend on how many levels are allowed, where these are enough; and how long it is at most.
-use Prim.Native.Nat.{ℕ, zero, suc, _+_, _*_, _-_, _≤_, _<_, max, min}
-use mathlib.Core.Path.{_≡_, refl, sym, ap, _∙_}
-use mathlib.Core.Logic.{_⊎_, inl, inr}
-use mathlib.Core.Bool.{Bool, true, false, false≢true}
-use mathlib.Core.List.{List, [], _∷_, _++_, map}
-use native.Mathlib.Nat.{not-suc-le-zero, mul-add, mul-suc, add-mul}
+use Prim.Native.Nat.{_*_, _+_, _-_, _<_, _≤_, suc, zero, ℕ}
+use mathlib.Core.Path.{_≡_, ap, refl}
+use mathlib.Core.Logic.{inl, inr}
+use mathlib.Core.Bool.{Bool, false, true}
+use mathlib.Core.List.{List, [], _++_, _∷_, map}
+use lib.ListN.{drop, length, length-append, length-map}
+use native.Mathlib.Nat.{add-mul, mul-add, mul-suc, not-suc-le-zero}
 use native.Mathlib.Omega.{arith}
-use lib.Dec.{eqb, ltb}
-use lib.ListN.{length, take, drop, length-append, length-take}
-use Rattle.octets.specs.Lists.{if_then_else_, _∈_, insertBy, sortBy, concatMap}
+use Rattle.octets.specs.Lists.{_∈_, concatMap, if_then_else_, sortBy}
 use Rattle.octets.specs.Octets.{be}
-use Rattle.entries.specs.Entries.{Entry, entry}
-use Rattle.entries.specs.Completion.{different}
-use Rattle.trie.specs.Trie.{Node, remains, highest, labelOf, usedUp, byFirst, joinFirst, sameFirst, nodeOf, groupOf, groupBytes, siblings, otherBytes, ownSize, sizeOf, nodeBytes, standsBefore, isLeaf, isLast, firstScore, headerByte}
-use Rattle.octets.proofs.Tests.{by-test}
 use Rattle.octets.proofs.Coding.{length-be}
-use Rattle.octets.proofs.Lists.{sort-in, sort-length}
 use Rattle.octets.proofs.Count.{count, count-concat-sort}
-use Rattle.trie.proofs.Sets.{OneFirst, flat, byFirst-run, byFirst-flat, label-split, label-short, label-progress, stripped, different-remains, length-remains}
-use Rattle.octets.proofs.Lists.{map-in}
-use Rattle.trie.proofs.Trie.{set-in, set-different, run-some, node-leaf, node-inner, node-label, node-score}
-use lib.ListN.{length-map}
+use Rattle.octets.proofs.Lists.{map-in, sort-in, sort-length}
+use Rattle.octets.proofs.Tests.{by-test}
+use Rattle.entries.specs.Completion.{different}
+use Rattle.entries.specs.Entries.{Entry}
+use Rattle.trie.specs.Trie.{Node, byFirst, firstScore, groupBytes, groupOf, highest, isLast, isLeaf, joinFirst, labelOf, nodeBytes, nodeOf, otherBytes, ownSize, remains, sameFirst, siblings, sizeOf, standsBefore, usedUp}
+use Rattle.trie.proofs.Sets.{byFirst-flat, byFirst-run, different-remains, flat, label-progress, label-short, label-split, length-remains, stripped}
+use Rattle.trie.proofs.Trie.{node-inner, node-label, node-leaf, run-some, set-different, set-in}
 use Rattle.trie_nodes.proofs.Fields.{ownSize-le, sizeOf-le}
 
 -- what a set must have so that d levels are enough

@@ -1,27 +1,26 @@
 -- What stands under the siblings of a group, put from the last to the first: the invariant, a turn and the end.
-use Prim.Native.Nat.{ℕ, zero, suc, _+_, _*_, _-_, _≤_, _<_, max, min}
-use mathlib.Core.Path.{_≡_, refl, sym, ap, _∙_}
+use Prim.Native.Nat.{_*_, _+_, _-_, _<_, _≤_, suc, zero, ℕ}
+use mathlib.Core.Path.{_∙_, _≡_, ap, refl, sym}
 use mathlib.Core.Logic.{_⊎_, inl, inr}
-use mathlib.Core.Bool.{Bool, true, false, false≢true}
-use mathlib.Core.List.{List, [], _∷_, _++_, map, append-assoc, append-nil}
-use native.Mathlib.Nat.{not-suc-le-zero, le-refl, add-zero, add-suc, suc-add}
+use mathlib.Core.Bool.{Bool, false, true}
+use mathlib.Core.List.{List, [], _++_, _∷_, append-assoc, append-nil, map}
+use lib.ListN.{List·getD-append, drop, drop-of-length-le, getD, length, length-append, set, take}
+use lib.Seq.{drop-cons, getD-take, length-sets, length-take-le, set-at, set-comm, sets, take-all, take-suc}
+use native.Mathlib.Nat.{add-zero, not-suc-le-zero}
 use native.Mathlib.Omega.{arith}
-use lib.ListN.{length, getD, set, take, drop, length-append, length-take, length-drop, length-set, length-map, drop-of-length-le, List·getD-append}
-use lib.Seq.{sets, length-sets, set-comm, take-take, length-take-le, take-suc, drop-cons, getD-take, set-at, take-all}
-use Rattle.octets.specs.Lists.{if_then_else_, _∈_, concatMap}
-use Rattle.entries.specs.Entries.{Entry, entry}
-use Rattle.entries.specs.Names.{longestName}
-use Rattle.trie.specs.Trie.{usedUp, byFirst}
-use Rattle.octets.proofs.Tests.{by-test}
+use Rattle.octets.specs.Lists.{_∈_, concatMap}
 use Rattle.octets.proofs.Lists.{in-map}
-use Rattle.trie_nodes.specs.declared.Run.{Run}
-use Rattle.trie_nodes.specs.Runs.{Each, noRun}
-use Rattle.trie_nodes.specs.Nodes.{Finished, Finishing, ownBytes, putAt}
-use Rattle.trie_rows.specs.Rows.{Named, setAt, Shared, setOf, Good, Split, Splittable}
-use Rattle.trie_table.specs.Table.{entries, Table}
+use Rattle.entries.specs.Entries.{Entry}
+use Rattle.entries.specs.Names.{longestName}
+use Rattle.trie.specs.Trie.{byFirst, usedUp}
+use Rattle.trie_table.specs.Table.{Table, entries}
 use Rattle.trie_table.proofs.Rows.{entries-length}
-use Rattle.trie_writer.specs.Writing.{underAt, Groupable, Grouped}
-use Rattle.trie_writer.proofs.Shown.{underRun, fill, in-group, group-runs, filled-sound, filled-falls, run-shared, run-falls, run-deep}
+use Rattle.trie_nodes.specs.Nodes.{Finished, Finishing, ownBytes, putAt}
+use Rattle.trie_nodes.specs.Runs.{Each, noRun}
+use Rattle.trie_rows.specs.Rows.{Good, Shared, Split, setAt, setOf}
+use Rattle.trie_writer.specs.Writing.{Groupable, Grouped, underAt}
+use Rattle.trie_writer.proofs.Shown.{fill, filled-falls, filled-sound, group-runs, in-group, run-deep, run-falls, run-shared, underRun}
+use Rattle.trie_nodes.specs.declared.Run.{Run}
 
 -- ---- stores behind and before
 set-sets : (l : List ℕ) (i j x : ℕ) (b : List ℕ) → i < j → set (sets l j b) i x ≡ sets (set l i x) j b

@@ -1,39 +1,36 @@
 -- The bytes of a group, from the runs of its siblings.
-use Prim.Native.Nat.{ℕ, zero, suc, _+_, _*_, _-_, _≤_, _<_, max, min}
-use mathlib.Core.Path.{_≡_, refl, sym, ap, _∙_}
+use Prim.Native.Nat.{_*_, _+_, _-_, _<_, _≤_, suc, zero, ℕ}
+use mathlib.Core.Path.{_∙_, _≡_, ap, refl, sym}
 use mathlib.Core.Logic.{_⊎_, inl, inr}
-use mathlib.Core.Bool.{Bool, true, false, false≢true}
-use mathlib.Core.List.{List, [], _∷_, _++_, map}
-use native.Mathlib.Omega.{arith}
+use mathlib.Core.Bool.{Bool, false, false≢true, true}
+use mathlib.Core.List.{List, [], _++_, _∷_, map}
 use lib.Dec.{eqb, ltb}
-use lib.ListN.{length, getD, take, drop, length-append, length-take, length-drop}
-use lib.Seq.{slice, drop-drop, take-append-seam, take-take}
-use borrow.Author.Tests.{eqb-true, eqb-false, eq-eqb, ne-eqb, ltb-true, ltb-false}
-use Rattle.octets.specs.Lists.{if_then_else_, _∈_, countFrom, insertBy, sortBy, concatMap}
-use Rattle.octets.specs.Octets.{below, be}
-use Rattle.entries.specs.Entries.{Entry, entry, at, rising}
-use Rattle.trie.specs.Trie.{Node, remains, highest, labelOf, usedUp, byFirst, nodeOf, groupOf, groupBytes, siblings, otherBytes, ownSize, sizeOf, nodeBytes, standsBefore, isLeaf, isLast, firstScore, headerByte}
-use Rattle.octets.proofs.Tests.{by-test}
-use Rattle.octets.proofs.Tests.{eqb-self}
-use Rattle.octets.proofs.Lists.{sort-in}
+use lib.ListN.{drop, getD, length, length-append, length-drop, length-take, take}
+use lib.Seq.{drop-drop, slice, take-append-seam, take-take}
+use native.Mathlib.Omega.{arith}
+use borrow.Author.Tests.{eq-eqb, eqb-false, eqb-true, ltb-false, ltb-true, ne-eqb}
+use Rattle.octets.specs.Lists.{_∈_, concatMap, countFrom, sortBy}
+use Rattle.octets.specs.Octets.{below}
+use Rattle.octets.proofs.Lists.{map-in, sort-in, sort-map}
+use Rattle.octets.proofs.Tests.{by-test, eqb-self}
+use Rattle.entries.specs.Entries.{Entry, at, entry}
 use Rattle.entries.proofs.BestList.{different-rising}
-use Rattle.trie.proofs.Sets.{byFirst-run, label-split, label-short, label-progress, stripped}
-use Rattle.octets.proofs.Lists.{map-in}
-use Rattle.octets.proofs.Lists.{sort-map}
-use Rattle.trie.proofs.Trie.{set-different, node-leaf, node-inner, node-label, node-score}
-use Rattle.trie_nodes.specs.declared.Run.{Run}
-use Rattle.trie_nodes.specs.declared.Next.{Next}
+use Rattle.trie.specs.Trie.{Node, byFirst, firstScore, groupBytes, groupOf, isLast, labelOf, nodeBytes, nodeOf, otherBytes, remains, siblings, standsBefore, usedUp}
+use Rattle.trie.proofs.Sets.{byFirst-run, label-progress, label-short, label-split, stripped}
+use Rattle.trie.proofs.Trie.{node-inner, node-label, node-leaf, node-score, set-different}
+use Rattle.trie_table.specs.Table.{Table, entries, rowAt}
+use Rattle.trie_table.proofs.Rows.{entries-length, row-length}
+use Rattle.trie_nodes.specs.Nodes.{Sound, after, firstOf, labelIn, nodesBytes, nodesLength, oneNode, ownBytes, plain}
 use Rattle.trie_nodes.specs.Runs.{Each, Falls, endsHere, firstHigh}
-use Rattle.trie_nodes.specs.Nodes.{Sound, after, childSize, childValue, firstOf, labelIn, nodesBytes, nodesLength, oneNode, ownBytes, plain}
 use Rattle.trie_nodes.proofs.Loops.{length-nodesBytes}
-use Rattle.trie_rows.specs.Rows.{setAt, restAt, Shared, Named, higher, setOf, Good, Split}
-use Rattle.trie_table.specs.Table.{rowAt, entries, Table}
-use Rattle.trie_rows.proofs.Laws.{set-cons, shared-rising, row-facts, rest-part}
-use Rattle.trie_table.proofs.Rows.{row-length, entries-length, entries-at}
+use Rattle.trie_rows.specs.Rows.{Good, Shared, Split, higher, restAt, setAt, setOf}
+use Rattle.trie_rows.proofs.Laws.{rest-part, row-facts, set-cons, shared-rising}
+use Rattle.trie_rows.proofs.Siblings.{byFirst-ordered, sort-higher}
 use Rattle.trie_rows.proofs.Splitting.{set-member}
-use Rattle.trie_rows.proofs.Siblings.{setBefore, sort-higher, byFirst-ordered}
 use Rattle.trie_writer.specs.Writing.{underAt}
-use Rattle.trie_writer.proofs.Fuel.{Enough, enough-more, set-enough, remains-some, group-fuel}
+use Rattle.trie_writer.proofs.Fuel.{Enough, enough-more, group-fuel, remains-some, set-enough}
+use Rattle.trie_nodes.specs.declared.Next.{Next}
+use Rattle.trie_nodes.specs.declared.Run.{Run}
 
 -- ---- a node and the run that shows it
 pub record Shows (names : List ℕ) (d : ℕ) (x : Node) (r : Run) : Type 0 where

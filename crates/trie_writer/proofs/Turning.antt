@@ -3,7 +3,7 @@ use Prim.Native.Nat.{_*_, _+_, _-_, _<_, _≤_, ℕ}
 use mathlib.Core.Path.{_∙_, _≡_, ap, refl, sym}
 use mathlib.Core.Bool.{Bool, false}
 use mathlib.Core.List.{List}
-use lib.ListN.{getD, length, set, take}
+use lib.ListN.{getD, length, take}
 use lib.Seq.{getD-take, sets, take-set-lt}
 use native.Mathlib.Omega.{arith}
 use Rattle.entries.specs.Entries.{Entry}

@@ -1,35 +1,34 @@
 -- The whole table: all rows share no byte, and what stands under them is the trie's body.
-use Prim.Native.Nat.{ℕ, zero, suc, _+_, _*_, _-_, _≤_, _<_}
-use mathlib.Core.Path.{_≡_, refl, sym, ap, _∙_}
-use mathlib.Core.Logic.{_⊎_, inl, inr}
-use mathlib.Core.Bool.{Bool, true, false, false≢true, _&&_}
-use mathlib.Core.List.{List, [], _∷_, _++_, map}
+use Prim.Native.Nat.{_+_, _-_, _<_, _≤_, suc, zero, ℕ}
+use mathlib.Core.Path.{_∙_, _≡_, ap, refl, sym}
+use mathlib.Core.Bool.{Bool, _&&_, false, true}
+use mathlib.Core.List.{List, [], _∷_}
+use lib.Dec.{leb}
+use lib.ListN.{length, set}
+use lib.Seq.{sets, slice, take-all}
 use native.Mathlib.Nat.{not-suc-le-zero}
 use native.Mathlib.Omega.{arith}
-use lib.Dec.{leb, ltb}
-use lib.ListN.{length, getD, set, take, drop}
-use lib.Seq.{sets, slice, take-all}
-use borrow.Author.Tests.{leb-true, ne-eqb, lt-ltb, le-ltb}
-use Rattle.octets.specs.Lists.{if_then_else_, all}
-use Rattle.octets.specs.Octets.{below, be}
-use Rattle.entries.specs.Entries.{Entry, entry, at, valid, rising}
-use Rattle.entries.specs.Names.{isName, isPrefix, allowedBytes}
-use Rattle.book.specs.Frame.{framed}
-use Rattle.trie.specs.Trie.{remains, highest, usedUp, groupOf, trieImage}
-use Rattle.octets.proofs.Tests.{and-true}
-use Rattle.entries.proofs.Valid.{Valid, valid-of}
+use borrow.Author.Tests.{le-ltb, leb-true, lt-ltb, ne-eqb}
+use Rattle.octets.specs.Lists.{all}
+use Rattle.octets.specs.Octets.{be, below}
 use Rattle.octets.proofs.Lists.{all-imp}
-use Rattle.book.proofs.Frame.{framed-length}
-use Rattle.trie_nodes.specs.Nodes.{putAt}
 use Rattle.octets.proofs.Stores.{sets-overwrite}
+use Rattle.octets.proofs.Tests.{and-true}
+use Rattle.entries.specs.Entries.{Entry, at, rising, valid}
+use Rattle.entries.specs.Names.{allowedBytes, isName, isPrefix}
+use Rattle.entries.proofs.Valid.{Valid, valid-of}
+use Rattle.book.specs.Frame.{framed}
+use Rattle.book.proofs.Frame.{framed-length}
 use Rattle.sheet.proofs.Listing.{frame-stores}
-use Rattle.trie_rows.specs.Rows.{Named, setAt, restAt, Shared}
-use Rattle.trie_table.specs.Table.{entries, Table}
+use Rattle.trie.specs.Trie.{groupOf, highest, remains, trieImage, usedUp}
+use Rattle.trie_table.specs.Table.{Table, entries}
 use Rattle.trie_table.proofs.Rows.{entries-length}
+use Rattle.trie_nodes.specs.Nodes.{putAt}
+use Rattle.trie_rows.specs.Rows.{Named, Shared, setAt}
+use Rattle.trie_writer.specs.Writing.{Answered, Groupable, Grouped, underAt}
+use Rattle.trie_writer.proofs.Fuel.{group-bound}
 use Rattle.trie_writer.specs.declared.Wrote.{Wrote}
 use Rattle.trie_writer.specs.declared.Wrote.the-variants.{Bytes, TooShort}
-use Rattle.trie_writer.specs.Writing.{underAt, Groupable, Grouped, Answered}
-use Rattle.trie_writer.proofs.Fuel.{group-bound}
 
 rising-at : (es : List Entry) (p : ℕ) → rising es ≡ true → suc p < length es → below (at es p .name) (at es (suc p) .name) ≡ true
 rising-at [] p r h = absurd (not-suc-le-zero h)

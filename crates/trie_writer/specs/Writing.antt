@@ -1,18 +1,17 @@
 -- What stands under a range of rows, and the call that writes a trie.
-use Prim.Native.Nat.{ℕ, zero, suc, _+_, _*_, _-_, _≤_, _<_}
+use Prim.Native.Nat.{_+_, _-_, _<_, _≤_, ℕ}
 use mathlib.Core.Path.{_≡_}
-use mathlib.Core.Bool.{Bool, true, false}
-use mathlib.Core.List.{List, [], _∷_, _++_}
+use mathlib.Core.Bool.{Bool, false, true}
+use mathlib.Core.List.{List, []}
 use lib.Dec.{ltb}
-use lib.ListN.{length, take, drop}
-use lib.Seq.{sets}
+use lib.ListN.{length}
 use Rattle.octets.specs.Lists.{if_then_else_}
 use Rattle.octets.specs.Octets.{overwrite}
-use Rattle.entries.specs.Entries.{Entry, valid}
-use Rattle.trie.specs.Trie.{usedUp, groupOf, trieImage}
+use Rattle.entries.specs.Entries.{Entry}
+use Rattle.trie.specs.Trie.{groupOf, trieImage, usedUp}
+use Rattle.trie_table.specs.Table.{entries}
 use Rattle.trie_nodes.specs.Nodes.{putAt}
-use Rattle.trie_rows.specs.Rows.{setAt, Splittable}
-use Rattle.trie_table.specs.Table.{entries, Table}
+use Rattle.trie_rows.specs.Rows.{Splittable, setAt}
 use Rattle.trie_writer.specs.declared.Wrote.{Wrote}
 use Rattle.trie_writer.specs.declared.Wrote.the-variants.{Bytes, TooShort}
 

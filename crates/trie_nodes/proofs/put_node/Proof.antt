@@ -1,7 +1,7 @@
 -- `trie_nodes::put_node` meets its contract: the header, the two fields and the label, one store behind the other.
 -- No loop, so no invariant. Assumes nothing.
 use Prim.Native.Nat.{_+_, _≤_}
-use mathlib.Core.Path.{_∙_, _≡_, ap}
+use mathlib.Core.Path.{_∙_, ap}
 use lib.ListN.{length, length-set}
 use lib.Seq.{sets}
 use native.Mathlib.Omega.{arith}

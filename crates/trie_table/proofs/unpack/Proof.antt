@@ -1,9 +1,9 @@
 -- `trie_table::unpack` meets its contract. The loop's invariant: the rows before the cursor hold the entries before it.
 -- The measure is the number of entries left. Assumes nothing.
 use Prim.Native.Nat.{_-_, _≤_}
-use mathlib.Core.Path.{_∙_, _≡_, ap, sym}
-use lib.ListN.{length, length-set, take}
-use lib.Seq.{length-sets, length-take-le}
+use mathlib.Core.Path.{_≡_, sym}
+use lib.ListN.{length, take}
+use lib.Seq.{length-take-le}
 use native.Mathlib.Omega.{arith}
 use borrow.Author.Needs.{needs}
 use Rattle.entries.specs.Names.{longestName}

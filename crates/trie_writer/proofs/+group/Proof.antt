@@ -1,27 +1,27 @@
 -- `trie_writer::group` meets its contract. The loop's invariant: the groups behind the index are put, and their lengths are kept in the runs.
 -- The loop's measure is the index; the recursion's is the bytes left of a name's 48, then the rows. Assumes nothing.
+use Prim.Native.Nat.{_*_, _+_, _-_, _<_, ℕ}
 use mathlib.Core.Path.{_∙_, ap, refl, subst}
 use lib.ListN.{length, length-replicate}
 use native.Mathlib.Omega.{arith}
 use borrow.Author.Needs.{needs}
+use borrow.Fn.Kinds.{In}
+use borrow.Fn.PlainCycle.{Measures, and, falls, is}
 use Rattle.entries.specs.Names.{longestName}
 use Rattle.trie_table.specs.Table.{entries}
 use Rattle.trie_writer.proofs.Going.{length-put}
 use Rattle.trie_writer.proofs.Turning.{Turning, deep, kept, not-one, one-grouped, one-ready, place, turn, turn-end, turn-ready, turn-start, under-falls, under-low, under-ready}
-use Prim.Native.Nat.{_*_, _+_, _-_, _<_, ℕ}
-use borrow.Fn.Kinds.{In}
-use borrow.Fn.PlainCycle.{Measures, is, falls, and}
-use Rattle.trie_writer.proofs.group.Reads as group
-use Rattle.trie_writer.proofs.group.Kinds as group-kinds
-use Rattle.trie_writer.proofs.+group.Lts-group as group-lts
 use Rattle.trie_nodes.proofs.finish.Reads as finish-reads
 use Rattle.trie_nodes.proofs.put_run.Reads as put-run-reads
 use Rattle.trie_nodes.proofs.run_at.Reads as run-at-reads
 use Rattle.trie_rows.proofs.split.Reads as split-reads
+use Rattle.trie_writer.proofs.+group.{statement}
+use Rattle.trie_writer.proofs.+group.Lts-group as group-lts
+use Rattle.trie_writer.proofs.+group.Tie.{close}
+use Rattle.trie_writer.proofs.group.Kinds as group-kinds
+use Rattle.trie_writer.proofs.group.Reads as group
 use Rattle.trie_writer.proofs.lone.Reads as lone-reads
 use Rattle.trie_writer.proofs.with_under.Reads as with-under-reads
-use Rattle.trie_writer.proofs.+group.{statement}
-use Rattle.trie_writer.proofs.+group.Tie.{close}
 
 abbrev μ-group : Measures 4 group-kinds.ps ℕ
 μ-group κs a = (longestName - a .1 .1 .1 .1 .1 .0) * 2048 + (a .1 .1 .1 .1 .0 - a .1 .1 .1 .0)

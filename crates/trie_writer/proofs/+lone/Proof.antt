@@ -1,21 +1,21 @@
 -- `trie_writer::lone` meets its contract: a group of one node in front of what stands under it.
 -- The recursion's measure is the bytes left of a name's 48. Assumes nothing.
+use Prim.Native.Nat.{_+_, _-_, _<_, ℕ}
 use mathlib.Core.Path.{_∙_, ap, refl, subst, sym}
 use lib.ListN.{length}
 use native.Mathlib.Omega.{arith}
+use borrow.Fn.Kinds.{In}
+use borrow.Fn.PlainCycle.{Measures, and, falls, is}
 use Rattle.entries.specs.Names.{longestName}
 use Rattle.trie_writer.proofs.Alone.{lone-falls, lone-finish, lone-grouped, lone-low, lone-none, lone-ready, row-long, row-low}
 use Rattle.trie_writer.proofs.Going.{length-put}
-use Prim.Native.Nat.{_+_, _-_, _<_, ℕ}
-use borrow.Fn.Kinds.{In}
-use borrow.Fn.PlainCycle.{Measures, is, falls, and}
-use Rattle.trie_writer.proofs.lone.Reads as lone
-use Rattle.trie_writer.proofs.lone.Kinds as lone-kinds
-use Rattle.trie_writer.proofs.+lone.Lts-lone as lone-lts
 use Rattle.trie_nodes.proofs.finish_one.Reads as finish-one-reads
-use Rattle.trie_writer.proofs.cut.Reads as cut-reads
 use Rattle.trie_writer.proofs.+lone.{statement}
+use Rattle.trie_writer.proofs.+lone.Lts-lone as lone-lts
 use Rattle.trie_writer.proofs.+lone.Tie.{close}
+use Rattle.trie_writer.proofs.cut.Reads as cut-reads
+use Rattle.trie_writer.proofs.lone.Kinds as lone-kinds
+use Rattle.trie_writer.proofs.lone.Reads as lone
 
 abbrev μ-lone : Measures 4 lone-kinds.ps ℕ
 μ-lone κs a = longestName - a .1 .1 .1 .1 .0

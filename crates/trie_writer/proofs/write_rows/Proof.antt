@@ -6,8 +6,6 @@ use mathlib.Core.Bool.{false≢true}
 use lib.ListN.{length, length-set}
 use native.Mathlib.Omega.{arith}
 use borrow.Author.Needs.{needs}
-use Rattle.trie_rows.specs.Rows.{Splittable}
-use Rattle.trie_writer.specs.Writing.{Grouped}
 use Rattle.trie_writer.proofs.Whole.{measured, ready, refused, size-is, small, wrote}
 use Rattle.trie_writer.proofs.write_rows.Statement.{statement}
 use Rattle.trie_writer.proofs.write_rows.Tie as tie
