@@ -132,10 +132,10 @@ drop-take (suc d) zero l = let q : 0 - suc d ≡ 0 = omega arith in rw q
 drop-take (suc d) (suc n) [] = sym (take-nil (suc n - suc d))
 drop-take (suc d) (suc n) (x ∷ l) = let q : suc n - suc d ≡ n - d = omega arith in rw q (drop-take d n l)
 
-pub rest-part : (u m sc : List ℕ) → Table u m sc → (p d : ℕ) → p < length m → d ≤ getD m p 0 → take ((p * 48 + getD m p 0) - (p * 48 + d)) (drop (p * 48 + d) u) ≡ restAt (entries u m sc) d p
+pub rest-part : (u m sc : List ℕ) → Table u m sc → (p d : ℕ) → p < length m → d ≤ getD m p 0 → take ((p * longestName + getD m p 0) - (p * longestName + d)) (drop (p * longestName + d) u) ≡ restAt (entries u m sc) d p
 rest-part u m sc z p d h k =
-    let e : (p * 48 + getD m p 0) - (p * 48 + d) ≡ getD m p 0 - d = omega arith in
-    rw (entries-at u m sc p h, e, drop-take d (getD m p 0) (drop (p * 48) u), drop-drop d (p * 48) u)
+    let e : (p * longestName + getD m p 0) - (p * longestName + d) ≡ getD m p 0 - d = omega arith in
+    rw (entries-at u m sc p h, e, drop-take d (getD m p 0) (drop (p * longestName) u), drop-drop d (p * longestName) u)
 
 pub last-at : (es : List Entry) (d k a b : ℕ) → a + suc k ≡ b → b ≤ length es → lastOf (entry (restAt es d a) (at es a .score)) (setAt es (suc a) b d) .name ≡ restAt es d (b - 1)
 last-at es d zero a b e h = let q : b ≡ suc a = omega arith in let r : suc a - 1 ≡ a = omega arith in rw (q, set-empty es (suc a) d, r)
@@ -164,12 +164,12 @@ shared-part es d lo hi a b s h k l =
     record { order = k; inside = omega arith; long = λ p x y. s .long p (omega arith) (omega arith); rises = λ p x y. s .rises p (omega arith) (omega arith) }
 
 -- a row's bytes behind the first d
-pub row-facts : (u m sc : List ℕ) (z : Table u m sc) (p d : ℕ) → p < length m → d ≤ length (at (entries u m sc) p .name) → (d ≤ getD m p 0) × (getD m p 0 ≤ 48) × (p * 48 + 48 ≤ length u)
+pub row-facts : (u m sc : List ℕ) (z : Table u m sc) (p d : ℕ) → p < length m → d ≤ length (at (entries u m sc) p .name) → (d ≤ getD m p 0) × (getD m p 0 ≤ longestName) × (p * longestName + longestName ≤ length u)
 row-facts u m sc z p d h k = let a = row-length u m sc z p h in (omega arith, z .short p h, row-inside u m sc z p h)
 
 pub label-code :
     {u m sc : List ℕ} (z : Table u m sc) {a b d c : ℕ} → a < b → b ≤ length m → Shared (entries u m sc) d a b
-    → c ≡ common (take ((a * 48 + getD m a 0) - (a * 48 + d)) (drop (a * 48 + d) u)) (take (((b - 1) * 48 + getD m (b - 1) 0) - ((b - 1) * 48 + d)) (drop ((b - 1) * 48 + d) u))
+    → c ≡ common (take ((a * longestName + getD m a 0) - (a * longestName + d)) (drop (a * longestName + d) u)) (take (((b - 1) * longestName + getD m (b - 1) 0) - ((b - 1) * longestName + d)) (drop ((b - 1) * longestName + d) u))
     → length (labelOf (setAt (entries u m sc) a b d)) ≡ min 7 c
 label-code {u} {m} {sc} z {a} {b} {d} h k s e =
     let n = entries-length u m sc in

@@ -18,9 +18,10 @@ use Rattle.entries.specs.Entries.{Entry, entry, outranks, rising}
 use Rattle.entries.proofs.Valid.{rising-tail}
 use Rattle.trie.specs.Trie.{byFirst, commonPrefix, highest, joinFirst, labelOf, sameFirst}
 use Rattle.trie.proofs.Sets.{OneFirst, commonPrefix-begins, one-first, sameFirst-starts, starts, starts-prefix}
+use Rattle.trie_nodes.specs.Runs.{mostRuns}
 use Rattle.trie_rows.specs.Rows.{Chain, higher}
 
--- ---- a chain of suffixes in front of others that begin otherwise is a set of its own
+-- a chain of suffixes in front of others that begin otherwise is a set of its own
 abbrev pub lastOf : Entry → List Entry → Entry
 lastOf x [] = x
 lastOf x (y ∷ ys) = lastOf y ys
@@ -50,7 +51,7 @@ chain-set x [] [] c e = refl
 chain-set x [] (f ∷ fs) c e = let h = first-head f fs in rw (h .eq) (join-apart x f (h .more) (h .others) (e f fs refl))
 chain-set x (y ∷ xs) ys c e = rw (chain-set y xs ys (c .1) e) (join-same x y xs (byFirst ys) (c .0))
 
--- ---- the order of the sets
+-- the order of the sets
 abbrev pub key : List ℕ → ℕ
 key [] = 0
 key (b ∷ w) = suc b
@@ -97,7 +98,7 @@ byFirst-ordered (e ∷ f ∷ es) r = go (first-head f es) (byFirst-ordered (f �
         lower t s (inl q) p = rw q (below-key (e .name) (f .name) b t)
         lower t s (inr m) p = let a = p .0 s m in let k = below-key (e .name) (f .name) b t in omega arith
 
--- ---- a label begins as the suffixes do
+-- a label begins as the suffixes do
 label-empty : (e : Entry) (es : List Entry) → e .name ≡ [] → labelOf (e ∷ es) ≡ []
 label-empty e es q = go (labelOf (e ∷ es)) (e .name) (begins-take 7 (commonPrefix (e ∷ es)) (e .name) (commonPrefix-begins (e ∷ es) e (inl refl))) q
   where
@@ -126,7 +127,7 @@ key-below [] v h = refl
 key-below (x ∷ u) [] h = absurd (not-suc-le-zero h)
 key-below (x ∷ u) (y ∷ v) h = rw (ne-eqb y x (λ e. omega arith)) (le-ltb y x (omega arith))
 
--- ---- siblings by score alone
+-- siblings by score alone
 abbrev pub setBefore : List Entry → List Entry → Bool
 setBefore a b = outranks (entry (labelOf a) (highest a)) (entry (labelOf b) (highest b))
 
@@ -151,7 +152,7 @@ sort-higher (s ∷ ss) o r =
     let n = sort-in higher y ss m in
     before-higher s y (key-below (labelOf s) (labelOf y) (let a = o .0 y n in let b = label-key s (r s (inl refl)) in let c = label-key y (r y (inr n)) in omega arith)))
 
--- ---- there are at most 96: the empty suffix and 95 bytes
+-- there are at most 96: the empty suffix and 95 bytes
 abbrev pub Keyed : List (List Entry) → Type 0
 Keyed ss = (s : List Entry) → s ∈ ss → (setKey s ≡ 0) ⊎ ((33 ≤ setKey s) × (setKey s ≤ 127))
 
@@ -166,7 +167,7 @@ count-from s (t ∷ ss) o k h =
     let ih = count-from t ss (o .1) (λ u m. k u (inr m)) (omega arith) in
     omega arith
 
-pub count-few : (ss : List (List Entry)) → Ordered ss → Keyed ss → length ss ≤ 96
+pub count-few : (ss : List (List Entry)) → Ordered ss → Keyed ss → length ss ≤ mostRuns
 count-few [] o k = omega arith
 count-few (s ∷ []) o k = omega arith
 count-few (s ∷ t ∷ ss) o k =
@@ -178,7 +179,7 @@ count-few (s ∷ t ∷ ss) o k =
     high (inl e) h = absurd (omega arith)
     high (inr e) h = e .0
 
--- ---- the label of a rising set: what its first and its last have in common
+-- the label of a rising set: what its first and its last have in common
 abbrev AtMost : List ℕ → List ℕ → Type 0
 AtMost u v = (below u v ≡ true) ⊎ (u ≡ v)
 

@@ -1,4 +1,4 @@
--- A table of names: rows of 48 bytes, their lengths, their scores. The sets of suffixes of ranges of rows.
+-- Ranges of rows of a table: their sets of suffixes, and the runs that stand for the sets.
 use Prim.Native.Nat.{_-_, _<_, _≤_, suc, ℕ}
 use mathlib.Core.Path.{_≡_}
 use mathlib.Core.Bool.{Bool, false, true}
@@ -65,6 +65,7 @@ higher a b = ltb (highest b) (highest a)
 abbrev pub setOf : List Entry → ℕ → Run → List Entry
 setOf es d r = setAt es (r .lo) (r .hi) d
 
+-- a run stands for the set of its rows: its score and the length of its label
 pub record Good (es : List Entry) (d lo hi : ℕ) (r : Run) : Type 0 where
   pub from : lo ≤ r .lo
   pub some : r .lo < r .hi
@@ -72,11 +73,13 @@ pub record Good (es : List Entry) (d lo hi : ℕ) (r : Run) : Type 0 where
   pub high : r .high ≡ highest (setOf es d r)
   pub len : r .len ≡ length (labelOf (setOf es d r))
 
+-- the runs are the siblings of rows lo to hi, in their order
 pub record Split (es : List Entry) (d lo hi : ℕ) (rs : List Run) : Type 0 where
   pub sets : map (setOf es d) rs ≡ sortBy higher (byFirst (setAt es lo hi d))
   pub good : Each (Good es d lo hi) rs
   pub falls : Falls rs
 
+-- rows that can be split: a table of allowed names, of which rows lo to hi share their first d bytes
 pub record Splittable (names lens scores : List ℕ) (lo hi d : ℕ) : Type 0 where
   pub table : Table names lens scores
   pub named : Named (entries names lens scores)

@@ -71,7 +71,7 @@ group-fuel (suc k) (suc j) s es n a b =
     (map-ext (nodeOf (groupOf k 0)) (nodeOf (groupOf j 0)) (byFirst es)
     (λ t m. node-ext (groupOf k 0) (groupOf j 0) t (λ u. group-fuel k j 0 (remains (length (labelOf t)) t) (remains-some es t m) (set-enough k es t a m u) (set-enough j es t b m u))))
 
--- ---- length
+-- length
 node-bound : (x : Node) (s c cs : ℕ) (last : Bool) → length (x .label) ≤ 7 → cs ≤ 4 → length (nodeBytes x s c cs last) ≤ 16
 unfolding nodeBytes
 node-bound x s c cs last h k =

@@ -22,7 +22,7 @@ use Rattle.trie_writer.specs.Writing.{Groupable, Grouped, underAt}
 use Rattle.trie_writer.proofs.Shown.{fill, filled-falls, filled-sound, group-runs, in-group, run-deep, run-falls, run-shared, underRun}
 use Rattle.trie_nodes.specs.declared.Run.{Run}
 
--- ---- stores behind and before
+-- stores behind and before
 set-sets : (l : List ℕ) (i j x : ℕ) (b : List ℕ) → i < j → set (sets l j b) i x ≡ sets (set l i x) j b
 set-sets l i j x [] h = refl
 set-sets l i j x (y ∷ b) h = set-sets (set l j y) i (suc j) x b (omega arith) ∙ ap (λ m. sets m (suc j) b) (set-comm l j i y x (λ e. omega arith))
@@ -47,7 +47,7 @@ unfolding putAt
 length-put true l i a = length-sets l i a
 length-put false l i a = refl
 
--- ---- lists of runs
+-- lists of runs
 each-at : (P : Run → Type 0) (rs : List Run) (i : ℕ) → Each P rs → i < length rs → P (getD rs i noRun)
 each-at P [] i e h = absurd (not-suc-le-zero h)
 each-at P (r ∷ rs) zero e h = e .0

@@ -15,7 +15,8 @@ use Rattle.octets.proofs.Lists.{map-in, sort-in, sort-map}
 use Rattle.octets.proofs.Tests.{by-test, eqb-self}
 use Rattle.entries.specs.Entries.{Entry, at, entry}
 use Rattle.entries.proofs.BestList.{different-rising}
-use Rattle.trie.specs.Trie.{Node, byFirst, firstScore, groupBytes, groupOf, isLast, labelOf, nodeBytes, nodeOf, otherBytes, remains, siblings, standsBefore, usedUp}
+use Rattle.entries.specs.Names.{longestName}
+use Rattle.trie.specs.Trie.{Node, byFirst, firstScore, groupBytes, groupOf, isLast, labelOf, levels, nodeBytes, nodeOf, otherBytes, remains, siblings, standsBefore, usedUp}
 use Rattle.trie.proofs.Sets.{byFirst-run, label-progress, label-short, label-split, stripped}
 use Rattle.trie.proofs.Trie.{node-inner, node-label, node-leaf, node-score, set-different}
 use Rattle.trie_table.specs.Table.{Table, entries, rowAt}
@@ -32,7 +33,7 @@ use Rattle.trie_writer.proofs.Fuel.{Enough, enough-more, group-fuel, re
 use Rattle.trie_nodes.specs.declared.Next.{Next}
 use Rattle.trie_nodes.specs.declared.Run.{Run}
 
--- ---- a node and the run that shows it
+-- a node and the run that shows it
 pub record Shows (names : List ℕ) (d : ℕ) (x : Node) (r : Run) : Type 0 where
   pub label : x .label ≡ labelIn names d r
   pub long : length (x .label) ≡ r .len
@@ -75,7 +76,7 @@ group-shown names d s xs rs a e =
     let o : length (siblings s 0 0 xs) ≡ nodesLength (plain s) rs = ap length (siblings-shown names d (plain s) xs rs a) ∙ length-nodesBytes names d (plain s) rs e in
     rw (o, siblings-shown names d (firstOf s (nodesLength (plain s) rs)) xs rs a)
 
--- ---- the runs of a split
+-- the runs of a split
 abbrev pub underRun : List Entry → ℕ → Run → List ℕ
 underRun es d r = underAt es (r .lo) (r .hi) (d + r .len) 0
 
@@ -100,19 +101,19 @@ count-in i zero p m = absurd m
 count-in i (suc n) p (inl e) = omega arith
 count-in i (suc n) p (inr m) = let q = count-in (suc i) n p m in omega arith
 
-row-short : (u m sc : List ℕ) → Table u m sc → (e : Entry) → e ∈ entries u m sc → length (e .name) ≤ 48
+row-short : (u m sc : List ℕ) → Table u m sc → (e : Entry) → e ∈ entries u m sc → length (e .name) ≤ longestName
 unfolding entries
 row-short u m sc z e q =
     let r = map-in (rowAt u m sc) e (countFrom 0 (length m)) q in
     let a = z .short (r .0) (let y = count-in 0 (length m) (r .0) (r .1) in omega arith) in
-    let b = length-take (getD m (r .0) 0) (drop (r .0 * 48) u) in
+    let b = length-take (getD m (r .0) 0) (drop (r .0 * longestName) u) in
     rw (ap (λ x. x .name) (r .2)) (omega arith)
 
-pub set-short : (u m sc : List ℕ) → Table u m sc → (lo hi d : ℕ) → Shared (entries u m sc) d lo hi → Enough 49 (setAt (entries u m sc) lo hi d)
+pub set-short : (u m sc : List ℕ) → Table u m sc → (lo hi d : ℕ) → Shared (entries u m sc) d lo hi → Enough levels (setAt (entries u m sc) lo hi d)
 set-short u m sc z lo hi d s =
     record { short = λ e q. short e (set-member (entries u m sc) d lo hi e q); apart = different-rising (setAt (entries u m sc) lo hi d) (shared-rising (entries u m sc) d lo hi s) }
   where
-    short : (e : Entry) → (f : Entry) × (f ∈ entries u m sc) × (e ≡ stripped d f) → length (e .name) < 49
+    short : (e : Entry) → (f : Entry) × (f ∈ entries u m sc) × (e ≡ stripped d f) → length (e .name) < levels
     short e q = let a = row-short u m sc z (q .0) (q .1) in let b = length-drop d (q .0 .name) in rw (ap (λ x. x .name) (q .2)) (omega arith)
 
 label-take : (s : List Entry) (e : Entry) → e ∈ s → take (length (labelOf s)) (e .name) ≡ labelOf s
@@ -149,7 +150,7 @@ module _ (u m sc : List ℕ) (z : Table u m sc) (lo hi d : ℕ) (sh : Shared (en
     row-low : r .lo < length m
     row-low = let n = entries-length u m sc in let a = g .upto in let b = sh .inside in let c = g .some in omega arith
 
-    row : (d ≤ getD m (r .lo) 0) × (getD m (r .lo) 0 ≤ 48) × (r .lo * 48 + 48 ≤ length u)
+    row : (d ≤ getD m (r .lo) 0) × (getD m (r .lo) 0 ≤ longestName) × (r .lo * longestName + longestName ≤ length u)
     row = row-facts u m sc z (r .lo) d row-low (let a = g .some in let b = g .upto in sh .long (r .lo) (g .from) (omega arith))
 
     len-low : r .len ≤ getD m (r .lo) 0 - d
@@ -159,7 +160,7 @@ module _ (u m sc : List ℕ) (z : Table u m sc) (lo hi d : ℕ) (sh : Shared (en
         let c = row-length u m sc z (r .lo) row-low in
         rw (g .len) (omega arith)
 
-    pub run-deep : d + r .len ≤ 48
+    pub run-deep : d + r .len ≤ longestName
     run-deep = let a = len-low in omega (arith, row .0, row .1)
 
     label-shown : labelOf own ≡ labelIn u d r
@@ -167,9 +168,9 @@ module _ (u m sc : List ℕ) (z : Table u m sc) (lo hi d : ℕ) (sh : Shared (en
     label-shown =
         let a = label-take own (entry (restAt es d (r .lo)) (at es (r .lo) .score)) first-in in
         let l = len-low in
-        let e : (r .lo * 48 + getD m (r .lo) 0) - (r .lo * 48 + d) ≡ getD m (r .lo) 0 - d = omega arith in
+        let e : (r .lo * longestName + getD m (r .lo) 0) - (r .lo * longestName + d) ≡ getD m (r .lo) 0 - d = omega arith in
         let p = rest-part u m sc z (r .lo) d row-low (row .0) in
-        sym a ∙ rw (← p, ← (g .len), e) (take-take (r .len) (getD m (r .lo) 0 - d) (drop (r .lo * 48 + d) u) l)
+        sym a ∙ rw (← p, ← (g .len), e) (take-take (r .len) (getD m (r .lo) 0 - d) (drop (r .lo * longestName + d) u) l)
 
     pub run-sound : Sound (length u) d r
     run-sound = let a = len-low in record { short = let b = label-short own in rw (g .len) (omega arith); inside = omega (arith, row .0, row .1, row .2) }
@@ -180,24 +181,24 @@ module _ (u m sc : List ℕ) (z : Table u m sc) (lo hi d : ℕ) (sh : Shared (en
     used-same : usedUp (length (labelOf own)) own ≡ usedUp 0 (setAt es (r .lo) (r .hi) (d + r .len))
     used-same = used-remains (length (labelOf own)) own (label-within own) ∙ ap (usedUp 0) (sym deeper)
 
-    pub under-same : nodeOf (groupOf 48 0) own .under ≡ underRun es d r
+    pub under-same : nodeOf (groupOf longestName 0) own .under ≡ underRun es d r
     unfolding underAt
     under-same =
         by-test (usedUp (length (labelOf own)) own)
-        (λ t. node-leaf (groupOf 48 0) own t ∙ sym (rw (sym used-same ∙ t, underAt)))
+        (λ t. node-leaf (groupOf longestName 0) own t ∙ sym (rw (sym used-same ∙ t, underAt)))
         (λ t.
-        let k = set-enough 48 whole own (set-short u m sc z lo hi d sh) q t in
-        node-inner (groupOf 48 0) own t
-        ∙ group-fuel 48 49 0 (remains (length (labelOf own)) own) (remains-some whole own q) k (enough-more 48 49 _ (omega arith) k)
-        ∙ sym (rw (sym used-same ∙ t, underAt) (ap (groupOf 49 0) deeper)))
+        let k = set-enough longestName whole own (set-short u m sc z lo hi d sh) q t in
+        node-inner (groupOf longestName 0) own t
+        ∙ group-fuel longestName levels 0 (remains (length (labelOf own)) own) (remains-some whole own q) k (enough-more longestName levels _ (omega arith) k)
+        ∙ sym (rw (sym used-same ∙ t, underAt) (ap (groupOf levels 0) deeper)))
 
-    pub run-shows : Shows u d (nodeOf (groupOf 48 0) own) (fill es d r)
+    pub run-shows : Shows u d (nodeOf (groupOf longestName 0) own) (fill es d r)
     unfolding labelIn
     run-shows =
         record {
-          label = node-label (groupOf 48 0) own ∙ label-shown;
-          long = ap length (node-label (groupOf 48 0) own) ∙ sym (g .len);
-          score = node-score (groupOf 48 0) own ∙ sym (g .high);
+          label = node-label (groupOf longestName 0) own ∙ label-shown;
+          long = ap length (node-label (groupOf longestName 0) own) ∙ sym (g .len);
+          score = node-score (groupOf longestName 0) own ∙ sym (g .high);
           under = ap length under-same;
         }
 
@@ -246,7 +247,7 @@ module _ (u m sc : List ℕ) (z : Table u m sc) (lo hi d : ℕ) (sh : Shared (en
     pub in-group : (t : List Entry) → t ∈ map (setOf es d) L → t ∈ byFirst whole
     in-group t q = sort-in higher t (byFirst whole) (rw (sp .sets) at q)
 
-    shows-all : (rs : List Run) → Each (Good es d lo hi) rs → ((t : List Entry) → t ∈ map (setOf es d) rs → t ∈ byFirst whole) → AllShow u d (map (nodeOf (groupOf 48 0)) (map (setOf es d) rs)) (map (fill es d) rs)
+    shows-all : (rs : List Run) → Each (Good es d lo hi) rs → ((t : List Entry) → t ∈ map (setOf es d) rs → t ∈ byFirst whole) → AllShow u d (map (nodeOf (groupOf longestName 0)) (map (setOf es d) rs)) (map (fill es d) rs)
     shows-all [] e h = tt
     shows-all (r ∷ rs) e h = (run-shows r (e .0) (h (setOf es d r) (inl refl)), shows-all rs (e .1) (λ t q. h t (inr q)))
 
@@ -256,7 +257,7 @@ module _ (u m sc : List ℕ) (z : Table u m sc) (lo hi d : ℕ) (sh : Shared (en
         let s = run-sound r (e .0) (h (setOf es d r) (inl refl)) in
         (record { short = s .short; inside = s .inside }, sound-all rs (e .1) (λ t q. h t (inr q)))
 
-    unders-all : (rs : List Run) → Each (Good es d lo hi) rs → ((t : List Entry) → t ∈ map (setOf es d) rs → t ∈ byFirst whole) → concatMap (λ (x : Node). x .under) (map (nodeOf (groupOf 48 0)) (map (setOf es d) rs)) ≡ concatMap (underRun es d) rs
+    unders-all : (rs : List Run) → Each (Good es d lo hi) rs → ((t : List Entry) → t ∈ map (setOf es d) rs → t ∈ byFirst whole) → concatMap (λ (x : Node). x .under) (map (nodeOf (groupOf longestName 0)) (map (setOf es d) rs)) ≡ concatMap (underRun es d) rs
     unders-all [] e h = refl
     unders-all (r ∷ rs) e h = rw (under-same r (e .0) (h (setOf es d r) (inl refl)), unders-all rs (e .1) (λ t q. h t (inr q)))
 
@@ -274,7 +275,7 @@ module _ (u m sc : List ℕ) (z : Table u m sc) (lo hi d : ℕ) (sh : Shared (en
     pub group-runs : (s : ℕ) → usedUp 0 whole ≡ false → underAt es lo hi d s ≡ ownBytes u d s (map (fill es d) L) ++ concatMap (underRun es d) L
     unfolding underAt nodeOf
     group-runs s n =
-        let f = nodeOf (groupOf 48 0) in
+        let f = nodeOf (groupOf longestName 0) in
         let o : sortBy standsBefore (map f (byFirst whole)) ≡ map f (map (setOf es d) L) =
         sym (sort-map f standsBefore (byFirst whole))
         ∙ ap (map f) (sort-higher (byFirst whole) (byFirst-ordered whole (shared-rising es d lo hi sh)) (byFirst-run whole) ∙ sym (sp .sets))

@@ -15,12 +15,12 @@ use Rattle.octets.proofs.Lists.{all-imp}
 use Rattle.octets.proofs.Stores.{sets-overwrite}
 use Rattle.octets.proofs.Tests.{and-true}
 use Rattle.entries.specs.Entries.{Entry, at, rising, valid}
-use Rattle.entries.specs.Names.{allowedBytes, isName, isPrefix}
+use Rattle.entries.specs.Names.{allowedBytes, isName, isPrefix, longestName}
 use Rattle.entries.proofs.Valid.{Valid, valid-of}
 use Rattle.book.specs.Frame.{framed}
 use Rattle.book.proofs.Frame.{framed-length}
 use Rattle.sheet.proofs.Listing.{frame-stores}
-use Rattle.trie.specs.Trie.{groupOf, highest, remains, trieImage, usedUp}
+use Rattle.trie.specs.Trie.{groupOf, highest, levels, remains, trieImage, usedUp}
 use Rattle.trie_table.specs.Table.{Table, entries}
 use Rattle.trie_table.proofs.Rows.{entries-length}
 use Rattle.trie_nodes.specs.Nodes.{putAt}
@@ -54,7 +54,7 @@ unused (e ∷ f ∷ es) h = refl
 
 name-allowed : (w : List ℕ) → isName w ≡ true → allowedBytes w ≡ true
 unfolding isName isPrefix
-name-allowed w h = and-true (leb (length w) 48) (allowedBytes w) (and-true (leb 1 (length w)) (leb (length w) 48 && allowedBytes w) h .1) .1
+name-allowed w h = and-true (leb (length w) longestName) (allowedBytes w) (and-true (leb 1 (length w)) (leb (length w) longestName && allowedBytes w) h .1) .1
 
 module _
     {u m sc : List ℕ} (z : Table u m sc) (ok : valid (entries u m sc) ≡ true) {top : ℕ} (high : top ≡ highest (slice 0 (length m) (entries u m sc)))
@@ -72,14 +72,14 @@ module _
     top-is = high ∙ ap highest (take-all (length m) es (omega (arith, long)))
 
     abbrev body : List ℕ
-    body = groupOf 49 (highest es) es
+    body = groupOf levels (highest es) es
 
     pub under-all : underAt es 0 (length m) 0 top ≡ body
     unfolding underAt
     under-all =
         let e = set-all es (length m) long in
         let n : usedUp 0 (setAt es 0 (length m) 0) ≡ false = ap (usedUp 0) e ∙ unused es (v .allowed) in
-        rw (n, underAt) (λ i. groupOf 49 (top-is i) (e i))
+        rw (n, underAt) (λ i. groupOf levels (top-is i) (e i))
 
     all-shared : Shared es 0 0 (length m)
     all-shared =
@@ -90,7 +90,7 @@ module _
     all-named = all-imp (λ e. isName (e .name)) (λ e. allowedBytes (e .name)) (λ e h. name-allowed (e .name) h) es (v .allowed)
 
     pub body-low : length body ≤ 802816
-    body-low = let a = group-bound 49 (highest es) es in let l = long in let f = z .few in omega arith
+    body-low = let a = group-bound levels (highest es) es in let l = long in let f = z .few in omega arith
 
     image-is : trieImage es ≡ framed 0x31 (length es) body
     unfolding trieImage

@@ -8,23 +8,26 @@ use lib.ListN.{length}
 use Rattle.octets.specs.Lists.{if_then_else_}
 use Rattle.octets.specs.Octets.{overwrite}
 use Rattle.entries.specs.Entries.{Entry}
-use Rattle.trie.specs.Trie.{groupOf, trieImage, usedUp}
+use Rattle.trie.specs.Trie.{groupOf, levels, trieImage, usedUp}
 use Rattle.trie_table.specs.Table.{entries}
 use Rattle.trie_nodes.specs.Nodes.{putAt}
 use Rattle.trie_rows.specs.Rows.{Splittable, setAt}
 use Rattle.trie_writer.specs.declared.Wrote.{Wrote}
 use Rattle.trie_writer.specs.declared.Wrote.the-variants.{Bytes, TooShort}
 
--- nothing under a name that is used up, else the group of what is left
+-- what stands under rows lo to hi behind their first d bytes, where a first sibling's score field is s: nothing under a name that is used up,
+-- else the group of what is left
 unfoldable pub underAt : List Entry → ℕ → ℕ → ℕ → ℕ → List ℕ
-underAt es lo hi d s = elim (usedUp 0 (setAt es lo hi d)) [ true ↦ [] | false ↦ groupOf 49 s (setAt es lo hi d) ]
+underAt es lo hi d s = elim (usedUp 0 (setAt es lo hi d)) [ true ↦ [] | false ↦ groupOf levels s (setAt es lo hi d) ]
 
+-- it can be put so that it ends `back` bytes before index `total` of a buffer of n bytes
 pub record Groupable (names lens scores : List ℕ) (lo hi d s n total back : ℕ) (put : Bool) : Type 0 where
   pub able : Splittable names lens scores lo hi d
   pub low : back + length (underAt (entries names lens scores) lo hi d s) < 16777216
   pub room : put ≡ true → back + length (underAt (entries names lens scores) lo hi d s) ≤ total
   pub inside : put ≡ true → total ≤ n
 
+-- it was put so, or only measured: r bytes now end the first `total`
 pub record Grouped (es : List Entry) (lo hi d s : ℕ) (dst out : List ℕ) (total back : ℕ) (put : Bool) (r : ℕ) : Type 0 where
   pub end : r ≡ back + length (underAt es lo hi d s)
   pub bytes : out ≡ putAt put dst (total - r) (underAt es lo hi d s)
