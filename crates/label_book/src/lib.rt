@@ -15,7 +15,8 @@ ghost use Rattle.book.specs.Lookups.{find, foundIn, headLength, headName, nameA
 ghost use Rattle.edits.specs.Edits.{emptyBook, setEntry, withdraw};
 ghost use Rattle.edits.specs.Splice.{Spliced, result};
 ghost use Rattle.sheet.specs.Sheet.{buildBook, listBook};
-ghost use Rattle.completion.specs.Complete.{completeBook};
+ghost use Rattle.trie.specs.Calls.{completeTrie, writeTrie};
+ghost use Rattle.completion.specs.Complete.{Completed, completeBook};
 ghost use Rattle.lent_queue.specs.Waiting.{CompletedOver};
 ghost use Rattle.label_book.specs.Calls.{Answered, checkBook, checkedOf, foundOf, lengthOf, oneEntry, placeAs, spanOf, wholeBook};
 
@@ -338,4 +339,27 @@ pub fn complete(
         r (now (dst .exit)) (now (ranges .entry)) (now (ranges .exit)) ⌝ }
 {
     lent_queue::complete(book, prefix, k, dst, ranges)
+}
+
+// Writes the trie of a book's entries.
+pub fn write_trie(book: &[u8], dst: &mut [u8]) -> Written
+    ensures { λ r. ⌜ Answered (writeTrie (now (book .entry)) (now (dst .entry))) r (now (dst .exit)) ⌝ }
+{
+    let book_check::Checked::Book(n) = book_check::check(book) else {
+        return Written::Refused(1);
+    };
+    let trie_writer::Wrote::Bytes(total) = trie_writer::write(book, n, dst) else {
+        return Written::Refused(7);
+    };
+    Written::Wrote {
+        entries: n,
+        bytes: total,
+    }
+}
+
+// The first k entries in rank that a prefix begins, or all if fewer, from a trie. It takes no ranges and reports looks 0.
+pub fn complete_trie(trie: &[u8], prefix: &[u8], k: usize, dst: &mut [u8]) -> completion::Completion
+    ensures { λ r. ⌜ Completed (completeTrie (now (trie .entry)) (now (prefix .entry)) k (now (dst .entry))) r (now (dst .exit)) ⌝ }
+{
+    trie_complete::complete_trie(trie, prefix, k, dst)
 }

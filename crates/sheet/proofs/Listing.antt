@@ -38,10 +38,10 @@ sheet-length {book} b =
     (omega arith, omega (arith, entriesBytes-most (inBook book) (v .allowed), v .few))
 
 -- Reading: the cursor stands at the record of the entry at its index.
-abbrev Reading : List ℕ → Cursor → Type 0
+abbrev pub Reading : List ℕ → Cursor → Type 0
 Reading book c = Ahead (inBook book) book c
 
-read-start : {book : List ℕ} {n : ℕ} {c : Cursor} → Held book n → Started n c → Reading book c
+pub read-start : {book : List ℕ} {n : ℕ} {c : Cursor} → Held book n → Started n c → Reading book c
 read-start {book} {c = c} b t = ahead-first book (inBook book) (held-stored b) c (rw (← b .count) (t .at)) (t .index) (t .len)
 
 -- A step from c to d gave the name of the entry at c.
@@ -128,16 +128,16 @@ write-start {book} b t room =
       left = rw (t .index);
     }
 
--- the frame's stores, and the entries behind it
-frame-stores :
-    (d body : List ℕ) (total n : ℕ) → total ≡ 7 + length body
-    → sets (sets (sets (set d 0 0x11) 1 (be 4 total)) 5 (be 2 n)) 7 body ≡ sets d 0 (framed 0x11 n body)
+-- the frame's stores, and what stands behind it
+pub frame-stores :
+    (version : ℕ) (d body : List ℕ) (total n : ℕ) → total ≡ 7 + length body
+    → sets (sets (sets (set d 0 version) 1 (be 4 total)) 5 (be 2 n)) 7 body ≡ sets d 0 (framed version n body)
 unfolding framed
-frame-stores d body total n e =
+frame-stores version d body total n e =
     let x : 5 + length (be 2 n) ≡ 7 = omega (arith, length-be 2 n) in
-    let y : 0 + length (0x11 ∷ be 4 total) ≡ 5 = omega (arith, length-be 4 total) in
-    (rw x at (sets-append (sets d 0 (0x11 ∷ be 4 total)) (be 2 n) body 5))
-    ∙ (rw y at (sets-append d (0x11 ∷ be 4 total) (be 2 n ++ body) 0))
+    let y : 0 + length (version ∷ be 4 total) ≡ 5 = omega (arith, length-be 4 total) in
+    (rw x at (sets-append (sets d 0 (version ∷ be 4 total)) (be 2 n) body 5))
+    ∙ (rw y at (sets-append d (version ∷ be 4 total) (be 2 n ++ body) 0))
     ∙ rw e
 
 module _ {book : List ℕ} {n : ℕ} (b : Held book n) {d₀ : List ℕ} {c : Cursor} {k : ℕ} {d : List ℕ} (g : Writing book d₀ c k d) where
@@ -153,7 +153,7 @@ module _ {book : List ℕ} {n : ℕ} (b : Held book n) {d₀ : List ℕ} {c : Cu
       let body = entriesBytes (inBook book) in
       let l = framed-length 0x11 (length (inBook book)) (entriesBytes (inBook book)) in
       all-written h
-      ∙ rw (q, p, b .count) (frame-stores d₁ body total (length (inBook book)) (omega arith))
+      ∙ rw (q, p, b .count) (frame-stores 0x11 d₁ body total (length (inBook book)) (omega arith))
       ∙ sets-overwrite d₁ (framed 0x11 (length (inBook book)) body) (omega arith)
 
   module _ (h : c .index < n) {e : Cursor} (s : Listed book c e) where

@@ -1,0 +1,272 @@
+-- The sets of suffixes by first byte, set by set from the last; their order, their labels, how many there are.
+use Prim.Native.Nat.{_+_, _<_, _≤_, min, suc, ℕ}
+use mathlib.Core.Path.{_∙_, _≡_, ap, refl, sym}
+use mathlib.Core.Logic.{_⊎_, inl, inr}
+use mathlib.Core.Bool.{Bool, false, false≢true, true}
+use mathlib.Core.List.{List, [], _++_, _∷_}
+use lib.Dec.{eqb}
+use lib.ListN.{length, length-take, take}
+use native.Mathlib.Nat.{not-suc-le-zero}
+use native.Mathlib.Omega.{arith}
+use borrow.Author.Tests.{eq-eqb, eqb-false, eqb-true, le-ltb, ne-eqb}
+use Rattle.octets.specs.Lists.{_∈_, insertBy, sortBy}
+use Rattle.octets.specs.Octets.{begins, below, common}
+use Rattle.octets.proofs.Lists.{sort-in}
+use Rattle.octets.proofs.Order.{begins-take, below-cases, below-trans}
+use Rattle.octets.proofs.Tests.{and-true, by-test, eqb-self}
+use Rattle.entries.specs.Entries.{Entry, entry, outranks, rising}
+use Rattle.entries.proofs.Valid.{rising-tail}
+use Rattle.trie.specs.Trie.{byFirst, commonPrefix, highest, joinFirst, labelOf, sameFirst}
+use Rattle.trie.proofs.Sets.{OneFirst, commonPrefix-begins, one-first, sameFirst-starts, starts, starts-prefix}
+use Rattle.trie_nodes.specs.Runs.{mostRuns}
+use Rattle.trie_rows.specs.Rows.{Chain, higher}
+
+-- a chain of suffixes in front of others that begin otherwise is a set of its own
+abbrev pub lastOf : Entry → List Entry → Entry
+lastOf x [] = x
+lastOf x (y ∷ ys) = lastOf y ys
+
+-- the first set begins with the first suffix
+record Head (f : Entry) (fs : List Entry) : Type 0 where
+  more : List Entry
+  others : List (List Entry)
+  eq : byFirst (f ∷ fs) ≡ (f ∷ more) ∷ others
+
+join-head : (f : Entry) (ss : List (List Entry)) → (m : List Entry) × (o : List (List Entry)) × (joinFirst f ss ≡ (f ∷ m) ∷ o)
+join-head f [] = ([], [], refl)
+join-head f ([] ∷ ss) = ([], ss, refl)
+join-head f ((g ∷ gs) ∷ ss) = by-test (sameFirst (f .name) (g .name)) (λ t. (g ∷ gs, ss, rw t)) (λ t. ([], (g ∷ gs) ∷ ss, rw t))
+
+first-head : (f : Entry) (fs : List Entry) → Head f fs
+first-head f fs = let j = join-head f (byFirst fs) in record { more = j .0; others = j .1; eq = j .2 }
+
+join-apart : (x f : Entry) (m : List Entry) (o : List (List Entry)) → sameFirst (x .name) (f .name) ≡ false → joinFirst x ((f ∷ m) ∷ o) ≡ (x ∷ []) ∷ (f ∷ m) ∷ o
+join-apart x f m o t = rw t
+
+join-same : (x f : Entry) (m : List Entry) (o : List (List Entry)) → sameFirst (x .name) (f .name) ≡ true → joinFirst x ((f ∷ m) ∷ o) ≡ (x ∷ f ∷ m) ∷ o
+join-same x f m o t = rw t
+
+pub chain-set : (x : Entry) (xs ys : List Entry) → Chain (x ∷ xs) → ((f : Entry) (fs : List Entry) → ys ≡ f ∷ fs → sameFirst (lastOf x xs .name) (f .name) ≡ false) → byFirst ((x ∷ xs) ++ ys) ≡ (x ∷ xs) ∷ byFirst ys
+chain-set x [] [] c e = refl
+chain-set x [] (f ∷ fs) c e = let h = first-head f fs in rw (h .eq) (join-apart x f (h .more) (h .others) (e f fs refl))
+chain-set x (y ∷ xs) ys c e = rw (chain-set y xs ys (c .1) e) (join-same x y xs (byFirst ys) (c .0))
+
+-- the order of the sets
+abbrev pub key : List ℕ → ℕ
+key [] = 0
+key (b ∷ w) = suc b
+
+abbrev pub setKey : List Entry → ℕ
+setKey [] = 0
+setKey (e ∷ es) = key (e .name)
+
+abbrev pub Ordered : List (List Entry) → Type 0
+Ordered [] = Unit {0}
+Ordered (s ∷ ss) = ((t : List Entry) → t ∈ ss → setKey s < setKey t) × Ordered ss
+
+pub same-key : (u v : List ℕ) → sameFirst u v ≡ true → key u ≡ key v
+same-key [] [] h = refl
+same-key [] (y ∷ v) h = absurd (false≢true h)
+same-key (x ∷ u) [] h = absurd (false≢true h)
+same-key (x ∷ u) (y ∷ v) h = ap suc (eqb-true x y h)
+
+below-key : (u v : List ℕ) → below u v ≡ true → sameFirst u v ≡ false → key u < key v
+below-key u [] h k = absurd (false≢true h)
+below-key [] (y ∷ v) h k = omega arith
+below-key (x ∷ u) (y ∷ v) h k = go (below-cases x y u v h)
+  where
+    go : (x < y) ⊎ ((x ≡ y) × (below u v ≡ true)) → suc x < suc y
+    go (inl a) = omega arith
+    go (inr a) = absurd (eqb-false x y k (a .0))
+
+pub byFirst-ordered : (es : List Entry) → rising es ≡ true → Ordered (byFirst es)
+byFirst-ordered [] r = tt
+byFirst-ordered (e ∷ []) r = ((λ t m. absurd m), tt)
+byFirst-ordered (e ∷ f ∷ es) r = go (first-head f es) (byFirst-ordered (f ∷ es) (rising-tail e (f ∷ es) r))
+  where
+    b : below (e .name) (f .name) ≡ true
+    b = and-true (below (e .name) (f .name)) (rising (f ∷ es)) r .0
+
+    go : (h : Head f es) → Ordered (byFirst (f ∷ es)) → Ordered (byFirst (e ∷ f ∷ es))
+    go h o =
+        let p : Ordered ((f ∷ h .more) ∷ h .others) = rw (h .eq) at o in
+        by-test (sameFirst (e .name) (f .name))
+        (λ t. rw (h .eq, join-same e f (h .more) (h .others) t) ((λ s m. let q = p .0 s m in let k = same-key (e .name) (f .name) t in omega arith), p .1))
+        (λ t. rw (h .eq, join-apart e f (h .more) (h .others) t) ((λ s m. lower t s m p), p))
+      where
+        lower : sameFirst (e .name) (f .name) ≡ false → (s : List Entry) → s ∈ ((f ∷ h .more) ∷ h .others) → Ordered ((f ∷ h .more) ∷ h .others) → key (e .name) < setKey s
+        lower t s (inl q) p = rw q (below-key (e .name) (f .name) b t)
+        lower t s (inr m) p = let a = p .0 s m in let k = below-key (e .name) (f .name) b t in omega arith
+
+-- a label begins as the suffixes do
+label-empty : (e : Entry) (es : List Entry) → e .name ≡ [] → labelOf (e ∷ es) ≡ []
+label-empty e es q = go (labelOf (e ∷ es)) (e .name) (begins-take 7 (commonPrefix (e ∷ es)) (e .name) (commonPrefix-begins (e ∷ es) e (inl refl))) q
+  where
+    go : (l w : List ℕ) → begins l w ≡ true → w ≡ [] → l ≡ []
+    go [] w h z = refl
+    go (x ∷ l) [] h z = absurd (false≢true h)
+    go (x ∷ l) (y ∷ w) h z = cc
+
+starts-key : (x : ℕ) (p : List ℕ) → starts x p ≡ true → key (take 7 p) ≡ suc x
+starts-key x [] h = absurd (false≢true h)
+starts-key x (y ∷ p) h = ap suc (sym (eqb-true x y (and-true (eqb x y) true h .0)))
+
+pub label-key : (s : List Entry) → OneFirst s → key (labelOf s) ≡ setKey s
+label-key s (one-first e es k) = go (e .name) refl
+  where
+    each : (x : ℕ) (w : List ℕ) → e .name ≡ x ∷ w → (f : Entry) → f ∈ (e ∷ es) → starts x (f .name) ≡ true
+    each x w q f (inl r) = rw (r, q) (rw (eqb-self x))
+    each x w q f (inr m) = sameFirst-starts x w (f .name) (rw q at (k f m))
+
+    go : (w : List ℕ) → e .name ≡ w → key (labelOf (e ∷ es)) ≡ key (e .name)
+    go [] q = rw (label-empty e es q, q)
+    go (x ∷ w) q = starts-key x (commonPrefix (e ∷ es)) (starts-prefix x e es (each x w q)) ∙ sym (ap key q)
+
+key-below : (u v : List ℕ) → key u < key v → below v u ≡ false
+key-below [] v h = refl
+key-below (x ∷ u) [] h = absurd (not-suc-le-zero h)
+key-below (x ∷ u) (y ∷ v) h = rw (ne-eqb y x (λ e. omega arith)) (le-ltb y x (omega arith))
+
+-- siblings by score alone
+abbrev pub setBefore : List Entry → List Entry → Bool
+setBefore a b = outranks (entry (labelOf a) (highest a)) (entry (labelOf b) (highest b))
+
+before-higher : (x y : List Entry) → below (labelOf y) (labelOf x) ≡ false → setBefore y x ≡ higher y x
+before-higher x y h =
+    by-test (eqb (highest y) (highest x))
+    (λ t. rw t (h ∙ sym (le-ltb (highest x) (highest y) (let q = eqb-true (highest y) (highest x) t in omega arith))))
+    (λ t. rw t)
+
+insert-ext : {A : Type 0} (r q : A → A → Bool) (x : A) (ys : List A) → ((y : A) → y ∈ ys → r y x ≡ q y x) → insertBy r x ys ≡ insertBy q x ys
+insert-ext r q x [] h = refl
+insert-ext r q x (y ∷ ys) h =
+    let ih = insert-ext r q x ys (λ z m. h z (inr m)) in
+    by-test (q y x) (λ t. rw (h y (inl refl), t, ih)) (λ t. rw (h y (inl refl), t))
+
+pub sort-higher : (ss : List (List Entry)) → Ordered ss → ((s : List Entry) → s ∈ ss → OneFirst s) → sortBy setBefore ss ≡ sortBy higher ss
+sort-higher [] o r = refl
+sort-higher (s ∷ ss) o r =
+    ap (insertBy setBefore s) (sort-higher ss (o .1) (λ t m. r t (inr m)))
+    ∙ insert-ext setBefore higher s (sortBy higher ss)
+    (λ y m.
+    let n = sort-in higher y ss m in
+    before-higher s y (key-below (labelOf s) (labelOf y) (let a = o .0 y n in let b = label-key s (r s (inl refl)) in let c = label-key y (r y (inr n)) in omega arith)))
+
+-- there are at most 96: the empty suffix and 95 bytes
+abbrev pub Keyed : List (List Entry) → Type 0
+Keyed ss = (s : List Entry) → s ∈ ss → (setKey s ≡ 0) ⊎ ((33 ≤ setKey s) × (setKey s ≤ 127))
+
+count-from : (s : List Entry) (ss : List (List Entry)) → Ordered (s ∷ ss) → Keyed (s ∷ ss) → 33 ≤ setKey s → length (s ∷ ss) + setKey s ≤ 128
+count-from s [] o k h = go (k s (inl refl))
+  where
+    go : (setKey s ≡ 0) ⊎ ((33 ≤ setKey s) × (setKey s ≤ 127)) → 1 + setKey s ≤ 128
+    go (inl a) = omega arith
+    go (inr a) = omega (arith, a .1)
+count-from s (t ∷ ss) o k h =
+    let a = o .0 t (inl refl) in
+    let ih = count-from t ss (o .1) (λ u m. k u (inr m)) (omega arith) in
+    omega arith
+
+pub count-few : (ss : List (List Entry)) → Ordered ss → Keyed ss → length ss ≤ mostRuns
+count-few [] o k = omega arith
+count-few (s ∷ []) o k = omega arith
+count-few (s ∷ t ∷ ss) o k =
+    let a = o .0 t (inl refl) in
+    let q = count-from t ss (o .1) (λ u m. k u (inr m)) (high (k t (inr (inl refl))) a) in
+    omega (arith, q, high (k t (inr (inl refl))) a)
+  where
+    high : (setKey t ≡ 0) ⊎ ((33 ≤ setKey t) × (setKey t ≤ 127)) → setKey s < setKey t → 33 ≤ setKey t
+    high (inl e) h = absurd (omega arith)
+    high (inr e) h = e .0
+
+-- the label of a rising set: what its first and its last have in common
+abbrev AtMost : List ℕ → List ℕ → Type 0
+AtMost u v = (below u v ≡ true) ⊎ (u ≡ v)
+
+most-head : (x y : ℕ) (u v : List ℕ) → AtMost (x ∷ u) (y ∷ v) → x ≤ y
+most-head x y u v (inl h) = go (below-cases x y u v h)
+  where
+    go : (x < y) ⊎ ((x ≡ y) × (below u v ≡ true)) → x ≤ y
+    go (inl a) = omega arith
+    go (inr a) = omega (arith, a .0)
+most-head x y u v (inr h) = let e : x ≡ y = cc in omega arith
+
+most-tail : (x y : ℕ) (u v : List ℕ) → AtMost (x ∷ u) (y ∷ v) → x ≡ y → AtMost u v
+most-tail x y u v (inl h) e = go (below-cases x y u v h)
+  where
+    go : (x < y) ⊎ ((x ≡ y) × (below u v ≡ true)) → AtMost u v
+    go (inl a) = absurd (omega arith)
+    go (inr a) = inl (a .1)
+most-tail x y u v (inr h) e = inr (cc)
+
+most-nil : {G : Type 0} (x : ℕ) (u : List ℕ) → AtMost (x ∷ u) [] → G
+most-nil x u (inl h) = absurd (false≢true h)
+most-nil x u (inr h) = absurd (let z : _≡_ {A = ℕ} 0 1 = cc in omega arith)
+
+most-trans : (u v w : List ℕ) → AtMost u v → AtMost v w → AtMost u w
+most-trans u v w (inl a) (inl b) = inl (below-trans u v w a b)
+most-trans u v w (inl a) (inr b) = inl (rw b at a)
+most-trans u v w (inr a) b = rw a b
+
+common-nil : (p : List ℕ) → common p [] ≡ 0
+common-nil [] = refl
+common-nil (x ∷ p) = refl
+
+abbrev lcp : List ℕ → List ℕ → List ℕ
+lcp u v = take (common u v) u
+
+lcp-cons : (x y : ℕ) (u v : List ℕ) → eqb x y ≡ true → lcp (x ∷ u) (y ∷ v) ≡ x ∷ lcp u v
+lcp-cons x y u v t = rw t
+
+lcp-none : (x y : ℕ) (u v : List ℕ) → eqb x y ≡ false → lcp (x ∷ u) (y ∷ v) ≡ []
+lcp-none x y u v t = rw t
+
+lcp-three : (e f l : List ℕ) → AtMost e f → AtMost f l → lcp (lcp f l) e ≡ lcp e l
+lcp-three [] f l h k = rw (common-nil (lcp f l))
+lcp-three (x ∷ e) [] l h k = most-nil x e h
+lcp-three (x ∷ e) (y ∷ f) [] h k = most-nil y f k
+lcp-three (x ∷ e) (y ∷ f) (z ∷ l) h k =
+    let a = most-head x y e f h in
+    let b = most-head y z f l k in
+    by-test (eqb y z)
+    (λ t.
+    let yz : y ≡ z = eqb-true y z t in
+    by-test (eqb y x)
+    (λ u.
+    let yx : y ≡ x = eqb-true y x u in
+    rw (lcp-cons y z f l t, lcp-cons y x (lcp f l) e u, lcp-cons x z e l (eq-eqb x z (sym yx ∙ yz)), lcp-three e f l (most-tail x y e f h (sym yx)) (most-tail y z f l k yz), yx))
+    (λ u.
+    let yx : y ≡ x → ⊥ = eqb-false y x u in
+    rw (lcp-cons y z f l t, lcp-none y x (lcp f l) e u, lcp-none x z e l (ne-eqb x z (λ q. yx (yz ∙ sym q))))))
+    (λ t.
+    let yz : y ≡ z → ⊥ = eqb-false y z t in
+    rw (lcp-none y z f l t, lcp-none x z e l (ne-eqb x z (λ q. yz (omega arith)))))
+
+-- the last of a rising list is above the others
+rising-last : (e : Entry) (es : List Entry) → rising (e ∷ es) ≡ true → AtMost (e .name) (lastOf e es .name)
+rising-last e [] r = inr refl
+rising-last e (f ∷ es) r =
+    most-trans (e .name) (f .name) (lastOf f es .name) (inl (and-true (below (e .name) (f .name)) (rising (f ∷ es)) r .0)) (rising-last f es (rising-tail e (f ∷ es) r))
+
+common-self : (w : List ℕ) → lcp w w ≡ w
+common-self [] = refl
+common-self (x ∷ w) = lcp-cons x x w w (eqb-self x) ∙ ap (λ l. x ∷ l) (common-self w)
+
+pub prefix-ends : (e : Entry) (es : List Entry) → rising (e ∷ es) ≡ true → commonPrefix (e ∷ es) ≡ take (common (e .name) (lastOf e es .name)) (e .name)
+prefix-ends e [] r = sym (common-self (e .name))
+prefix-ends e (f ∷ es) r =
+    rw (prefix-ends f es (rising-tail e (f ∷ es) r))
+    (lcp-three (e .name) (f .name) (lastOf f es .name) (inl (and-true (below (e .name) (f .name)) (rising (f ∷ es)) r .0)) (rising-last f es (rising-tail e (f ∷ es) r)))
+
+common-le-left : (u v : List ℕ) → common u v ≤ length u
+common-le-left [] v = omega arith
+common-le-left (x ∷ u) [] = omega arith
+common-le-left (x ∷ u) (y ∷ v) = by-test (eqb x y) (λ t. let ih = common-le-left u v in rw t (omega arith)) (λ t. rw t (omega arith))
+
+pub label-ends : (e : Entry) (es : List Entry) → rising (e ∷ es) ≡ true → length (labelOf (e ∷ es)) ≡ min 7 (common (e .name) (lastOf e es .name))
+label-ends e es r =
+    let c = common (e .name) (lastOf e es .name) in
+    let a = common-le-left (e .name) (lastOf e es .name) in
+    let b = length-take c (e .name) in
+    let d = length-take 7 (take c (e .name)) in
+    rw (prefix-ends e es r) (omega arith)

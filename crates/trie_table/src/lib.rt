@@ -1,0 +1,24 @@
+// The names and scores of a book that was checked, unpacked into the rows of a table.
+ghost use mathlib.Core.Path.{_≡_};
+ghost use lib.ListN.{length};
+ghost use Rattle.book.specs.Book.{inBook};
+ghost use Rattle.book.specs.Held.{Held};
+ghost use Rattle.trie_table.specs.Table.{Room, Unpacked};
+
+// Unpacks the n entries of a book: names into rows of 48 bytes, their lengths, their scores.
+pub fn unpack(book: &[u8], n: usize, names: &mut [u8], lens: &mut [u8], scores: &mut [u32])
+    requires { ⌜ Held (now book) n × Room n (length (now names)) (length (now lens)) (length (now scores)) ⌝ }
+    ensures { λ _. ⌜ Unpacked (inBook (now (book .entry))) n (now (names .exit)) (now (lens .exit)) (now (scores .exit)) ⌝ }
+{
+    let mut c = book_writer::start(n);
+    while c.index < n {
+        let i = c.index;
+        let t = front_coding::advance(book, c);
+        c = t.next;
+        let len = c.len;
+        let name = c.name;
+        octets::copy(names, i * 48, &name[..len]);
+        lens[i] = len as u8;
+        scores[i] = book_check::score_at(book, i);
+    }
+}
