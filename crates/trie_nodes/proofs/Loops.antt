@@ -10,8 +10,8 @@ use native.Mathlib.Omega.{arith}
 use borrow.Author.Tests.{eqb-false, eqb-true, ltb-false, ltb-true}
 use Rattle.octets.proofs.Stores.{sets-append}
 use Rattle.octets.proofs.Tests.{by-test}
-use Rattle.trie.specs.Trie.{longestLabel, ownSize}
-use Rattle.trie_nodes.specs.Nodes.{AllFit, Finished, Finishing, OneFits, Sized, Sound, Writable, after, nodeLength, nodesBytes, nodesLength, oneNode, ownBytes, plain, putAt}
+use Rattle.trie.specs.Trie.{longestLabel}
+use Rattle.trie_nodes.specs.Nodes.{AllFit, Finished, Finishing, OneFits, Sized, Sound, Writable, after, firstOf, nodeLength, nodesBytes, nodesLength, oneNode, ownBytes, plain, putAt}
 use Rattle.trie_nodes.specs.Runs.{Each, Kept, endsHere, firstHigh, held, noRun, runsIn}
 use Rattle.trie_nodes.proofs.Fields.{after-size, length-oneNode, ownSize-le}
 use Rattle.trie_nodes.proofs.Runs.{each-drop, each-map, falls-drop, held-end, held-length, held-next}
@@ -149,50 +149,48 @@ alone r f e = e ∙ omega arith
 
 -- a group's own bytes: the fields of the first are chosen by the bytes of the others
 pub able-sized : {size d : ℕ} {rs : List Run} {first : Next} → Writable size d rs → first .size ≤ 4 → Sized rs first
-able-sized {size} {d} {rs} z h = record { short = each-map (Sound size d) (λ r. r .len ≤ longestLabel) (λ r q. q .short) rs (z .each); falls = z .falls; size = h }
+able-sized {size} {d} {rs} z h =
+    record { short = each-map (Sound size d) (λ r. r .len ≤ longestLabel) (λ r q. q .short) rs (z .each); falls = z .falls; size = h }
 
 module _
-    {names : List ℕ} {d : ℕ} {rs : List Run} {s n total back : ℕ} {put : Bool} (z : Finishing names d rs s n total back put) {other own : ℕ}
-    (a : other ≡ nodesLength (plain s) rs) (b : own ≡ ownSize other)
+    {names : List ℕ} {d : ℕ} {rs : List Run} {s n total back : ℕ} {put : Bool} (z : Finishing names d rs s n total back put) {without : Next}
+    (p : without ≡ plain s) {other : ℕ} (a : other ≡ nodesLength without rs) {first : Next} (b : first ≡ firstOf s other)
   where
-    abbrev chosen : Next
-    chosen = record { score = s; child = other + own; size = own }
-
-    own-bytes : nodesBytes names d chosen rs ≡ ownBytes names d s rs
+    own-bytes : nodesBytes names d first rs ≡ ownBytes names d s rs
     unfolding ownBytes
-    own-bytes = rw (b, a)
+    own-bytes = rw (b, a, p)
 
-    pub own-le : own ≤ 4
+    pub own-le : first .size ≤ 4
     own-le = rw b (ownSize-le other)
 
-    module _ {full : ℕ} (c : full ≡ nodesLength chosen rs) where
+    module _ {full : ℕ} (c : full ≡ nodesLength first rs) where
       full-is : full ≡ length (ownBytes names d s rs)
-      full-is = c ∙ sym (length-nodesBytes names d chosen rs (z .able .each)) ∙ ap length own-bytes
+      full-is = c ∙ sym (length-nodesBytes names d first rs (z .able .each)) ∙ ap length own-bytes
 
       pub room-for : put ≡ true → back + full ≤ total
       room-for t = omega (arith, z .room t, full-is)
 
-      pub all-fit : put ≡ true → AllFit (length names) d rs chosen n (total - back - full)
+      pub all-fit : put ≡ true → AllFit (length names) d rs first n (total - back - full)
       all-fit t = record { able = z .able; small = own-le; room = rw (← c) (omega (arith, room-for t, z .inside t)) }
 
-      -- of one node
-      pub one-fits : put ≡ true → {r : Run} → rs ≡ r ∷ [] → OneFits (length names) d r chosen n (total - back - full)
-      one-fits t {r} e =
-          let f = rw e at (all-fit t) in
-          record { sound = f .able .each .0; small = own-le; room = omega (arith, f .room) }
-
       pub finish-put :
-          {dst out : List ℕ} → put ≡ true → out ≡ sets dst (total - back - full) (nodesBytes names d chosen rs)
+          {dst out : List ℕ} → put ≡ true → out ≡ sets dst (total - back - full) (nodesBytes names d first rs)
           → Finished names d rs s dst out total back put (back + full)
       unfolding putAt
       finish-put t e =
           let m : total - back - full ≡ total - (back + full) = omega arith in
           record { end = rw full-is; bytes = rw t (e ∙ rw (own-bytes, m)) }
 
+      -- of one node
+      pub one-fits : put ≡ true → {r : Run} → rs ≡ r ∷ [] → OneFits (length names) d r first n (total - back - full)
+      one-fits t {r} e =
+          let f = rw e at (all-fit t) in
+          record { sound = f .able .each .0; small = own-le; room = omega (arith, f .room) }
+
       pub finish-alone :
-          {dst out : List ℕ} {r : Run} → rs ≡ r ∷ [] → put ≡ true → out ≡ sets dst (total - back - full) (oneNode names d r chosen true)
+          {dst out : List ℕ} {r : Run} → rs ≡ r ∷ [] → put ≡ true → out ≡ sets dst (total - back - full) (oneNode names d r first true)
           → Finished names d rs s dst out total back put (back + full)
-      finish-alone {r = r} e t o = finish-put t (o ∙ rw (e, append-nil (oneNode names d r chosen true)))
+      finish-alone {r = r} e t o = finish-put t (o ∙ rw (e, append-nil (oneNode names d r first true)))
 
       pub finish-not : {dst : List ℕ} → put ≡ false → Finished names d rs s dst dst total back put (back + full)
       unfolding putAt

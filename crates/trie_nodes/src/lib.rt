@@ -1,12 +1,12 @@
 // The nodes of a sibling group: the rows that they stand for, their fields, their size, their bytes.
 ghost use mathlib.Core.Path.{_≡_};
 ghost use mathlib.Core.List.{[], _∷_};
-ghost use Prim.Native.Nat.{_*_, _≤_};
+ghost use Prim.Native.Nat.{_*_, _<_, _≤_};
 ghost use lib.ListN.{drop, getD, length};
 ghost use lib.Seq.{sets};
 ghost use Rattle.octets.specs.Octets.{be};
 ghost use Rattle.trie_nodes.specs.Runs.{Kept, Within, firstHigh, held, noRun, runsIn, wordsOf};
-ghost use Rattle.trie_nodes.specs.Nodes.{AllFit, Finished, Finishing, OneFits, Sized, after, childSize, childValue, nodeLength, nodesBytes, nodesLength, oneNode};
+ghost use Rattle.trie_nodes.specs.Nodes.{AllFit, Finished, Finishing, OneFits, Sized, after, childSize, childValue, firstOf, nodeLength, nodesBytes, nodesLength, oneNode, plain};
 
 // A node: rows lo to before hi, their highest score, the label's length, the bytes of what stands under it.
 pub struct Run {
@@ -191,6 +191,30 @@ fn put_nodes(
     }
 }
 
+// The fields of a group's first sibling without a child field.
+fn plain_fields(s: usize) -> Next
+    ensures { λ r. ⌜ r ≡ plain s ⌝ }
+{
+    Next {
+        score: s,
+        child: 0,
+        size: 0,
+    }
+}
+
+// The fields of a group's first sibling, with so many bytes in the group besides the child field that counts its own.
+fn first_fields(s: usize, other: usize) -> Next
+    requires { ⌜ other < 65536 ⌝ }
+    ensures { λ r. ⌜ r ≡ firstOf s other ⌝ }
+{
+    let own = trie_header::own_size(other);
+    Next {
+        score: s,
+        child: other + own,
+        size: own,
+    }
+}
+
 // The group's own nodes in front of the `back` bytes that end the first `total`; only measured where `put` is false.
 pub fn finish(
     names: &[u8],
@@ -206,18 +230,8 @@ pub fn finish(
     requires { ⌜ Kept (now runs) count × Finishing (now names) d (held (now runs) count) s (length (now dst)) total back put ⌝ }
     ensures { λ r. ⌜ Finished (now (names .entry)) d (held (now (runs .entry)) count) s (now (dst .entry)) (now (dst .exit)) total back put r ⌝ }
 {
-    let plain = Next {
-        score: s,
-        child: 0,
-        size: 0,
-    };
-    let other = nodes_size(runs, count, plain);
-    let own = trie_header::own_size(other);
-    let first = Next {
-        score: s,
-        child: other + own,
-        size: own,
-    };
+    let other = nodes_size(runs, count, plain_fields(s));
+    let first = first_fields(s, other);
     let full = nodes_size(runs, count, first);
     if put {
         put_nodes(names, d, runs, count, first, dst, total - back - full);
@@ -240,18 +254,8 @@ pub fn finish_one(
     requires { ⌜ Finishing (now names) d (r ∷ []) s (length (now dst)) total back put ⌝ }
     ensures { λ n. ⌜ Finished (now (names .entry)) d (r ∷ []) s (now (dst .entry)) (now (dst .exit)) total back put n ⌝ }
 {
-    let plain = Next {
-        score: s,
-        child: 0,
-        size: 0,
-    };
-    let other = node_size(r, plain);
-    let own = trie_header::own_size(other);
-    let first = Next {
-        score: s,
-        child: other + own,
-        size: own,
-    };
+    let other = node_size(r, plain_fields(s));
+    let first = first_fields(s, other);
     let full = node_size(r, first);
     if put {
         put_node(names, d, r, first, true, dst, total - back - full);

@@ -7,34 +7,36 @@ use Rattle.trie_nodes.proofs.Loops.{able-sized, all-fit, finish-not, fi
 use Rattle.trie_nodes.proofs.finish.Statement.{statement}
 use Rattle.trie_nodes.proofs.finish.Tie as tie
 
--- the entry, from where the other bytes are counted
-abbrev start : tie.After-nodes-size → tie.Start
-start m = m .before .before .before .before
+-- the entry, from where the fields without a child field are made
+abbrev start : tie.After-plain-fields → tie.Start
+start w = w .before .before .before .before
+
+plain-fields-requires : tie.Need-plain-fields-requires
+plain-fields-requires c κs = tt
 
 nodes-size-requires : tie.Need-nodes-size-requires
-nodes-size-requires c κs = let s = c .before .before .before in (s .pre .0, able-sized (s .pre .1 .able) (omega arith))
+nodes-size-requires c κs = let s = start c in (s .pre .0, able-sized (s .pre .1 .able) (rw (c .plain-fields .ensures) (omega arith)))
 
-own-size-requires : tie.Need-own-size-requires
-own-size-requires c κs = tt
-
-add-t15 : tie.Need-add-t15
-add-t15 c =
-    let m = c .before in
-    omega (arith, m .nodes-size .ensures .1, own-le (start m .pre .1) (m .nodes-size .ensures .0) (c .own-size .ensures))
+first-fields-requires : tie.Need-first-fields-requires
+first-fields-requires c κs = omega (arith, c .nodes-size .ensures .1)
 
 nodes-size-requires-2 : tie.Need-nodes-size-requires-2
 nodes-size-requires-2 c κs =
     let m = c .before in
-    let s = start m in
-    (s .pre .0, able-sized (s .pre .1 .able) (own-le (s .pre .1) (m .nodes-size .ensures .0) (c .own-size .ensures)))
+    let w = m .before in
+    let s = start w in
+    let l = own-le (s .pre .1) (w .plain-fields .ensures) (m .nodes-size .ensures .0) (c .first-fields .ensures) in
+    (s .pre .0, able-sized (s .pre .1 .able) l)
 
--- there is room where the nodes are put
-fits : (t : tie.Then1) → start (t .before .before .before) .args .back + t .before .nodes-size2 .result ≤ start (t .before .before .before) .args .total
+-- there is room where it is put
+fits : (t : tie.Then1) → let f = t .before in let s = start (f .before .before .before) in s .args .back + f .nodes-size2 .result ≤ s .args .total
 fits t =
     let f = t .before in
     let o = f .before in
     let m = o .before in
-    room-for (start m .pre .1) (m .nodes-size .ensures .0) (o .own-size .ensures) (f .nodes-size2 .ensures .0) (t .if1 .taken)
+    let w = m .before in
+    let s = start w in
+    room-for (s .pre .1) (w .plain-fields .ensures) (m .nodes-size .ensures .0) (o .first-fields .ensures) (f .nodes-size2 .ensures .0) (t .if1 .taken)
 
 sub-put-nodes : tie.Need-sub-put-nodes
 sub-put-nodes c = omega (arith, fits (c .before))
@@ -48,13 +50,12 @@ put-nodes-requires c κs =
     let f = t .before in
     let o = f .before in
     let m = o .before in
-    let s = start m in
-    (s .pre .0, all-fit (s .pre .1) (m .nodes-size .ensures .0) (o .own-size .ensures) (f .nodes-size2 .ensures .0) (t .if1 .taken))
+    let w = m .before in
+    let s = start w in
+    (s .pre .0, all-fit (s .pre .1) (w .plain-fields .ensures) (m .nodes-size .ensures .0) (o .first-fields .ensures) (f .nodes-size2 .ensures .0) (t .if1 .taken))
 
 add-result : tie.Need-add-result
-add-result c =
-    let f = c .before .before .before .before .before in
-    omega (arith, f .nodes-size2 .ensures .1, start (f .before .before) .pre .1 .low)
+add-result c = let f = c .before .before .before .before .before in omega (arith, f .nodes-size2 .ensures .1, start (f .before .before .before) .pre .1 .low)
 
 same-length : tie.Need-same-length
 same-length c = search needs
@@ -66,25 +67,29 @@ returns c =
     let f = t .before in
     let o = f .before in
     let m = o .before in
-    finish-put (start m .pre .1) (m .nodes-size .ensures .0) (o .own-size .ensures) (f .nodes-size2 .ensures .0) (t .if1 .taken) (p .put-nodes .ensures)
+    let w = m .before in
+    let s = start w in
+    finish-put (s .pre .1) (w .plain-fields .ensures) (m .nodes-size .ensures .0) (o .first-fields .ensures) (f .nodes-size2 .ensures .0) (t .if1 .taken) (p .put-nodes .ensures)
 
 add-result-2 : tie.Need-add-result-2
-add-result-2 c = let f = c .before in omega (arith, f .nodes-size2 .ensures .1, start (f .before .before) .pre .1 .low)
+add-result-2 c = let f = c .before in omega (arith, f .nodes-size2 .ensures .1, start (f .before .before .before) .pre .1 .low)
 
 returns-2 : tie.Need-returns-2
 returns-2 c =
     let f = c .before in
     let o = f .before in
     let m = o .before in
-    finish-not (start m .pre .1) (m .nodes-size .ensures .0) (o .own-size .ensures) (f .nodes-size2 .ensures .0) (c .if1 .left)
+    let w = m .before in
+    let s = start w in
+    finish-not (s .pre .1) (w .plain-fields .ensures) (m .nodes-size .ensures .0) (o .first-fields .ensures) (f .nodes-size2 .ensures .0) (c .if1 .left)
 
 pub finish-spec : {M : Type 1} → statement M
 finish-spec =
     tie.close
     (tie.spec
+    plain-fields-requires
     nodes-size-requires
-    own-size-requires
-    add-t15
+    first-fields-requires
     nodes-size-requires-2
     sub-put-nodes
     sub-put-nodes-2

@@ -8,34 +8,36 @@ use Rattle.trie_nodes.proofs.Loops.{alone, finish-alone, finish-not, on
 use Rattle.trie_nodes.proofs.finish_one.Statement.{statement}
 use Rattle.trie_nodes.proofs.finish_one.Tie as tie
 
--- the entry, from where the other bytes are counted
-abbrev start : tie.After-node-size → tie.Start
-start m = m .before .before .before
+-- the entry, from where the fields without a child field are made
+abbrev start : tie.After-plain-fields → tie.Start
+start w = w .before .before .before
+
+plain-fields-requires : tie.Need-plain-fields-requires
+plain-fields-requires c κs = tt
 
 node-size-requires : tie.Need-node-size-requires
-node-size-requires c κs = (c .before .before .pre .able .each .0 .short, omega arith)
+node-size-requires c κs = (start c .pre .able .each .0 .short, (rw (c .plain-fields .ensures) (omega arith)))
 
-own-size-requires : tie.Need-own-size-requires
-own-size-requires c κs = tt
-
-add-t14 : tie.Need-add-t14
-add-t14 c =
-    let m = c .before in
-    omega (arith, m .node-size .ensures .1, own-le (start m .pre) (alone _ _ (m .node-size .ensures .0)) (c .own-size .ensures))
+first-fields-requires : tie.Need-first-fields-requires
+first-fields-requires c κs = omega (arith, c .node-size .ensures .1)
 
 node-size-requires-2 : tie.Need-node-size-requires-2
 node-size-requires-2 c κs =
     let m = c .before in
-    let s = start m in
-    (s .pre .able .each .0 .short, own-le (s .pre) (alone _ _ (m .node-size .ensures .0)) (c .own-size .ensures))
+    let w = m .before in
+    let s = start w in
+    let l = own-le (s .pre) (w .plain-fields .ensures) (alone _ _ (m .node-size .ensures .0)) (c .first-fields .ensures) in
+    (s .pre .able .each .0 .short, l)
 
--- there is room where the nodes are put
-fits : (t : tie.Then1) → start (t .before .before .before) .args .back + t .before .node-size2 .result ≤ start (t .before .before .before) .args .total
+-- there is room where it is put
+fits : (t : tie.Then1) → let f = t .before in let s = start (f .before .before .before) in s .args .back + f .node-size2 .result ≤ s .args .total
 fits t =
     let f = t .before in
     let o = f .before in
     let m = o .before in
-    room-for (start m .pre) (alone _ _ (m .node-size .ensures .0)) (o .own-size .ensures) (alone _ _ (f .node-size2 .ensures .0)) (t .if1 .taken)
+    let w = m .before in
+    let s = start w in
+    room-for (s .pre) (w .plain-fields .ensures) (alone _ _ (m .node-size .ensures .0)) (o .first-fields .ensures) (alone _ _ (f .node-size2 .ensures .0)) (t .if1 .taken)
 
 sub-put-node : tie.Need-sub-put-node
 sub-put-node c = omega (arith, fits (c .before))
@@ -49,13 +51,12 @@ put-node-requires c κs =
     let f = t .before in
     let o = f .before in
     let m = o .before in
-    let s = start m in
-    one-fits (s .pre) (alone _ _ (m .node-size .ensures .0)) (o .own-size .ensures) (alone _ _ (f .node-size2 .ensures .0)) (t .if1 .taken) refl
+    let w = m .before in
+    let s = start w in
+    one-fits (s .pre) (w .plain-fields .ensures) (alone _ _ (m .node-size .ensures .0)) (o .first-fields .ensures) (alone _ _ (f .node-size2 .ensures .0)) (t .if1 .taken) refl
 
 add-result : tie.Need-add-result
-add-result c =
-    let f = c .before .before .before .before .before in
-    omega (arith, f .node-size2 .ensures .1, start (f .before .before) .pre .low)
+add-result c = let f = c .before .before .before .before .before in omega (arith, f .node-size2 .ensures .1, start (f .before .before .before) .pre .low)
 
 same-length : tie.Need-same-length
 same-length c = search needs
@@ -67,25 +68,29 @@ returns c =
     let f = t .before in
     let o = f .before in
     let m = o .before in
-    finish-alone (start m .pre) (alone _ _ (m .node-size .ensures .0)) (o .own-size .ensures) (alone _ _ (f .node-size2 .ensures .0)) refl (t .if1 .taken) (p .put-node .ensures)
+    let w = m .before in
+    let s = start w in
+    finish-alone (s .pre) (w .plain-fields .ensures) (alone _ _ (m .node-size .ensures .0)) (o .first-fields .ensures) (alone _ _ (f .node-size2 .ensures .0)) refl (t .if1 .taken) (p .put-node .ensures)
 
 add-result-2 : tie.Need-add-result-2
-add-result-2 c = let f = c .before in omega (arith, f .node-size2 .ensures .1, start (f .before .before) .pre .low)
+add-result-2 c = let f = c .before in omega (arith, f .node-size2 .ensures .1, start (f .before .before .before) .pre .low)
 
 returns-2 : tie.Need-returns-2
 returns-2 c =
     let f = c .before in
     let o = f .before in
     let m = o .before in
-    finish-not (start m .pre) (alone _ _ (m .node-size .ensures .0)) (o .own-size .ensures) (alone _ _ (f .node-size2 .ensures .0)) (c .if1 .left)
+    let w = m .before in
+    let s = start w in
+    finish-not (s .pre) (w .plain-fields .ensures) (alone _ _ (m .node-size .ensures .0)) (o .first-fields .ensures) (alone _ _ (f .node-size2 .ensures .0)) (c .if1 .left)
 
 pub finish-one-spec : {M : Type 1} → statement M
 finish-one-spec =
     tie.close
     (tie.spec
+    plain-fields-requires
     node-size-requires
-    own-size-requires
-    add-t14
+    first-fields-requires
     node-size-requires-2
     sub-put-node
     sub-put-node-2
