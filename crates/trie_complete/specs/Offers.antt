@@ -9,6 +9,7 @@ use Rattle.entries.specs.Entries.{Entry}
 use Rattle.book.specs.Answers.{entriesBytes, entriesOf, given, isRead}
 use Rattle.completion.specs.Complete.{offeredAs, offeredOf}
 use Rattle.completion.specs.declared.Completion.{Completion}
+use Rattle.completion.specs.declared.Completion.the-variants as answer
 use Rattle.trie.specs.Reading.{readTrie}
 use Rattle.trie.specs.Trie.{levels}
 use Rattle.trie_search.specs.Descend.{start}
@@ -52,6 +53,10 @@ pub record Gives (bs : List ℕ) (most : ℕ) (ws : List search.Waiting) (r : Tu
 
 abbrev pub TurnGiven : List ℕ → Queue → ℕ → Turn → Type 0
 TurnGiven bs q most r = (ws : List search.Waiting) → StandAll bs (waits q) ws → Gives bs most ws r
+
+-- the answer of a completion that takes no looks
+abbrev pub offerOf : ℕ → ℕ → Completion
+offerOf offered bytes = answer.Offered offered bytes 0
 
 -- the list l is answered, with looks 0, and written at the front of the destination
 pub record Offered (l : List Entry) (before : List ℕ) (r : Completion) (after : List ℕ) : Type 0 where

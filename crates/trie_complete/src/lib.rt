@@ -13,7 +13,7 @@ ghost use Rattle.completion.specs.Complete.{Completed, entryRoom};
 ghost use Rattle.trie.specs.Calls.{completeTrie};
 ghost use Rattle.trie_waiting.specs.Waits.{knownOf};
 ghost use Rattle.trie_turns.specs.Turns.{Reaches};
-ghost use Rattle.trie_complete.specs.Offers.{Offered, TurnGiven, TurnReady, firstWaits, inTrie, isTrie};
+ghost use Rattle.trie_complete.specs.Offers.{Offered, TurnGiven, TurnReady, firstWaits, inTrie, isTrie, offerOf};
 
 // The nodes that wait at first: those of the first group for the empty prefix, else the one that the prefix leads to.
 fn start(trie: &[u8], prefix: &[u8]) -> Queue
@@ -53,6 +53,17 @@ fn put_leaf(dst: &mut [u8], at: usize, x: Waiting) -> usize
     answers::put_entry(dst, at, &path[..n], x.score)
 }
 
+// The answer of a completion from a trie, which takes no looks.
+fn offer(offered: usize, bytes: usize) -> completion::Completion
+    ensures { λ r. ⌜ r ≡ offerOf offered bytes ⌝ }
+{
+    completion::Completion::Offered {
+        offered: offered,
+        bytes: bytes,
+        looks: 0,
+    }
+}
+
 // Completion from a trie that was checked, for a count from 1 to 16 and a destination with room for as many entries.
 pub fn complete(trie: &[u8], prefix: &[u8], k: usize, dst: &mut [u8]) -> completion::Completion
     requires { ⌜ (isTrie (now trie) ≡ true) × (1 ≤ k) × (k ≤ maxCount) × (entryRoom * k ≤ length (now dst)) ⌝ }
@@ -63,22 +74,14 @@ pub fn complete(trie: &[u8], prefix: &[u8], k: usize, dst: &mut [u8]) -> complet
     let mut bytes = 0;
     while offered < k {
         if queue.count == 0 {
-            return completion::Completion::Offered {
-                offered: offered,
-                bytes: bytes,
-                looks: 0,
-            };
+            return offer(offered, bytes);
         }
         let turn = next_turn(trie, queue, k - offered - 1);
         bytes = put_leaf(dst, bytes, turn.leaf);
         queue = turn.queue;
         offered += 1;
     }
-    completion::Completion::Offered {
-        offered: offered,
-        bytes: bytes,
-        looks: 0,
-    }
+    offer(offered, bytes)
 }
 
 // Completion from a trie: the entries that the prefix begins, in rank, the first k or all if fewer.

@@ -24,14 +24,18 @@ loop-holds c =
     let z = c .before .before .before .before in
     offering-start (z .args .trie .now) (z .args .prefix .now) (z .args .k) (z .args .dst .now) (c .start .result) (z .pre .0) (z .pre .1) (c .start .ensures)
 
+offer-requires : tie.Need-offer-requires Inv-loop μ-loop
+offer-requires c κs = tt
+
 same-length : tie.Need-same-length Inv-loop μ-loop
-same-length c = let l = c .before .before .before .loop in offering-length _ _ _ _ _ _ _ _ (l .inv)
+same-length c = let l = c .before .before .before .before .loop in offering-length _ _ _ _ _ _ _ _ (l .inv)
 
 returns : tie.Need-returns Inv-loop μ-loop
 returns c =
-    let z = c .before .before .before .before .before .before .before .before in
-    let l = c .before .before .before .loop in
-    offering-none (z .args .trie .now) (z .args .prefix .now) (z .args .k) (z .args .dst .now) (l .dst) (l .queue) (l .offered) (l .bytes) (l .inv) (c .if1 .taken) (z .pre .3)
+    let z = c .before .before .before .before .before .before .before .before .before in
+    let l = c .before .before .before .before .loop in
+    rw (c .offer .ensures)
+    (offering-none (z .args .trie .now) (z .args .prefix .now) (z .args .k) (z .args .dst .now) (l .dst) (l .queue) (l .offered) (l .bytes) (l .inv) (c .before .if1 .taken) (z .pre .3))
 
 sub-next-turn : tie.Need-sub-next-turn Inv-loop μ-loop
 sub-next-turn c = search needs
@@ -67,14 +71,18 @@ loop-again c =
     offering-on (z .args .trie .now) (z .args .prefix .now) (z .args .k) (z .args .dst .now) (l .dst) (l .queue) (l .offered) (l .bytes) (l .inv) (c .before .before .before .before .before .before .before .before .loop-test .taken)
     (c .before .before .before .before .before .next-turn .result) (c .before .before .before .put-leaf .last .0) (c .before .before .before .put-leaf .result) (c .before .before .before .before .before .next-turn .ensures) (c .before .before .before .put-leaf .ensures .0) (c .before .before .before .put-leaf .ensures .1)
 
+offer-requires-2 : tie.Need-offer-requires-2 Inv-loop μ-loop
+offer-requires-2 c κs = tt
+
 same-length-2 : tie.Need-same-length-2 Inv-loop μ-loop
-same-length-2 c = let l = c .before .loop in offering-length _ _ _ _ _ _ _ _ (l .inv)
+same-length-2 c = let l = c .before .before .loop in offering-length _ _ _ _ _ _ _ _ (l .inv)
 
 returns-2 : tie.Need-returns-2 Inv-loop μ-loop
 returns-2 c =
-    let z = c .before .before .before .before .before .before in
-    let l = c .before .loop in
-    offering-full (z .args .trie .now) (z .args .prefix .now) (z .args .k) (z .args .dst .now) (l .dst) (l .queue) (l .offered) (l .bytes) (l .inv) (c .loop-test .left) (z .pre .3)
+    let z = c .before .before .before .before .before .before .before in
+    let l = c .before .before .loop in
+    rw (c .offer2 .ensures)
+    (offering-full (z .args .trie .now) (z .args .prefix .now) (z .args .k) (z .args .dst .now) (l .dst) (l .queue) (l .offered) (l .bytes) (l .inv) (c .before .loop-test .left) (z .pre .3))
 
 pub complete-spec : {M : Type 1} → statement M
 complete-spec =
@@ -84,6 +92,7 @@ complete-spec =
     μ-loop
     start-requires
     loop-holds
+    offer-requires
     same-length
     returns
     sub-next-turn
@@ -93,5 +102,6 @@ complete-spec =
     add-offered
     loop-less
     loop-again
+    offer-requires-2
     same-length-2
     returns-2)
