@@ -49,13 +49,16 @@ pub data Command : Type 0 where
   top : ℕ → List ℕ → Command
   bad : Command
 
--- a number of 1 to 10 digits below 4,294,967,296 and a space, then the name or prefix
+-- a number of 1 to 10 digits below 4,294,967,296 and a space at the front
+abbrev pub hasNumber : List ℕ → Bool
+hasNumber bs =
+    let ds = digits bs in
+    leb 1 (length ds) && (leb (length ds) 10 && (ltb (valueOn 0 ds) (2 ^ 32) && begins (text " ") (drop (length ds) bs)))
+
+-- these, then the name or prefix
 abbrev pub numbered : (ℕ → List ℕ → Command) → List ℕ → Command
 numbered make bs =
-    let ds = digits bs in
-    if leb 1 (length ds) && (leb (length ds) 10 && (ltb (valueOn 0 ds) (2 ^ 32) && begins (text " ") (drop (length ds) bs)))
-    then make (valueOn 0 ds) (drop (suc (length ds)) bs)
-    else bad
+    let ds = digits bs in if hasNumber bs then make (valueOn 0 ds) (drop (suc (length ds)) bs) else bad
 
 -- one of the words and a space; any other line is bad
 unfoldable pub commandOf : List ℕ → Command
