@@ -1,0 +1,80 @@
+// Command lines carried out on two lent buffers: a line is parsed, its call made, and what it says is printed.
+ghost use mathlib.Core.Path.{_≡_};
+ghost use mathlib.Core.Bool.{false};
+ghost use Prim.Native.Nat.{_+_, _≤_};
+ghost use lib.ListN.{length};
+ghost use Rattle.label_book.specs.Calls.{writtenOf};
+ghost use Rattle.histories.specs.Code.{Called, Performed, Small};
+ghost use Rattle.histories.specs.Run.{bench, buffers};
+ghost use Rattle.commands.specs.Program.{commandOf, edit};
+ghost use Rattle.command_lines.specs.Printing.{Put};
+ghost use Rattle.interpreter.specs.Step.{EditPrinted, StepDone, editOf, lineRoom};
+
+// What a line printed: how many bytes, and whether the second buffer holds the book afterwards.
+pub struct Stepped {
+    pub bytes: usize,
+    pub turned: bool,
+}
+
+// Makes a set or a withdraw, from one buffer into another.
+fn call(set: bool, name: &[u8], score: u32, book: &[u8], dst: &mut [u8]) -> label_book::Written
+    ensures { λ r. ⌜ Called (editOf set (now (name .entry)) score) (buffers (now (book .entry)) (now (dst .entry))) r (now (dst .exit)) ⌝ }
+{
+    if set {
+        return label_book::set(book, name, score, dst);
+    }
+    label_book::withdraw(book, name, dst)
+}
+
+// Makes it from the buffer that holds the book into the other.
+fn perform(
+    set: bool,
+    name: &[u8],
+    score: u32,
+    turned: bool,
+    first: &mut [u8],
+    second: &mut [u8],
+) -> label_book::Written
+    ensures { λ r. ⌜ Performed (editOf set (now (name .entry)) score) (bench (now (first .entry)) (now (second .entry)) turned) r
+        (now (first .exit)) (now (second .exit)) ⌝ }
+{
+    if turned {
+        return call(set, name, score, second, first);
+    }
+    call(set, name, score, first, second)
+}
+
+// Prints an edit's answer; after an accepted one the other buffer holds the book.
+fn print_edit(w: label_book::Written, turned: bool, out: &mut [u8]) -> Stepped
+    requires { ⌜ Small (writtenOf w) × (lineRoom ≤ length (now out)) ⌝ }
+    ensures { λ r. ⌜ EditPrinted w turned (now (out .entry)) r (now (out .exit)) ⌝ }
+{
+    match w {
+        label_book::Written::Refused(n) => Stepped {
+            bytes: command_lines::put_counted(out, 0, b"no ", n as u32),
+            turned: turned,
+        },
+        label_book::Written::Wrote { entries, bytes: _ } => Stepped {
+            bytes: command_lines::put_counted(out, 0, b"ok ", entries as u32),
+            turned: !turned,
+        },
+    }
+}
+
+// An edit made and its answer printed.
+fn step_edit(
+    set: bool,
+    name: &[u8],
+    score: u32,
+    turned: bool,
+    first: &mut [u8],
+    second: &mut [u8],
+    out: &mut [u8],
+) -> Stepped
+    requires { ⌜ lineRoom ≤ length (now out) ⌝ }
+    ensures { λ r. ⌜ StepDone (edit (editOf set (now (name .entry)) score)) (bench (now (first .entry)) (now (second .entry)) turned) (now (out .entry))
+        r (now (first .exit)) (now (second .exit)) (now (out .exit)) ⌝ }
+{
+    let w = perform(set, name, score, turned, first, second);
+    print_edit(w, turned, out)
+}
