@@ -9,10 +9,14 @@ use lib.ListN.{drop, drop-of-length-le, getD, length, length-append, length-drop
 use lib.Seq.{drop-cons, length-sets, sets, take-all}
 use native.Mathlib.Numerals.{add-one}
 use native.Mathlib.Omega.{arith}
+use Rattle.octets.specs.Lists.{all}
 use Rattle.octets.specs.Octets.{begins, numberAt}
 use Rattle.octets.specs.Text.{text}
 use Rattle.octets.proofs.Stores.{sets-append}
-use Rattle.entries.specs.Entries.{Entry, entry, noEntry}
+use Rattle.octets.proofs.Tests.{and-true}
+use Rattle.entries.specs.Entries.{Entry, entry, isEntry, noEntry}
+use Rattle.entries.specs.Names.{isName, isScore}
+use Rattle.entries.proofs.Valid.{name-length}
 use Rattle.book.specs.Answers.{entriesBytes}
 use Rattle.sheet.specs.Sheet.{behindName, sheetFrom}
 use Rattle.sheet.proofs.Entries.{Here, here}
@@ -60,7 +64,7 @@ line-most e =
     let b = length-append (d ++ text " ") (e .name) in
     omega (arith, decimal-most (e .score), length-append d (text " "))
 
-length-entries : (n : ℕ) (bs : List ℕ) → length (sheetFrom n bs) ≡ n
+pub length-entries : (n : ℕ) (bs : List ℕ) → length (sheetFrom n bs) ≡ n
 length-entries zero bs = refl
 length-entries (suc n) bs = ap suc (length-entries n (drop 4 (behindName bs)))
 
@@ -120,3 +124,12 @@ module _
     offer-end h =
         let z = drop-of-length-le es {i = i} (omega (arith, length-entries n answer)) in
         record { stored = rw z at (k .left); ends = omega (arith, ap (λ x. length (offeredLines x)) z, k .ends) }
+
+-- the lines of allowed entries are short
+pub lines-most : (l : List Entry) → all isEntry l ≡ true → length (offeredLines l) ≤ 60 * length l
+lines-most [] h = omega arith
+lines-most (e ∷ l) h =
+    let p = and-true (isEntry e) (all isEntry l) h in
+    let q = and-true (isName (e .name)) (isScore (e .score)) (p .0) in
+    let a = name-length (e .name) (q .0) in
+    omega (arith, line-most e, lines-most l (p .1), length-append (entryLine e) (offeredLines l))

@@ -48,7 +48,7 @@ small-of es x v e =
 small-refused : (n : ℕ) → Small (refused n)
 small-refused n = record { entries = omega arith; bytes = omega arith }
 
-valid-in : (book : List ℕ) → isBook book ≡ true → valid (inBook book) ≡ true
+pub valid-in : (book : List ℕ) → isBook book ≡ true → valid (inBook book) ≡ true
 valid-in book t = let h : Held book (length (inBook book)) = record { isIt = t; count = refl } in held-stored h .ok
 
 pub set-small :

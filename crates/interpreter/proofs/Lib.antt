@@ -1,1 +1,3 @@
 pub mod Editing
+pub mod Completing
+pub mod Cutting

@@ -8,7 +8,7 @@ ghost use Rattle.histories.specs.Code.{Called, Performed, Small};
 ghost use Rattle.histories.specs.Run.{bench, buffers};
 ghost use Rattle.commands.specs.Program.{commandOf, edit};
 ghost use Rattle.command_lines.specs.Printing.{Put};
-ghost use Rattle.interpreter.specs.Step.{EditPrinted, StepDone, editOf, lineRoom};
+ghost use Rattle.interpreter.specs.Step.{EditPrinted, Printable, StepDone, answerLines, editOf, lineRoom};
 
 // What a line printed: how many bytes, and whether the second buffer holds the book afterwards.
 pub struct Stepped {
@@ -77,4 +77,22 @@ fn step_edit(
 {
     let w = perform(set, name, score, turned, first, second);
     print_edit(w, turned, out)
+}
+
+// Prints the answer of a completion: the entries offered, which lie at the front of `answer`, and the looks.
+fn print_top(c: completion::Completion, answer: &[u8], out: &mut [u8]) -> usize
+    requires { ⌜ Printable c (now answer) × (lineRoom ≤ length (now out)) ⌝ }
+    ensures { λ r. ⌜ Put (now (out .entry)) 0 (answerLines c (now (answer .entry))) r (now (out .exit)) ⌝ }
+{
+    match c {
+        completion::Completion::Refused(n) => command_lines::put_counted(out, 0, b"no ", n as u32),
+        completion::Completion::Offered {
+            offered,
+            bytes: _,
+            looks,
+        } => {
+            let end = command_lines::put_offered(answer, offered, out);
+            command_lines::put_counted(out, end, b"looks ", looks as u32)
+        }
+    }
 }
