@@ -1,3 +1,4 @@
 pub mod Editing
 pub mod Completing
 pub mod Cutting
+pub mod Theorem

@@ -2,10 +2,46 @@
 use Rattle.commands.specs.Program as program
 use Prim.Native.Nat.{_≤_, ℕ}
 use mathlib.Core.Path.{_≡_}
-use mathlib.Core.List.{List}
-use lib.ListN.{take}
-use Rattle.entries.specs.Entries.{Entry}
-use Rattle.commands.specs.Program.{commandOf, heldAfter, printed}
+use mathlib.Core.Bool.{true}
+use mathlib.Core.List.{List, [], _++_, _∷_}
+use lib.ListN.{length, take}
+use Rattle.entries.specs.Entries.{Entry, valid}
+use Rattle.book.specs.Answers.{refused}
+use Rattle.book.specs.Book.{bookImage}
+use Rattle.ledger.specs.Ledger.{Edit, ledgerAnswer, scoreFits}
+use Rattle.histories.specs.Run.{Bench, bookOf, startBench}
+use Rattle.commands.specs.Program.{bufferLength, commandOf, heldAfter, outputOf, printed}
+use Rattle.interpreter.specs.Step.{leftBy, shownBy}
+
+-- a list of lines carried out from a bench on: what is printed, and the bench after it
+abbrev pub shownFor : List (List ℕ) → Bench → List ℕ
+shownFor [] b = []
+shownFor (l ∷ ls) b = shownBy (commandOf l) b ++ shownFor ls (leftBy (commandOf l) b)
+
+abbrev pub leftFor : List (List ℕ) → Bench → Bench
+leftFor [] b = b
+leftFor (l ∷ ls) b = leftFor ls (leftBy (commandOf l) b)
+
+-- the entries that the ledger holds after a list of lines
+abbrev pub heldFor : List (List ℕ) → List Entry → List Entry
+heldFor [] es = es
+heldFor (l ∷ ls) es = heldFor ls (heldAfter (commandOf l) es)
+
+-- the image of entries stands at the front of the buffer that holds the book
+abbrev pub Stands : List Entry → Bench → Type 0
+Stands es b = take (length (bookImage es)) (bookOf b) ≡ bookImage es
+
+pub record LedgerSays (ls : List (List ℕ)) (b : Bench) : Type 0 where
+  pub printed : shownFor ls b ≡ outputOf [] ls
+  pub stands : Stands (heldFor ls []) (leftFor ls b)
+
+-- any list of lines, from the book that "empty" wrote into one of two buffers of 57,344 bytes
+abbrev pub LinesSay : Type 0
+LinesSay = (ls : List (List ℕ)) (a b : List ℕ) → length a ≡ bufferLength → length b ≡ bufferLength → LedgerSays ls (startBench a b)
+
+-- with buffers of that length refusal 7 cannot occur
+abbrev pub NeverSeven : Type 0
+NeverSeven = (c : Edit) (es : List Entry) → valid es ≡ true → scoreFits c ≡ true → ledgerAnswer bufferLength c es ≡ refused 7 → ⊥
 
 -- two commands print the same with the entries es held, and leave the same entries
 pub record Alike (es : List Entry) (c d : program.Command) : Type 0 where
