@@ -2,3 +2,4 @@ pub mod Editing
 pub mod Completing
 pub mod Cutting
 pub mod Theorem
+pub mod Stepping

@@ -6,9 +6,10 @@ ghost use lib.ListN.{length};
 ghost use Rattle.label_book.specs.Calls.{writtenOf};
 ghost use Rattle.histories.specs.Code.{Called, Performed, Small};
 ghost use Rattle.histories.specs.Run.{bench, buffers};
-ghost use Rattle.commands.specs.Program.{commandOf, edit};
+ghost use Rattle.commands.specs.Program.{commandOf, edit, top};
+ghost use Rattle.completion.specs.Complete.{Completed, completeBook};
 ghost use Rattle.command_lines.specs.Printing.{Put};
-ghost use Rattle.interpreter.specs.Step.{EditPrinted, Printable, StepDone, answerLines, editOf, lineRoom};
+ghost use Rattle.interpreter.specs.Step.{EditPrinted, Printable, StepDone, answerLines, editOf, lineRoom, topOf};
 
 // What a line printed: how many bytes, and whether the second buffer holds the book afterwards.
 pub struct Stepped {
@@ -94,5 +95,76 @@ fn print_top(c: completion::Completion, answer: &[u8], out: &mut [u8]) -> usize
             let end = command_lines::put_offered(answer, offered, out);
             command_lines::put_counted(out, end, b"looks ", looks as u32)
         }
+    }
+}
+
+fn complete_in(book: &[u8], prefix: &[u8], k: usize, dst: &mut [u8]) -> completion::Completion
+    ensures { λ r. ⌜ Completed (completeBook (now (book .entry)) (now (prefix .entry)) k (now (dst .entry)) k) r (now (dst .exit)) ⌝ }
+{
+    completion::Completion::Refused(1)
+}
+
+// Completes a prefix from the book in a buffer, and prints the answer.
+fn top_from(book: &[u8], prefix: &[u8], k: u32, out: &mut [u8]) -> usize
+    requires { ⌜ lineRoom ≤ length (now out) ⌝ }
+    ensures { λ r. ⌜ Put (now (out .entry)) 0 (topOf (now (book .entry)) k (now (prefix .entry))) r (now (out .exit)) ⌝ }
+{
+    let mut answer = [0u8; 848];
+    let c = complete_in(book, prefix, k as usize, &mut answer);
+    print_top(c, &answer, out)
+}
+
+// The same from the buffer that holds the book.
+fn step_top(
+    prefix: &[u8],
+    k: u32,
+    turned: bool,
+    first: &[u8],
+    second: &[u8],
+    out: &mut [u8],
+) -> Stepped
+    requires { ⌜ lineRoom ≤ length (now out) ⌝ }
+    ensures { λ r. ⌜ StepDone (top k (now (prefix .entry))) (bench (now (first .entry)) (now (second .entry)) turned) (now (out .entry))
+        r (now (first .entry)) (now (second .entry)) (now (out .exit)) ⌝ }
+{
+    if turned {
+        return Stepped {
+            bytes: top_from(second, prefix, k, out),
+            turned: turned,
+        };
+    }
+    Stepped {
+        bytes: top_from(first, prefix, k, out),
+        turned: turned,
+    }
+}
+
+// One line: parsed, its call made, and what it says printed.
+pub fn step(
+    line: &[u8],
+    turned: bool,
+    first: &mut [u8],
+    second: &mut [u8],
+    out: &mut [u8],
+) -> Stepped
+    requires { ⌜ lineRoom ≤ length (now out) ⌝ }
+    ensures { λ r. ⌜ StepDone (commandOf (now (line .entry))) (bench (now (first .entry)) (now (second .entry)) turned) (now (out .entry))
+        r (now (first .exit)) (now (second .exit)) (now (out .exit)) ⌝ }
+{
+    let c = command_lines::parse(line);
+    match c {
+        command_lines::Command::Set { score, rest } => {
+            step_edit(true, &line[rest..], score, turned, first, second, out)
+        }
+        command_lines::Command::Withdraw { rest } => {
+            step_edit(false, &line[rest..], 0, turned, first, second, out)
+        }
+        command_lines::Command::Top { k, rest } => {
+            step_top(&line[rest..], k, turned, first, second, out)
+        }
+        command_lines::Command::Bad => Stepped {
+            bytes: command_lines::put_bad(out),
+            turned: turned,
+        },
     }
 }
