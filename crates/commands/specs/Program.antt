@@ -34,10 +34,14 @@ decimal v = decimalTo 10 v
 abbrev pub isDigit : ℕ → Bool
 isDigit b = leb 48 b && leb b 57
 
+-- the bytes at the front that pass a test
+abbrev pub front : (ℕ → Bool) → List ℕ → List ℕ
+front p [] = []
+front p (b ∷ bs) = if p b then (b ∷ front p bs) else []
+
 -- the digits at the front, and their value
 abbrev pub digits : List ℕ → List ℕ
-digits [] = []
-digits (b ∷ bs) = if isDigit b then (b ∷ digits bs) else []
+digits bs = front isDigit bs
 
 abbrev pub valueOn : ℕ → List ℕ → ℕ
 valueOn a [] = a

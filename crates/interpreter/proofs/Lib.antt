@@ -3,3 +3,4 @@ pub mod Completing
 pub mod Cutting
 pub mod Theorem
 pub mod Stepping
+pub mod Feeding

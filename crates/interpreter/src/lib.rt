@@ -1,19 +1,28 @@
 // Command lines carried out on two lent buffers: a line is parsed, its call made, and what it says is printed.
 ghost use mathlib.Core.Path.{_≡_};
 ghost use mathlib.Core.Bool.{false};
-ghost use Prim.Native.Nat.{_+_, _≤_};
-ghost use lib.ListN.{length};
+ghost use Prim.Native.Nat.{_+_, _≤_, min};
+ghost use lib.ListN.{length, take};
 ghost use Rattle.label_book.specs.Calls.{writtenOf};
 ghost use Rattle.histories.specs.Code.{Called, Performed, Small};
 ghost use Rattle.histories.specs.Run.{bench, buffers};
 ghost use Rattle.commands.specs.Program.{commandOf, edit, top};
 ghost use Rattle.completion.specs.Complete.{Completed, completeBook};
 ghost use Rattle.command_lines.specs.Printing.{Put};
+ghost use Rattle.interpreter.specs.Feed.{FeedDone, FeedRoom, FinishDone, Kept, console, keptBytes, lineOf};
 ghost use Rattle.interpreter.specs.Step.{EditPrinted, Printable, StepDone, answerLines, editOf, lineRoom, topOf};
 
 // What a line printed: how many bytes, and whether the second buffer holds the book afterwards.
 pub struct Stepped {
     pub bytes: usize,
+    pub turned: bool,
+}
+
+// What a part of the input gave: the bytes used and printed, the bytes kept of the line begun, and whether the second buffer holds the book.
+pub struct Fed {
+    pub used: usize,
+    pub bytes: usize,
+    pub kept: usize,
     pub turned: bool,
 }
 
@@ -167,4 +176,90 @@ pub fn step(
             turned: turned,
         },
     }
+}
+
+// The number of bytes in front of the first line feed.
+fn line_length(s: &[u8]) -> usize
+    ensures { λ r. ⌜ r ≡ length (lineOf (now (s .entry))) ⌝ }
+{
+    let mut i = 0;
+    while i < s.len() {
+        if s[i] == 10 {
+            return i;
+        }
+        i += 1;
+    }
+    i
+}
+
+// The smaller of two numbers.
+fn least(a: usize, b: usize) -> usize
+    ensures { λ r. ⌜ r ≡ min a b ⌝ }
+{
+    if a < b { a } else { b }
+}
+
+// Adds a part to the line begun, of which the first 64 bytes are kept: how many are kept now.
+fn keep(line: &mut [u8], kept: usize, part: &[u8]) -> usize
+    requires { ⌜ (kept ≤ keptBytes) × (keptBytes ≤ length (now line)) ⌝ }
+    ensures { λ r. ⌜ Kept (now (line .entry)) kept (now (part .entry)) r (now (line .exit)) ⌝ }
+{
+    let n = least(part.len(), 64 - kept);
+    octets::copy(line, kept, &part[..n]);
+    kept + n
+}
+
+// Feeds input: up to its first line feed, where the line is carried out, or all of it.
+pub fn feed(
+    input: &[u8],
+    kept: usize,
+    turned: bool,
+    line: &mut [u8],
+    first: &mut [u8],
+    second: &mut [u8],
+    out: &mut [u8],
+) -> Fed
+    requires { ⌜ FeedRoom kept (now line) (now out) ⌝ }
+    ensures { λ r. ⌜ FeedDone (now (input .entry)) (console (take kept (now (line .entry))) (bench (now (first .entry)) (now (second .entry)) turned))
+        (now (out .entry)) r (now (line .exit)) (now (first .exit)) (now (second .exit)) (now (out .exit)) ⌝ }
+{
+    let end = line_length(input);
+    let n = keep(line, kept, &input[..end]);
+    if input.len() <= end {
+        return Fed {
+            used: end,
+            bytes: 0,
+            kept: n,
+            turned: turned,
+        };
+    }
+    let s = step(&line[..n], turned, first, second, out);
+    Fed {
+        used: end + 1,
+        bytes: s.bytes,
+        kept: 0,
+        turned: s.turned,
+    }
+}
+
+// Carries out the line that the input's end leaves without a line feed, if there is one.
+pub fn finish(
+    kept: usize,
+    turned: bool,
+    line: &[u8],
+    first: &mut [u8],
+    second: &mut [u8],
+    out: &mut [u8],
+) -> Stepped
+    requires { ⌜ FeedRoom kept (now line) (now out) ⌝ }
+    ensures { λ r. ⌜ FinishDone (console (take kept (now (line .entry))) (bench (now (first .entry)) (now (second .entry)) turned)) (now (out .entry))
+        r (now (first .exit)) (now (second .exit)) (now (out .exit)) ⌝ }
+{
+    if kept == 0 {
+        return Stepped {
+            bytes: 0,
+            turned: turned,
+        };
+    }
+    step(&line[..kept], turned, first, second, out)
 }

@@ -5,18 +5,19 @@ use lib.ListN.{length}
 use mathlib.Core.Path.{_∙_, sym}
 use native.Mathlib.Omega.{arith}
 use borrow.Author.Tests.{not-false, not-true}
+use Rattle.commands.specs.Program.{isDigit}
 use Rattle.command_lines.proofs.Digits.{Counting, count-end, count-on, count-start, count-stop}
 use Rattle.command_lines.proofs.count_digits.Statement.{statement}
 use Rattle.command_lines.proofs.count_digits.Tie as tie
 
 abbrev Inv-loop : tie.InvT-loop
-Inv-loop s i₀ i = Counting s i
+Inv-loop s i₀ i = Counting isDigit s i
 
 abbrev μ-loop : tie.MeasureT-loop
 μ-loop s i₀ i = length s - i
 
 loop-holds : tie.Need-loop-holds Inv-loop μ-loop
-loop-holds c = count-start _
+loop-holds c = count-start _ _
 
 shared-slice-read-is-digit : tie.Need-shared-slice-read-is-digit Inv-loop μ-loop
 shared-slice-read-is-digit c = omega arith

@@ -4,7 +4,8 @@ use mathlib.Core.Path.{_∙_, _≡_}
 use native.Mathlib.Omega.{arith}
 use borrow.Author.Tests.{not-false, not-true}
 use Rattle.front_coding.proofs.Steps.{to-end}
-use Rattle.command_lines.proofs.Digits.{digits-most}
+use Rattle.commands.specs.Program.{isDigit}
+use Rattle.command_lines.proofs.Digits.{front-most}
 use Rattle.command_lines.proofs.Parsing.{number-large, number-long, number-none, number-stands, number-unspaced}
 use borrow.Author.Needs.{needs}
 use Rattle.command_lines.proofs.number_at_front.Statement.{statement}
@@ -34,12 +35,12 @@ returns-3 c =
 sub-starts-with : tie.Need-sub-starts-with
 sub-starts-with c =
     let d = c .before .before .before .before in
-    omega (arith, d .count-digits .ensures, digits-most (d .before .before .args .s .now))
+    omega (arith, d .count-digits .ensures, front-most isDigit (d .before .before .args .s .now))
 
 part-starts-with-start : tie.Need-part-starts-with-start
 part-starts-with-start c =
     let d = c .before .before .before .before in
-    omega (arith, d .count-digits .ensures, digits-most (d .before .before .args .s .now))
+    omega (arith, d .count-digits .ensures, front-most isDigit (d .before .before .args .s .now))
 
 part-starts-with-end : tie.Need-part-starts-with-end
 part-starts-with-end c = search needs
