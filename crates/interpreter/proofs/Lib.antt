@@ -4,3 +4,4 @@ pub mod Cutting
 pub mod Theorem
 pub mod Stepping
 pub mod Feeding
+pub mod Input

@@ -1,3 +1,3 @@
 pub mod Step
-pub mod Theorem
 pub mod Feed
+pub mod Theorem

@@ -1,5 +1,5 @@
 -- What command lines print on two buffers is what the ledger says of them.
-use Rattle.commands.specs.Program as program
+use Rattle.commands.specs.Program as commands
 use Prim.Native.Nat.{_≤_, ℕ}
 use mathlib.Core.Path.{_≡_}
 use mathlib.Core.Bool.{true}
@@ -10,7 +10,8 @@ use Rattle.book.specs.Answers.{refused}
 use Rattle.book.specs.Book.{bookImage}
 use Rattle.ledger.specs.Ledger.{Edit, ledgerAnswer, scoreFits}
 use Rattle.histories.specs.Run.{Bench, bookOf, startBench}
-use Rattle.commands.specs.Program.{bufferLength, commandOf, heldAfter, outputOf, printed}
+use Rattle.commands.specs.Program.{bufferLength, commandOf, heldAfter, lines, outputOf, printed, program}
+use Rattle.interpreter.specs.Feed.{Console, benchLast, console, consoleAfter, saidFor, saidLast}
 use Rattle.interpreter.specs.Step.{leftBy, shownBy}
 
 -- a list of lines carried out from a bench on: what is printed, and the bench after it
@@ -44,10 +45,22 @@ abbrev pub NeverSeven : Type 0
 NeverSeven = (c : Edit) (es : List Entry) → valid es ≡ true → scoreFits c ≡ true → ledgerAnswer bufferLength c es ≡ refused 7 → ⊥
 
 -- two commands print the same with the entries es held, and leave the same entries
-pub record Alike (es : List Entry) (c d : program.Command) : Type 0 where
+pub record Alike (es : List Entry) (c d : commands.Command) : Type 0 where
   pub shown : printed c es ≡ printed d es
   pub held : heldAfter c es ≡ heldAfter d es
 
 -- a line's bytes past the 64th change nothing
 abbrev pub CutAlike : Type 0
 CutAlike = (line : List ℕ) (n : ℕ) (es : List Entry) → 64 ≤ n → Alike es (commandOf (take n line)) (commandOf line)
+
+-- the console at the start: no line is begun, and "empty" wrote into the first buffer
+abbrev pub startConsole : List ℕ → List ℕ → Console
+startConsole a b = console [] (startBench a b)
+
+-- the program on an input, fed byte by byte, and so in parts of any lengths
+pub record ProgramSays (input : List ℕ) (s : Console) : Type 0 where
+  pub printed : saidFor input s ++ saidLast (consoleAfter input s) ≡ program input
+  pub stands : Stands (heldFor (lines input) []) (benchLast (consoleAfter input s))
+
+abbrev pub InputSays : Type 0
+InputSays = (input a b : List ℕ) → length a ≡ bufferLength → length b ≡ bufferLength → ProgramSays input (startConsole a b)
