@@ -13,7 +13,7 @@ use Rattle.front_coding.specs.Records.{recordOf}
 use Rattle.book.specs.Book.{bookImage, imageIn, offset, offsets, peak, peaks, recordsAt, scores}
 use Rattle.book.specs.Frame.{framed}
 use Rattle.book.specs.Shown.{E, crowd}
-use Rattle.completion.specs.Machine.{machine, offering, openRange, parts}
+use Rattle.completion.specs.Machine.{machine, offering, openRange, others, parts}
 use Rattle.ledger.specs.Ledger.{ledgerAnswer, ledgerStep}
 use Rattle.commands.specs.Program.{commandOf, decimal, lineFeed, printed, program, refusedLine, topLines}
 
@@ -114,5 +114,5 @@ abbrev table : List Row
 table = inputs ++ numbers ++ forms
 
 worked : failing 0 table ≡ []
-unfolding be allowedBytes isPrefix isName completion rangeStart recordOf framed scores peak peaks recordsAt offset offsets imageIn bookImage openRange parts offering machine ledgerAnswer ledgerStep decimal commandOf refusedLine topLines program
+unfolding be allowedBytes isPrefix isName completion rangeStart recordOf framed scores peak peaks recordsAt offset offsets imageIn bookImage openRange others parts offering machine ledgerAnswer ledgerStep decimal commandOf refusedLine topLines program
 worked = refl

@@ -3,41 +3,35 @@ use Prim.Native.Nat.{_*_, _+_, _-_, _≤_, suc, zero, ℕ}
 use mathlib.Core.Path.{_≡_}
 use mathlib.Core.List.{List, [], _++_, _∷_, map}
 use lib.Dec.{ltb}
-use lib.ListN.{drop, getD, length, take}
+use lib.ListN.{drop, getD, length, set, take}
 use Rattle.octets.specs.Lists.{if_then_else_}
 use Rattle.entries.specs.Completion.{completion, matches, rangeStart}
 use Rattle.entries.specs.Entries.{Entry, at, best}
-
--- An open range of positions: its first, the position (top) and score of its best, its last.
-pub record Range : Type 0 where
-  pub first : ℕ
-  pub top : ℕ
-  pub score : ℕ
-  pub last : ℕ
+use Rattle.completion.specs.declared.Range.{Range}
 
 -- the positions from i to before j, if there are any, as an open range: one look each
 unfoldable pub openRange : List Entry → ℕ → ℕ → List Range
 openRange es i j =
     let b = i + best (take (j - i) (drop i es)) in
-    if ltb i j then (record { first = i; top = b; score = at es b .score; last = j - 1 } ∷ []) else []
+    if ltb i j then (record { first = i; best = b; score = at es b .score; last = j - 1 } ∷ []) else []
 
 -- which of the open ranges has the best-ranked position, and that range
 abbrev pub bests : List Entry → List Range → List Entry
-bests es rs = map (λ r. at es (r .top)) rs
+bests es rs = map (λ r. at es (r .best)) rs
 
 abbrev pub noRange : Range
-noRange = record { first = 0; top = 0; score = 0; last = 0 }
+noRange = record { first = 0; best = 0; score = 0; last = 0 }
 
 abbrev pub chosen : List Entry → List Range → Range
 chosen es rs = getD rs (best (bests es rs)) noRange
 
--- the open ranges without the one at index i
-abbrev pub others : ℕ → List Range → List Range
-others i rs = take i rs ++ drop (suc i) rs
+-- the open ranges without the one at index i: the last comes into its place, as their order is of no account
+unfoldable pub others : ℕ → List Range → List Range
+others i rs = take (length rs - 1) (set rs i (getD rs (length rs - 1) noRange))
 
 -- the non-empty parts of a range left and right of its best
 unfoldable pub parts : List Entry → Range → List Range
-parts es r = openRange es (r .first) (r .top) ++ openRange es (suc (r .top)) (suc (r .last))
+parts es r = openRange es (r .first) (r .best) ++ openRange es (suc (r .best)) (suc (r .last))
 
 -- the positions offered, in order, and the looks
 pub record Machine : Type 0 where
@@ -52,9 +46,9 @@ offering i n m = record { offered = i ∷ m .offered; looks = n + m .looks }
 abbrev pub run : ℕ → List Entry → List Range → Machine
 run zero es rs = record { offered = []; looks = 0 }
 run (suc k) es [] = record { offered = []; looks = 0 }
-run (suc zero) es (r ∷ rs) = record { offered = chosen es (r ∷ rs) .top ∷ []; looks = 0 }
+run (suc zero) es (r ∷ rs) = record { offered = chosen es (r ∷ rs) .best ∷ []; looks = 0 }
 run (suc (suc k)) es (r ∷ rs) =
-    offering (chosen es (r ∷ rs) .top) (length (parts es (chosen es (r ∷ rs))))
+    offering (chosen es (r ∷ rs) .best) (length (parts es (chosen es (r ∷ rs))))
     (run (suc k) es (others (best (bests es (r ∷ rs))) (r ∷ rs) ++ parts es (chosen es (r ∷ rs))))
 
 -- The matching positions, if there are any, are the first open range: one look.

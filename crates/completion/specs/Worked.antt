@@ -15,7 +15,7 @@ use Rattle.book.specs.Book.{bookImage, entriesIn, imageIn, offset, offsets, pea
 use Rattle.book.specs.Frame.{countOf, framed, readAs}
 use Rattle.book.specs.Shown.{E, P1, P3, answerEntry, changed, letters, shownOffered, spare}
 use Rattle.completion.specs.Complete.{completeBook}
-use Rattle.completion.specs.Machine.{machine, offering, openRange, parts}
+use Rattle.completion.specs.Machine.{machine, offering, openRange, others, parts}
 
 -- the looks, then the positions offered
 abbrev looksAt : List Entry → List ℕ → ℕ → List ℕ
@@ -98,5 +98,5 @@ abbrev table : List Row
 table = looking ++ completing ++ refusing
 
 worked : failing 0 table ≡ []
-unfolding be fromBe allowedBytes isPrefix isName isScore valid completion rangeStart recordOf recordName recordLength framed countOf readAs scores peak peaks recordsAt offset offsets imageIn entriesIn readIn bookImage readBook writing entryBytes entriesBytes openRange parts offering machine completeBook
+unfolding be fromBe allowedBytes isPrefix isName isScore valid completion rangeStart recordOf recordName recordLength framed countOf readAs scores peak peaks recordsAt offset offsets imageIn entriesIn readIn bookImage readBook writing entryBytes entriesBytes openRange others parts offering machine completeBook
 worked = refl

@@ -7,7 +7,6 @@ ghost use Rattle.label_book.specs.Calls.{writtenOf};
 ghost use Rattle.histories.specs.Code.{Called, Performed, Small};
 ghost use Rattle.histories.specs.Run.{bench, buffers};
 ghost use Rattle.commands.specs.Program.{commandOf, edit, top};
-ghost use Rattle.completion.specs.Complete.{Completed, completeBook};
 ghost use Rattle.command_lines.specs.Printing.{Put};
 ghost use Rattle.interpreter.specs.Feed.{FeedDone, FeedRoom, FinishDone, Kept, console, keptBytes, lineOf};
 ghost use Rattle.interpreter.specs.Step.{EditPrinted, Printable, StepDone, answerLines, editOf, lineRoom, topOf};
@@ -107,19 +106,13 @@ fn print_top(c: completion::Completion, answer: &[u8], out: &mut [u8]) -> usize
     }
 }
 
-fn complete_in(book: &[u8], prefix: &[u8], k: usize, dst: &mut [u8]) -> completion::Completion
-    ensures { λ r. ⌜ Completed (completeBook (now (book .entry)) (now (prefix .entry)) k (now (dst .entry)) k) r (now (dst .exit)) ⌝ }
-{
-    completion::Completion::Refused(1)
-}
-
 // Completes a prefix from the book in a buffer, and prints the answer.
 fn top_from(book: &[u8], prefix: &[u8], k: u32, out: &mut [u8]) -> usize
     requires { ⌜ lineRoom ≤ length (now out) ⌝ }
     ensures { λ r. ⌜ Put (now (out .entry)) 0 (topOf (now (book .entry)) k (now (prefix .entry))) r (now (out .exit)) ⌝ }
 {
     let mut answer = [0u8; 848];
-    let c = complete_in(book, prefix, k as usize, &mut answer);
+    let c = book_complete::complete_in(book, prefix, k as usize, &mut answer);
     print_top(c, &answer, out)
 }
 

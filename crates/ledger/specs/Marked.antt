@@ -18,7 +18,7 @@ use Rattle.book.specs.Frame.{countOf, framed, readAs}
 use Rattle.book.specs.Shown.{E, P1, P2, P3, P4, answerEntry, letters, listed, shownOffered, shownRead, shownWritten, spare}
 use Rattle.edits.specs.Edits.{emptyBook, setEntry, withdraw}
 use Rattle.completion.specs.Complete.{completeBook}
-use Rattle.completion.specs.Machine.{machine, offering, openRange, parts}
+use Rattle.completion.specs.Machine.{machine, offering, openRange, others, parts}
 use Rattle.trie.specs.Calls.{completeTrie, writeTrie}
 use Rattle.trie.specs.Reading.{behindSibling, childSize, labelLength, lastMark, readTrie, scoreSize, siblingOf, trieEntries}
 use Rattle.trie.specs.Trie.{groupBytes, headerByte, nodeBytes, nodeOf, otherBytes, trieImage}
@@ -148,5 +148,5 @@ table = images ++ completions ++ lengths ++ bounds
 
 -- every marked case agrees with the definitions
 pub marked : failing 0 table ≡ []
-unfolding be fromBe allowedBytes isPrefix isName isScore valid completion rangeStart recordOf recordName recordLength framed countOf readAs scores peak peaks recordsAt offset offsets imageIn entriesIn readIn bookImage readBook writing writingImage entryBytes entriesBytes emptyBook setEntry withdraw openRange parts offering machine completeBook headerByte nodeBytes otherBytes groupBytes nodeOf trieImage scoreSize childSize lastMark labelLength siblingOf behindSibling trieEntries readTrie writeTrie completeTrie ledgerAnswer callStep
+unfolding be fromBe allowedBytes isPrefix isName isScore valid completion rangeStart recordOf recordName recordLength framed countOf readAs scores peak peaks recordsAt offset offsets imageIn entriesIn readIn bookImage readBook writing writingImage entryBytes entriesBytes emptyBook setEntry withdraw openRange others parts offering machine completeBook headerByte nodeBytes otherBytes groupBytes nodeOf trieImage scoreSize childSize lastMark labelLength siblingOf behindSibling trieEntries readTrie writeTrie completeTrie ledgerAnswer callStep
 marked = refl

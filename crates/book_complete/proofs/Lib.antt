@@ -1,0 +1,5 @@
+pub mod Ranges
+pub mod Slots
+pub mod Turning
+pub mod Answering
+pub mod Putting
