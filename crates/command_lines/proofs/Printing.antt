@@ -26,6 +26,9 @@ use Rattle.command_lines.specs.Printing.{Laid, Put, Shows, entryLine, of
 use Rattle.command_lines.specs.declared.Numeral.{Numeral}
 use Rattle.command_lines.proofs.Decimal.{decimal-most}
 
+pub put-size : {out : List ℕ} {at : ℕ} {xs : List ℕ} {end : ℕ} {left : List ℕ} → Put out at xs end left → length left ≡ length out
+put-size {out} {at} {xs} p = rw (p .stored) (length-sets out at xs)
+
 pub put-append :
     {out : List ℕ} {at : ℕ} {xs ys : List ℕ} {m : ℕ} {mid : List ℕ} {end : ℕ} {left : List ℕ} → Put out at xs m mid → Put mid m ys end left
     → Put out at (xs ++ ys) end left
@@ -33,27 +36,27 @@ put-append {out} {at} {xs} {ys} p q =
     record {
       stored = q .stored ∙ rw (p .stored, p .ends) (sets-append out xs ys at);
       ends = omega (arith, p .ends, q .ends, length-append xs ys);
+      inside = omega (arith, q .inside, put-size p);
     }
 
-pub put-byte : (out : List ℕ) (at b : ℕ) → Put out at (b ∷ []) (at + 1) (set out at b)
-put-byte out at b = record { stored = refl; ends = refl }
+pub put-byte : (out : List ℕ) (at b : ℕ) → at < length out → Put out at (b ∷ []) (at + 1) (set out at b)
+put-byte out at b h = record { stored = refl; ends = refl; inside = omega arith }
 
-pub put-part : (out : List ℕ) (at : ℕ) (xs : List ℕ) {left : List ℕ} → left ≡ sets out at xs → Put out at xs (at + length xs) left
-put-part out at xs e = record { stored = e; ends = refl }
-
-pub put-size : {out : List ℕ} {at : ℕ} {xs : List ℕ} {end : ℕ} {left : List ℕ} → Put out at xs end left → length left ≡ length out
-put-size {out} {at} {xs} p = rw (p .stored) (length-sets out at xs)
+pub put-part :
+    (out : List ℕ) (at : ℕ) (xs : List ℕ) {left : List ℕ} → at + length xs ≤ length out → left ≡ sets out at xs → Put out at xs (at + length xs) left
+put-part out at xs h e = record { stored = e; ends = refl; inside = h }
 
 -- a number's digits, copied
 pub put-digits :
-    (out : List ℕ) (at : ℕ) {v : ℕ} {n : Numeral} {left : List ℕ} → Shows v n
+    (out : List ℕ) (at : ℕ) {v : ℕ} {n : Numeral} {left : List ℕ} → at + 10 ≤ length out → Shows v n
     → left ≡ sets out at (take (10 - n .from) (drop (n .from) (n .bytes))) → Put out at (decimal v) (at + (10 - n .from)) left
-put-digits out at {v} {n} s e =
+put-digits out at {v} {n} h s e =
     let l = ap length (s .digits) in
     let z = take-all (10 - n .from) (drop (n .from) (n .bytes)) (omega (arith, length-drop (n .from) (n .bytes), s .ten)) in
     record {
       stored = e ∙ ap (sets out at) (z ∙ s .digits);
       ends = omega (arith, length-drop (n .from) (n .bytes), s .ten);
+      inside = omega arith;
     }
 
 -- how long an entry's line is
@@ -123,7 +126,7 @@ module _
     pub offer-end : n ≤ i → Put out₀ 0 (offeredLines es) end out
     offer-end h =
         let z = drop-of-length-le es {i = i} (omega (arith, length-entries n answer)) in
-        record { stored = rw z at (k .left); ends = omega (arith, ap (λ x. length (offeredLines x)) z, k .ends) }
+        record { stored = rw z at (k .left); ends = omega (arith, ap (λ x. length (offeredLines x)) z, k .ends); inside = omega (arith, k .room, k .size) }
 
 -- the lines of allowed entries are short
 pub lines-most : (l : List Entry) → all isEntry l ≡ true → length (offeredLines l) ≤ 60 * length l

@@ -15,10 +15,11 @@ use Rattle.sheet.specs.Sheet.{sheetFrom}
 use Rattle.commands.specs.Program.{decimal, lineFeed}
 use Rattle.command_lines.specs.declared.Numeral.{Numeral}
 
--- bytes stored in `out` from index `at` on; `end` is behind them
+-- bytes stored in `out`, which has room for them, from index `at` on; `end` is behind them
 pub record Put (out : List ℕ) (at : ℕ) (bytes : List ℕ) (end : ℕ) (left : List ℕ) : Type 0 where
   pub stored : left ≡ sets out at bytes
   pub ends : end ≡ at + length bytes
+  pub inside : end ≤ length out
 
 -- the digits of a number, at the end of ten bytes
 pub record Shows (v : ℕ) (n : Numeral) : Type 0 where

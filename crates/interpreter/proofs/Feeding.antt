@@ -127,7 +127,7 @@ module _ (input : List ℕ) {end : ℕ} (e : end ≡ length (lineOf input)) wher
         state =
             rw (q, g)
             (sym (rw part (begun (lineOf input) l b (front-all inLine input) f)));
-        printed = rw (part, quiet (lineOf input) l b (front-all inLine input)) (record { stored = refl; ends = refl });
+        printed = rw (part, quiet (lineOf input) l b (front-all inLine input)) (record { stored = refl; ends = refl; inside = omega arith });
       }
 
   -- it ends the line, which is carried out
@@ -170,7 +170,7 @@ module _ (input : List ℕ) {end : ℕ} (e : end ≡ length (lineOf input)) wher
 module _ (line : List ℕ) (b : Bench) {kept : ℕ} {out : List ℕ} where
   pub finish-none :
       {t : Bool} {one two : List ℕ} → kept ≡ 0 → bench one two t ≡ b → FinishDone (console (take kept line) b) out (record { bytes = 0; turned = t }) one two out
-  finish-none z g = rw z (record { bench = g; printed = record { stored = refl; ends = refl } })
+  finish-none z g = rw z (record { bench = g; printed = record { stored = refl; ends = refl; inside = omega arith } })
 
   pub finish-line :
       {r : Stepped} {one two left : List ℕ} → (kept ≡ 0 → ⊥) → kept ≤ length line → StepDone (commandOf (take kept line)) b out r one two left

@@ -41,8 +41,11 @@ returns : tie.Need-returns
 returns c =
     let d = c .before .before in
     let k = d .before .before .before .before in
-    let a = k .before .before .before .before .args in
-    put-append (put-append (put-part (a .out .now) (a .at) (a .word .now) (k .copy .ensures)) (d .put-decimal .ensures)) (put-byte _ _ _)
+    let s = k .before .before .before .before in
+    let a = s .args in
+    put-append
+    (put-append (put-part (a .out .now) (a .at) (a .word .now) (omega (arith, s .pre)) (k .copy .ensures)) (d .put-decimal .ensures))
+    (put-byte _ _ _ (slice-write-out c))
 
 pub put-counted-spec : {M : Type 1} → statement M
 put-counted-spec =

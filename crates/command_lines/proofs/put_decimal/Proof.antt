@@ -34,7 +34,7 @@ returns c =
     let k = c .before .before in
     let d = k .before .before .before .before .before in
     let a = d .before .before .args in
-    put-digits (a .out .now) (a .at) (d .digits-of .ensures) (k .copy .ensures)
+    put-digits (a .out .now) (a .at) (d .before .before .pre) (d .digits-of .ensures) (k .copy .ensures)
 
 pub put-decimal-spec : {M : Type 1} → statement M
 put-decimal-spec =

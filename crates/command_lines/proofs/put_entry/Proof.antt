@@ -70,10 +70,20 @@ returns : tie.Need-returns
 returns c =
     let k = c .before .before in
     let d = k .before .before .before .before in
+    let s = d .before .before .before .before in
     put-append
-    (put-append (put-append (d .put-decimal .ensures) (put-byte _ _ _))
-    (put-part _ _ (d .before .before .before .before .args .name .now) (k .copy .ensures)))
-    (put-byte _ _ _)
+    (put-append (put-append (d .put-decimal .ensures) (put-byte _ _ _ (slice-write-out (k .before .before))))
+    (put-part _ _ (s .args .name .now)
+    (omega (
+      arith,
+      d .put-decimal .ensures .ends,
+      decimal-most (s .args .score),
+      s .pre,
+      length-set (d .put-decimal .last .0) (d .put-decimal .result) 32,
+      d .put-decimal .kept .0,
+    ))
+    (k .copy .ensures)))
+    (put-byte _ _ _ (slice-write-out-2 c))
 
 pub put-entry-spec : {M : Type 1} → statement M
 put-entry-spec =
