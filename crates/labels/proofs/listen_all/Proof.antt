@@ -1,83 +1,73 @@
-use borrow.Author.Needs.{needs}
+-- `labels::listen_all` is safe, ends, and keeps at most 64 bytes of a line. The loop's invariant: the buffers keep their lengths, and there is
+-- room for a line. The measure is how many reads are left. Assumes nothing.
+use mathlib.Core.Path.{_∙_, _≡_, refl}
+use lib.ListN.{length}
+use native.Mathlib.Omega.{arith}
+use Rattle.labels.proofs.Talking.{Ready, ready-on, ready-start}
 use Rattle.labels.proofs.listen_all.Statement.{statement}
 use Rattle.labels.proofs.listen_all.Tie as tie
-use Rattle.labels.proofs.listen_all.Reads as reads
-use Rattle.labels.proofs.listen_all.Lts as lts
-use Rattle.labels.proofs.listen.Reads as listen-reads
 
 abbrev Inv-loop : tie.InvT-loop
-Inv-loop input₀ line₀ first₀ second₀ out₀ reads₀ s₀ input line first second out reads s = ?
+Inv-loop input₀ line₀ first₀ second₀ out₀ reads₀ s₀ input line first second out reads s = (length input ≡ length input₀) × Ready line₀ first₀ second₀ out₀ line first second out (s .kept)
 
 abbrev μ-loop : tie.MeasureT-loop
-μ-loop input₀ line₀ first₀ second₀ out₀ reads₀ s₀ input line first second out reads s = ?
+μ-loop input₀ line₀ first₀ second₀ out₀ reads₀ s₀ input line first second out reads s = reads
 
--- src/main.rt:85:5
 loop-holds : tie.Need-loop-holds Inv-loop μ-loop
-loop-holds c = search needs
+loop-holds c =
+    let s = c .before .before .before .before .before in (refl, ready-start (s .args .first .now) (s .args .second .now) (s .pre))
 
--- src/main.rt:86:9
 listen-requires : tie.Need-listen-requires Inv-loop μ-loop
-listen-requires c κs = search needs
+listen-requires c κs = c .before .before .before .before .before .before .before .loop .inv .1 .room
 
--- src/main.rt:87:9
 sub-reads : tie.Need-sub-reads Inv-loop μ-loop
-sub-reads c = search needs
+sub-reads c = let i = c .before .before .before .before .before .before .before .before .before .before .before .before .before .before .before .before .before in omega (arith, i .loop-test .taken)
 
--- src/main.rt:85:5
 loop-less : tie.Need-loop-less Inv-loop μ-loop
-loop-less c = search needs
+loop-less c = let i = c .before .before .before .before .before .before .before .before .before .before .before .before .before .before .before .before .before in omega (arith, i .loop-test .taken)
 
--- src/main.rt:85:5
 loop-again : tie.Need-loop-again Inv-loop μ-loop
-loop-again c = search needs
+loop-again c =
+    let r = c .before .before .before .before .before .before .before .before .before .before in
+    let l = r .before .before .before .before .before .before .before .before in
+    let k = r .listen .kept in
+    (k .0 ∙ l .loop .inv .0, ready-on (l .loop .inv .1) (r .listen .ensures) (k .1 .1 .0) (k .1 .1 .1 .0) (k .1 .1 .1 .1 .0) (k .1 .1 .1 .1 .1 .0))
 
--- src/main.rt:69:1
 same-length : tie.Need-same-length Inv-loop μ-loop
-same-length c = search needs
+same-length c = c .before .before .loop .inv .0
 
--- src/main.rt:69:1
 same-length-2 : tie.Need-same-length-2 Inv-loop μ-loop
-same-length-2 c = search needs
+same-length-2 c = c .before .before .loop .inv .1 .lineSize
 
--- src/main.rt:69:1
 same-length-3 : tie.Need-same-length-3 Inv-loop μ-loop
-same-length-3 c = search needs
+same-length-3 c = c .before .before .loop .inv .1 .firstSize
 
--- src/main.rt:69:1
 same-length-4 : tie.Need-same-length-4 Inv-loop μ-loop
-same-length-4 c = search needs
+same-length-4 c = c .before .before .loop .inv .1 .secondSize
 
--- src/main.rt:69:1
 same-length-5 : tie.Need-same-length-5 Inv-loop μ-loop
-same-length-5 c = search needs
+same-length-5 c = c .before .before .loop .inv .1 .outSize
 
--- src/main.rt:69:1
 returns : tie.Need-returns Inv-loop μ-loop
-returns c = search needs
+returns c = c .before .before .loop .inv .1 .room .few
 
--- src/main.rt:69:1
 same-length-6 : tie.Need-same-length-6 Inv-loop μ-loop
-same-length-6 c = search needs
+same-length-6 c = c .before .loop .inv .0
 
--- src/main.rt:69:1
 same-length-7 : tie.Need-same-length-7 Inv-loop μ-loop
-same-length-7 c = search needs
+same-length-7 c = c .before .loop .inv .1 .lineSize
 
--- src/main.rt:69:1
 same-length-8 : tie.Need-same-length-8 Inv-loop μ-loop
-same-length-8 c = search needs
+same-length-8 c = c .before .loop .inv .1 .firstSize
 
--- src/main.rt:69:1
 same-length-9 : tie.Need-same-length-9 Inv-loop μ-loop
-same-length-9 c = search needs
+same-length-9 c = c .before .loop .inv .1 .secondSize
 
--- src/main.rt:69:1
 same-length-10 : tie.Need-same-length-10 Inv-loop μ-loop
-same-length-10 c = search needs
+same-length-10 c = c .before .loop .inv .1 .outSize
 
--- src/main.rt:69:1
 returns-2 : tie.Need-returns-2 Inv-loop μ-loop
-returns-2 c = search needs
+returns-2 c = c .before .loop .inv .1 .room .few
 
 pub listen-all-spec : {M : Type 1} → statement M
 listen-all-spec =
