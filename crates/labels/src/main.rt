@@ -94,7 +94,7 @@ fn main() {
     let mut second = [0u8; 57344];
     let mut line = [0u8; 64];
     let mut input = [0u8; 65536];
-    let mut out = [0u8; 65536];
+    let mut out = [0u8; 1024];
     label_book::empty(&mut first);
     let s = listen_all(&mut input, &mut line, &mut first, &mut second, &mut out);
     let f = interpreter::finish(s.kept, s.turned, &line, &mut first, &mut second, &mut out);
