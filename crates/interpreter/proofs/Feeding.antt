@@ -18,6 +18,7 @@ use Rattle.command_lines.specs.Printing.{Put}
 use Rattle.command_lines.proofs.Digits.{front-most}
 use Rattle.interpreter.specs.Feed.{Console, FeedDone, FinishDone, Kept, console, consoleAfter, fedBy, inLine, keptBytes, lineOf, saidAt, saidFor}
 use Rattle.interpreter.specs.Step.{StepDone, leftBy, shownBy}
+use Rattle.interpreter.specs.Theorem.{InParts}
 use Rattle.interpreter.specs.declared.Fed.{Fed}
 use Rattle.interpreter.specs.declared.Stepped.{Stepped}
 
@@ -82,13 +83,16 @@ begun (x ∷ xs) l b h f =
     rw t (ih ∙ ap (λ y. console y b) e)
 
 -- two parts, one behind the other
-pub after-append : (xs ys : List ℕ) (s : Console) → consoleAfter (xs ++ ys) s ≡ consoleAfter ys (consoleAfter xs s)
+after-append : (xs ys : List ℕ) (s : Console) → consoleAfter (xs ++ ys) s ≡ consoleAfter ys (consoleAfter xs s)
 after-append [] ys s = refl
 after-append (x ∷ xs) ys s = after-append xs ys (fedBy x s)
 
-pub said-append : (xs ys : List ℕ) (s : Console) → saidFor (xs ++ ys) s ≡ saidFor xs s ++ saidFor ys (consoleAfter xs s)
+said-append : (xs ys : List ℕ) (s : Console) → saidFor (xs ++ ys) s ≡ saidFor xs s ++ saidFor ys (consoleAfter xs s)
 said-append [] ys s = refl
 said-append (x ∷ xs) ys s = ap (λ l. saidAt x s ++ l) (said-append xs ys (fedBy x s)) ∙ sym (append-assoc (saidAt x s) (saidFor xs (fedBy x s)) (saidFor ys (consoleAfter xs (fedBy x s))))
+
+pub in-parts : InParts
+in-parts xs ys s = (after-append xs ys s, said-append xs ys s)
 
 -- the bytes in front of the first line feed, and that line feed
 front-all : (p : ℕ → Bool) (s : List ℕ) → all p (front p s) ≡ true

@@ -53,11 +53,17 @@ pub record Alike (es : List Entry) (c d : commands.Command) : Type 0 where
 abbrev pub CutAlike : Type 0
 CutAlike = (line : List ℕ) (n : ℕ) (es : List Entry) → 64 ≤ n → Alike es (commandOf (take n line)) (commandOf line)
 
+-- input fed in two parts is as fed at once, so it may be cut anywhere
+abbrev pub InParts : Type 0
+InParts =
+    (xs ys : List ℕ) (s : Console)
+    → (consoleAfter (xs ++ ys) s ≡ consoleAfter ys (consoleAfter xs s)) × (saidFor (xs ++ ys) s ≡ saidFor xs s ++ saidFor ys (consoleAfter xs s))
+
 -- the console at the start: no line is begun, and "empty" wrote into the first buffer
 abbrev pub startConsole : List ℕ → List ℕ → Console
 startConsole a b = console [] (startBench a b)
 
--- the program on an input, fed byte by byte, and so in parts of any lengths
+-- the program on an input
 pub record ProgramSays (input : List ℕ) (s : Console) : Type 0 where
   pub printed : saidFor input s ++ saidLast (consoleAfter input s) ≡ program input
   pub stands : Stands (heldFor (lines input) []) (benchLast (consoleAfter input s))

@@ -12,7 +12,7 @@ struct State {
 }
 
 // Feeds a part of the input, and writes what it prints.
-fn talk(
+fn answer_part(
     part: &[u8],
     s: State,
     line: &mut [u8],
@@ -42,7 +42,7 @@ fn talk(
 }
 
 // Reads once, and answers what was read.
-fn listen(
+fn read_part(
     input: &mut [u8],
     s: State,
     line: &mut [u8],
@@ -62,11 +62,11 @@ fn listen(
             open: false,
         };
     }
-    talk(&input[..n], s, line, first, second, out)
+    answer_part(&input[..n], s, line, first, second, out)
 }
 
 // Reads to the end of the input. A proved loop has to end, so it counts its reads down from a number that no run uses up.
-fn listen_all(
+fn read_all(
     input: &mut [u8],
     line: &mut [u8],
     first: &mut [u8],
@@ -83,7 +83,7 @@ fn listen_all(
         open: true,
     };
     while reads > 0 && s.open {
-        s = listen(input, s, line, first, second, out);
+        s = read_part(input, s, line, first, second, out);
         reads -= 1;
     }
     s
@@ -96,7 +96,7 @@ fn main() {
     let mut input = [0u8; 65536];
     let mut out = [0u8; 1024];
     label_book::empty(&mut first);
-    let s = listen_all(&mut input, &mut line, &mut first, &mut second, &mut out);
+    let s = read_all(&mut input, &mut line, &mut first, &mut second, &mut out);
     let f = interpreter::finish(s.kept, s.turned, &line, &mut first, &mut second, &mut out);
     let n = f.bytes;
     io::write_all(1, &out[..n]);

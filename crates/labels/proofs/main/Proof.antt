@@ -12,23 +12,23 @@ slice-aggregate-empty c = search needs
 empty-requires : tie.Need-empty-requires
 empty-requires c κs = search needs
 
-slice-aggregate-listen-all : tie.Need-slice-aggregate-listen-all
-slice-aggregate-listen-all c = search needs
+slice-aggregate-read-all : tie.Need-slice-aggregate-read-all
+slice-aggregate-read-all c = search needs
 
-slice-aggregate-listen-all-2 : tie.Need-slice-aggregate-listen-all-2
-slice-aggregate-listen-all-2 c = search needs
+slice-aggregate-read-all-2 : tie.Need-slice-aggregate-read-all-2
+slice-aggregate-read-all-2 c = search needs
 
-slice-aggregate-listen-all-3 : tie.Need-slice-aggregate-listen-all-3
-slice-aggregate-listen-all-3 c = search needs
+slice-aggregate-read-all-3 : tie.Need-slice-aggregate-read-all-3
+slice-aggregate-read-all-3 c = search needs
 
-slice-aggregate-listen-all-4 : tie.Need-slice-aggregate-listen-all-4
-slice-aggregate-listen-all-4 c = search needs
+slice-aggregate-read-all-4 : tie.Need-slice-aggregate-read-all-4
+slice-aggregate-read-all-4 c = search needs
 
-slice-aggregate-listen-all-5 : tie.Need-slice-aggregate-listen-all-5
-slice-aggregate-listen-all-5 c = search needs
+slice-aggregate-read-all-5 : tie.Need-slice-aggregate-read-all-5
+slice-aggregate-read-all-5 c = search needs
 
-listen-all-requires : tie.Need-listen-all-requires
-listen-all-requires c κs = search needs
+read-all-requires : tie.Need-read-all-requires
+read-all-requires c κs = search needs
 
 slice-aggregate-finish : tie.Need-slice-aggregate-finish
 slice-aggregate-finish c = search needs
@@ -67,12 +67,12 @@ main-spec =
     (tie.spec
     slice-aggregate-empty
     empty-requires
-    slice-aggregate-listen-all
-    slice-aggregate-listen-all-2
-    slice-aggregate-listen-all-3
-    slice-aggregate-listen-all-4
-    slice-aggregate-listen-all-5
-    listen-all-requires
+    slice-aggregate-read-all
+    slice-aggregate-read-all-2
+    slice-aggregate-read-all-3
+    slice-aggregate-read-all-4
+    slice-aggregate-read-all-5
+    read-all-requires
     slice-aggregate-finish
     slice-aggregate-finish-2
     slice-aggregate-finish-3

@@ -1,11 +1,11 @@
--- `labels::listen_all` is safe, ends, and keeps at most 64 bytes of a line. The loop's invariant: the buffers keep their lengths, and there is
+-- `labels::read_all` is safe, ends, and keeps at most 64 bytes of a line. The loop's invariant: the buffers keep their lengths, and there is
 -- room for a line. The measure is how many reads are left. Assumes nothing.
 use mathlib.Core.Path.{_∙_, _≡_, refl}
 use lib.ListN.{length}
 use native.Mathlib.Omega.{arith}
-use Rattle.labels.proofs.Talking.{Ready, ready-on, ready-start}
-use Rattle.labels.proofs.listen_all.Statement.{statement}
-use Rattle.labels.proofs.listen_all.Tie as tie
+use Rattle.labels.proofs.Lending.{Ready, ready-on, ready-start}
+use Rattle.labels.proofs.read_all.Statement.{statement}
+use Rattle.labels.proofs.read_all.Tie as tie
 
 abbrev Inv-loop : tie.InvT-loop
 Inv-loop input₀ line₀ first₀ second₀ out₀ reads₀ s₀ input line first second out reads s = (length input ≡ length input₀) × Ready line₀ first₀ second₀ out₀ line first second out (s .kept)
@@ -17,8 +17,8 @@ loop-holds : tie.Need-loop-holds Inv-loop μ-loop
 loop-holds c =
     let s = c .before .before .before .before .before in (refl, ready-start (s .args .first .now) (s .args .second .now) (s .pre))
 
-listen-requires : tie.Need-listen-requires Inv-loop μ-loop
-listen-requires c κs = c .before .before .before .before .before .before .before .loop .inv .1 .room
+read-part-requires : tie.Need-read-part-requires Inv-loop μ-loop
+read-part-requires c κs = c .before .before .before .before .before .before .before .loop .inv .1 .room
 
 sub-reads : tie.Need-sub-reads Inv-loop μ-loop
 sub-reads c = let i = c .before .before .before .before .before .before .before .before .before .before .before .before .before .before .before .before .before in omega (arith, i .loop-test .taken)
@@ -30,8 +30,8 @@ loop-again : tie.Need-loop-again Inv-loop μ-loop
 loop-again c =
     let r = c .before .before .before .before .before .before .before .before .before .before in
     let l = r .before .before .before .before .before .before .before .before in
-    let k = r .listen .kept in
-    (k .0 ∙ l .loop .inv .0, ready-on (l .loop .inv .1) (r .listen .ensures) (k .1 .1 .0) (k .1 .1 .1 .0) (k .1 .1 .1 .1 .0) (k .1 .1 .1 .1 .1 .0))
+    let k = r .read-part .kept in
+    (k .0 ∙ l .loop .inv .0, ready-on (l .loop .inv .1) (r .read-part .ensures) (k .1 .1 .0) (k .1 .1 .1 .0) (k .1 .1 .1 .1 .0) (k .1 .1 .1 .1 .1 .0))
 
 same-length : tie.Need-same-length Inv-loop μ-loop
 same-length c = c .before .before .loop .inv .0
@@ -69,14 +69,14 @@ same-length-10 c = c .before .loop .inv .1 .outSize
 returns-2 : tie.Need-returns-2 Inv-loop μ-loop
 returns-2 c = c .before .loop .inv .1 .room .few
 
-pub listen-all-spec : {M : Type 1} → statement M
-listen-all-spec =
+pub read-all-spec : {M : Type 1} → statement M
+read-all-spec =
     tie.close
     (tie.spec
     Inv-loop
     μ-loop
     loop-holds
-    listen-requires
+    read-part-requires
     sub-reads
     loop-less
     loop-again

@@ -1,4 +1,4 @@
--- `labels::talk` is safe, ends, and keeps at most 64 bytes of a line. The loop's invariant: the buffers keep their lengths, and there is
+-- `labels::answer_part` is safe, ends, and keeps at most 64 bytes of a line. The loop's invariant: the buffers keep their lengths, and there is
 -- room for a line. The measure is what is left of the part. Assumes nothing.
 use Prim.Native.Nat.{_+_, _-_, _≤_}
 use mathlib.Core.Path.{sym}
@@ -8,9 +8,9 @@ use native.Mathlib.Omega.{arith}
 use Rattle.front_coding.proofs.Steps.{to-end}
 use Rattle.histories.specs.Run.{bench}
 use Rattle.interpreter.specs.Feed.{FeedDone, console}
-use Rattle.labels.proofs.Talking.{Ready, fed-within, ready-on, ready-start}
-use Rattle.labels.proofs.talk.Statement.{statement}
-use Rattle.labels.proofs.talk.Tie as tie
+use Rattle.labels.proofs.Lending.{Ready, fed-within, ready-on, ready-start}
+use Rattle.labels.proofs.answer_part.Statement.{statement}
+use Rattle.labels.proofs.answer_part.Tie as tie
 
 abbrev Inv-loop : tie.InvT-loop
 Inv-loop part line₀ first₀ second₀ out₀ used₀ kept₀ turned₀ line first second out used kept turned =
@@ -110,8 +110,8 @@ same-length-4 c = c .before .loop .inv .1 .outSize
 returns : tie.Need-returns Inv-loop μ-loop
 returns c = c .before .loop .inv .1 .room .few
 
-pub talk-spec : {M : Type 1} → statement M
-talk-spec =
+pub answer-part-spec : {M : Type 1} → statement M
+answer-part-spec =
     tie.close
     (tie.spec
     Inv-loop
