@@ -11,7 +11,6 @@ use borrow.Author.Tests.{le-ltb, lt-ltb, ltb-false, ltb-true}
 use Rattle.octets.proofs.Tests.{by-test}
 use Rattle.commands.specs.Program.{decimal, decimalTo}
 use Rattle.command_lines.specs.Printing.{Shows}
-use Rattle.command_lines.specs.declared.Numeral.{Numeral}
 
 decimal-one : (d v : ℕ) → v < 10 → decimalTo (suc d) v ≡ (48 + v) ∷ []
 decimal-one d v h = rw (lt-ltb v 10 h, decimalTo)

@@ -1,22 +1,18 @@
 -- The tests of a command line, in the order in which the functions make them.
-use Rattle.commands.specs.Program as program
-use Prim.Native.Char.{code}
 use Prim.Native.Nat.{_+_, _<_, _≤_, suc, ℕ}
 use mathlib.Core.Path.{_∙_, _≡_, ap, refl, sym}
 use mathlib.Core.Bool.{Bool, _&&_, false, true}
-use mathlib.Core.List.{List, [], _∷_}
+use mathlib.Core.List.{List}
 use lib.Dec.{leb, ltb}
 use lib.ListN.{drop, length, length-drop}
 use lib.Seq.{drop-drop}
 use native.Mathlib.Omega.{arith}
-use borrow.Author.Tests.{le-leb, le-ltb, lt-leb, lt-ltb, leb-true}
-use Rattle.octets.specs.Lists.{if_then_else_}
+use borrow.Author.Tests.{le-leb, le-ltb, lt-leb, lt-ltb}
 use Rattle.octets.specs.Octets.{begins}
 use Rattle.octets.specs.Text.{text}
 use Rattle.octets.proofs.Order.{begins-length}
 use Rattle.octets.proofs.Tests.{and-true, by-test}
-use Rattle.ledger.specs.Ledger.{setName, withdrawName}
-use Rattle.commands.specs.Program.{bad, commandOf, digits, edit, hasNumber, numbered, top, valueOn}
+use Rattle.commands.specs.Program.{commandOf, digits, hasNumber, numbered, top, valueOn}
 use Rattle.command_lines.specs.Parsing.{Asks, makeOf, numberAs}
 use Rattle.command_lines.specs.declared.Number.the-variants as number
 use Rattle.command_lines.specs.declared.Command.{Command}

@@ -1,6 +1,5 @@
 -- Bytes stored one part behind the other; the lines of the entries of an answer, one by one.
 use Rattle.entries.specs.Entries as entries
-use Prim.Native.Char.{code}
 use Prim.Native.Nat.{_*_, _+_, _-_, _<_, _≤_, suc, zero, ℕ}
 use mathlib.Core.Path.{_∙_, _≡_, ap, refl, sym}
 use mathlib.Core.Bool.{true}

@@ -1,9 +1,8 @@
 -- A completion's answer as printed lines: those of `top` on the book.
-use Prim.Native.Char.{code}
 use Prim.Native.Nat.{_*_, _≤_, ℕ}
-use mathlib.Core.Path.{_∙_, _≡_, ap, refl, sym}
-use mathlib.Core.Bool.{Bool, _||_, false, not, true}
-use mathlib.Core.List.{List, [], _++_, _∷_}
+use mathlib.Core.Path.{_≡_, ap, refl}
+use mathlib.Core.Bool.{Bool, _||_, false, true}
+use mathlib.Core.List.{List, _++_}
 use lib.Dec.{eqb, ltb}
 use lib.ListN.{drop, getD, length}
 use native.Mathlib.Omega.{arith}

@@ -1,23 +1,21 @@
 -- A command line's bytes past the 64th: they can change neither what is printed nor the entries held.
 use Rattle.commands.specs.Program as program
-use Prim.Native.Char.{code}
-use Prim.Native.Nat.{_+_, _-_, _<_, _≤_, suc, zero, ℕ}
+use Prim.Native.Nat.{_-_, _<_, _≤_, suc, zero, ℕ}
 use mathlib.Core.Path.{_∙_, _≡_, ap, refl, sym}
-use mathlib.Core.Bool.{Bool, _&&_, false, true}
+use mathlib.Core.Bool.{Bool, false, true}
 use mathlib.Core.List.{List, [], _∷_}
-use lib.Dec.{leb, ltb}
+use lib.Dec.{leb}
 use lib.ListN.{drop, length, length-take, take}
 use lib.Seq.{take-all, take-nil}
 use native.Mathlib.Omega.{arith}
 use borrow.Author.Tests.{le-leb, leb-false, leb-true, lt-leb}
-use Rattle.octets.specs.Lists.{if_then_else_}
 use Rattle.octets.specs.Octets.{begins}
 use Rattle.octets.specs.Text.{text}
-use Rattle.octets.proofs.Tests.{and-false, by-test}
+use Rattle.octets.proofs.Tests.{by-test}
 use Rattle.entries.specs.Entries.{Entry}
-use Rattle.entries.specs.Names.{allowedBytes, isName, isPrefix}
+use Rattle.entries.specs.Names.{isName, isPrefix}
 use Rattle.ledger.specs.Ledger.{ledgerAnswer, ledgerStep, setName, withdrawName}
-use Rattle.commands.specs.Program.{bad, bufferLength, commandOf, digits, edit, hasNumber, heldAfter, isDigit, numbered, printed, top, valueOn}
+use Rattle.commands.specs.Program.{commandOf, digits, edit, hasNumber, heldAfter, isDigit, numbered, printed, top, valueOn}
 use Rattle.interpreter.specs.Theorem.{Alike, CutAlike}
 
 drop-take : (i m : ℕ) (s : List ℕ) → i ≤ m → drop i (take m s) ≡ take (m - i) (drop i s)

@@ -1,15 +1,13 @@
 -- An edit on the bench, and its answer printed.
-use Prim.Native.Char.{code}
 use Prim.Native.Nat.{_<_, ℕ}
 use mathlib.Core.Path.{_≡_, refl, sym}
 use mathlib.Core.Bool.{Bool, false, not, true}
 use mathlib.Core.List.{List, _++_}
 use Rattle.octets.specs.Text.{text}
-use Rattle.book.specs.Answers.{onAnswer}
 use Rattle.edits.specs.Edits.{setEntry, withdraw}
 use Rattle.ledger.specs.Ledger.{Edit}
 use Rattle.label_book.specs.Calls.{Answered, writtenOf}
-use Rattle.histories.specs.Code.{Called, Performed, Small}
+use Rattle.histories.specs.Code.{Called, Performed}
 use Rattle.histories.specs.Run.{Bench, buffers}
 use Rattle.histories.proofs.Calling.{score-fits, set-small, withdraw-small}
 use Rattle.histories.proofs.Playing.{performed-bench}

@@ -1,25 +1,23 @@
 -- Input fed in parts: up to a line feed, or without one.
 use Prim.Native.Nat.{_+_, _-_, _<_, _≤_, min, suc, zero, ℕ}
 use mathlib.Core.Path.{_∙_, _≡_, ap, refl, sym}
-use mathlib.Core.Bool.{Bool, false, not, true}
+use mathlib.Core.Bool.{Bool, false, true}
 use mathlib.Core.List.{List, [], _++_, _∷_, append-assoc, append-nil}
 use lib.Dec.{eqb, leb}
-use lib.ListN.{drop, drop-of-length-le, getD, length, length-append, length-take, take}
-use lib.Seq.{length-sets, length-take-le, sets, sets-eq, take-add, take-all, take-append-add, take-at, take-length, take-suc, take-take}
+use lib.ListN.{getD, length, length-append, length-take, take}
+use lib.Seq.{length-take-le, sets, take-all, take-append-add, take-suc}
 use native.Mathlib.Numerals.{add-one}
 use native.Mathlib.Omega.{arith}
 use borrow.Author.Tests.{eq-eqb, eqb-true, leb-false, leb-true, ne-eqb, not-false, not-true}
-use Rattle.octets.specs.Lists.{all, if_then_else_}
+use Rattle.octets.specs.Lists.{all}
 use Rattle.octets.proofs.Tests.{and-true, by-test}
 use Rattle.front_coding.proofs.Steps.{take-sets}
 use Rattle.histories.specs.Run.{Bench, bench}
 use Rattle.commands.specs.Program.{commandOf, front}
-use Rattle.command_lines.specs.Printing.{Put}
 use Rattle.command_lines.proofs.Digits.{front-most}
 use Rattle.interpreter.specs.Feed.{Console, FeedDone, FinishDone, Kept, console, consoleAfter, fedBy, inLine, keptBytes, lineOf, saidAt, saidFor}
 use Rattle.interpreter.specs.Step.{StepDone, leftBy, shownBy}
 use Rattle.interpreter.specs.Theorem.{InParts}
-use Rattle.interpreter.specs.declared.Fed.{Fed}
 use Rattle.interpreter.specs.declared.Stepped.{Stepped}
 
 pub feed-byte : (x : ℕ) → x ≡ 10 → inLine x ≡ false

@@ -1,7 +1,7 @@
 -- The program on a whole input, byte by byte: the lines of the input, and the one begun.
-use Prim.Native.Nat.{_≤_, suc, ℕ}
+use Prim.Native.Nat.{ℕ}
 use mathlib.Core.Path.{_∙_, _≡_, ap, refl, subst, sym}
-use mathlib.Core.Bool.{false, not, true}
+use mathlib.Core.Bool.{false, true}
 use mathlib.Core.List.{List, [], _++_, _∷_, append-assoc, append-nil}
 use lib.Dec.{eqb, eqb·suc-zero}
 use lib.ListN.{length, take}
@@ -12,7 +12,7 @@ use Rattle.octets.proofs.Tests.{and-true, by-test}
 use Rattle.entries.specs.Entries.{Entry}
 use Rattle.ledger.proofs.History.{Holds}
 use Rattle.histories.specs.Run.{Bench, buffersOf, startBench}
-use Rattle.commands.specs.Program.{bufferLength, commandOf, heldAfter, lines, outputOf, printed, program, startLine}
+use Rattle.commands.specs.Program.{bufferLength, commandOf, heldAfter, lines, outputOf, printed, program}
 use Rattle.interpreter.specs.Feed.{Console, benchLast, console, consoleAfter, fedBy, inLine, keptBytes, saidAt, saidFor, saidLast}
 use Rattle.interpreter.specs.Step.{leftBy, shownBy}
 use Rattle.interpreter.specs.Theorem.{InputSays, heldFor, startConsole}

@@ -1,17 +1,15 @@
 -- A line's step by what it asks for.
-use Rattle.commands.specs.Program as program
 use Prim.Native.Nat.{_≤_, ℕ}
-use mathlib.Core.Path.{_∙_, _≡_, ap, refl, sym}
+use mathlib.Core.Path.{_≡_, refl}
 use mathlib.Core.Bool.{Bool, false, true}
 use mathlib.Core.List.{List}
-use lib.ListN.{drop, length}
-use Rattle.histories.specs.Run.{Bench, bench, bookOf}
-use Rattle.commands.specs.Program.{bad, commandOf, edit, top}
+use lib.ListN.{length}
+use Rattle.histories.specs.Run.{Bench, bench}
+use Rattle.commands.specs.Program.{bad, commandOf, top}
 use Rattle.command_lines.specs.Parsing.{Asks, commandAs, restOf}
 use Rattle.command_lines.specs.Printing.{Put, badLine}
-use Rattle.interpreter.specs.Step.{StepDone, editOf, topOf}
+use Rattle.interpreter.specs.Step.{StepDone, topOf}
 use Rattle.command_lines.specs.declared.Command.{Command}
-use Rattle.command_lines.specs.declared.Command.the-variants as command
 use Rattle.interpreter.specs.declared.Stepped.{Stepped}
 
 -- the book that `top` reads

@@ -1,10 +1,9 @@
 -- What command lines print on two buffers is what the ledger says of them.
 use Rattle.commands.specs.Program as program
-use Prim.Native.Nat.{_<_, _^_, ℕ}
-use Prim.Native.Char.{code}
-use mathlib.Core.Path.{_∙_, _≡_, ap, refl}
+use Prim.Native.Nat.{_^_, ℕ}
+use mathlib.Core.Path.{_≡_, ap, refl}
 use mathlib.Core.Bool.{Bool, _&&_, false, not, true}
-use mathlib.Core.List.{List, [], _++_, _∷_}
+use mathlib.Core.List.{List, [], _∷_}
 use lib.Dec.{leb, ltb}
 use lib.ListN.{drop, length}
 use lib.Seq.{take-append-seam}
@@ -19,14 +18,13 @@ use Rattle.entries.proofs.Edits.{valid-with, valid-without}
 use Rattle.book.specs.Answers.{Answer, Written, given, refused}
 use Rattle.book.specs.Book.{bookImage}
 use Rattle.book.proofs.Size.{book-length}
-use Rattle.ledger.specs.History.{started}
-use Rattle.ledger.specs.Ledger.{Edit, ledgerAnswer, scoreFits, setName, withdrawName}
+use Rattle.ledger.specs.Ledger.{ledgerAnswer, scoreFits, setName, withdrawName}
 use Rattle.ledger.proofs.History.{Holds, history-answers, history-holds, reads, start-holds}
-use Rattle.histories.specs.Run.{Bench, benchCall, bookOf, buffersOf, startBench}
+use Rattle.histories.specs.Run.{Bench, benchCall, buffersOf, startBench}
 use Rattle.histories.proofs.Theorem.{step-buffers}
 use Rattle.commands.specs.Program.{bad, bufferLength, commandOf, digits, edit, editLine, hasNumber, heldAfter, numbered, outputOf, printed, top, valueOn}
 use Rattle.interpreter.specs.Step.{leftBy, shownBy, topOf}
-use Rattle.interpreter.specs.Theorem.{LedgerSays, LinesSay, NeverSeven, Stands, heldFor, leftFor, shownFor}
+use Rattle.interpreter.specs.Theorem.{LinesSay, NeverSeven, Stands, heldFor, leftFor, shownFor}
 
 -- the score of a set is a number of 4 bytes
 abbrev fits : program.Command → Bool

@@ -1,7 +1,6 @@
 // The program `labels`: command lines from standard input, and what they print to standard output.
 // It only reads and writes. What a line prints, and that any input prints what the ledger says, is crate `interpreter`'s.
 ghost use Prim.Native.Nat.{_≤_};
-ghost use lib.ListN.{length};
 ghost use Rattle.interpreter.specs.Feed.{FeedRoom, keptBytes};
 
 // Between two reads: the bytes kept of the line begun, whether the second buffer holds the book, and whether the input goes on.

@@ -1,6 +1,5 @@
 -- `command_lines::number_at_front` meets its contract: the tests of a number's form in their order.
 -- No loop, so no invariant. Assumes nothing.
-use mathlib.Core.Path.{_∙_, _≡_}
 use native.Mathlib.Omega.{arith}
 use borrow.Author.Tests.{not-false, not-true}
 use Rattle.front_coding.proofs.Steps.{to-end}

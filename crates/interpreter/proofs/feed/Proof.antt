@@ -1,6 +1,6 @@
 -- `interpreter::feed` meets its contract: the part of the line is kept, and a line feed has the line carried out.
 -- No loop, so no invariant. Assumes nothing.
-use mathlib.Core.Path.{_∙_, refl, sym}
+use mathlib.Core.Path.{refl, sym}
 use lib.ListN.{length-take, take}
 use lib.Seq.{length-take-le}
 use native.Mathlib.Omega.{arith}

@@ -1,6 +1,5 @@
 -- `interpreter::print_top` meets its contract: by the answer's kind; the entries' lines take at most 960 bytes, and the looks are few.
 -- No loop, so no invariant. Assumes nothing.
-use mathlib.Core.Path.{_∙_}
 use Prim.Native.Nat.{_≤_}
 use native.Mathlib.Omega.{arith}
 use Rattle.command_lines.specs.Printing.{Laid}

@@ -1,6 +1,5 @@
 -- `interpreter::step` meets its contract: by what the line asks for.
 -- No loop, so no invariant. Assumes nothing.
-use native.Mathlib.Omega.{arith}
 use Rattle.front_coding.proofs.Steps.{to-end}
 use Rattle.interpreter.proofs.Stepping.{rest-inside, step-as, step-bad}
 use borrow.Author.Needs.{needs}
