@@ -34,10 +34,14 @@ decimal v = decimalTo 10 v
 abbrev pub isDigit : ℕ → Bool
 isDigit b = leb 48 b && leb b 57
 
+-- the bytes at the front that pass a test
+abbrev pub front : (ℕ → Bool) → List ℕ → List ℕ
+front p [] = []
+front p (b ∷ bs) = if p b then (b ∷ front p bs) else []
+
 -- the digits at the front, and their value
 abbrev pub digits : List ℕ → List ℕ
-digits [] = []
-digits (b ∷ bs) = if isDigit b then (b ∷ digits bs) else []
+digits bs = front isDigit bs
 
 abbrev pub valueOn : ℕ → List ℕ → ℕ
 valueOn a [] = a
@@ -49,13 +53,16 @@ pub data Command : Type 0 where
   top : ℕ → List ℕ → Command
   bad : Command
 
--- a number of 1 to 10 digits below 4,294,967,296 and a space, then the name or prefix
+-- a number of 1 to 10 digits below 4,294,967,296 and a space at the front
+abbrev pub hasNumber : List ℕ → Bool
+hasNumber bs =
+    let ds = digits bs in
+    leb 1 (length ds) && (leb (length ds) 10 && (ltb (valueOn 0 ds) (2 ^ 32) && begins (text " ") (drop (length ds) bs)))
+
+-- these, then the name or prefix
 abbrev pub numbered : (ℕ → List ℕ → Command) → List ℕ → Command
 numbered make bs =
-    let ds = digits bs in
-    if leb 1 (length ds) && (leb (length ds) 10 && (ltb (valueOn 0 ds) (2 ^ 32) && begins (text " ") (drop (length ds) bs)))
-    then make (valueOn 0 ds) (drop (suc (length ds)) bs)
-    else bad
+    let ds = digits bs in if hasNumber bs then make (valueOn 0 ds) (drop (suc (length ds)) bs) else bad
 
 -- one of the words and a space; any other line is bad
 unfoldable pub commandOf : List ℕ → Command

@@ -48,10 +48,10 @@ small-of es x v e =
 small-refused : (n : ℕ) → Small (refused n)
 small-refused n = record { entries = omega arith; bytes = omega arith }
 
-valid-in : (book : List ℕ) → isBook book ≡ true → valid (inBook book) ≡ true
+pub valid-in : (book : List ℕ) → isBook book ≡ true → valid (inBook book) ≡ true
 valid-in book t = let h : Held book (length (inBook book)) = record { isIt = t; count = refl } in held-stored h .ok
 
-set-small :
+pub set-small :
     (book w dst : List ℕ) (s : ℕ) → isScore s ≡ true → (a : Answer answers.Written) → setEntry book w s dst .answer ≡ a → Small a
 unfolding setEntry writingImage writing
 set-small book w dst s f (refused n) h = small-refused n
@@ -65,7 +65,7 @@ set-small book w dst s f (given x) h =
     let u = valid-with (entry w s) es v (not-false (isName w) (ok _ (inr (inl refl)))) f (ok _ (inr (inr (inl refl)))) in
     small-of after x u (given-is cs (reported after) x h)
 
-withdraw-small : (book w dst : List ℕ) (a : Answer answers.Written) → withdraw book w dst .answer ≡ a → Small a
+pub withdraw-small : (book w dst : List ℕ) (a : Answer answers.Written) → withdraw book w dst .answer ≡ a → Small a
 unfolding withdraw writingImage writing
 withdraw-small book w dst (refused n) h = small-refused n
 withdraw-small book w dst (given x) h =

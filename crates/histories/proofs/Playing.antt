@@ -57,7 +57,7 @@ play-start b p =
     }
 
 -- what a call leaves is the bench's next step
-performed-bench :
+pub performed-bench :
     {c : Edit} {b : Bench} {r : Written} {one two : List ℕ} {t : Bool} → Performed c b r one two
     → t ≡ onAnswer (writtenOf r) (b .turned) (not (b .turned)) → bench one two t ≡ benchStep c b
 unfolding benchStep

@@ -29,13 +29,13 @@ use Rattle.histories.specs.Theorem.{Ledgers, RefusedStays, RunLedgers}
 use Rattle.histories.proofs.Calling.{score-fits}
 use Rattle.histories.proofs.Script.{call-stands}
 
-by-answer :
+pub by-answer :
     {G : Type 0} (a : Answer answers.Written) → ((n : ℕ) → a ≡ refused n → G) → ((x : answers.Written) → a ≡ given x → G) → G
 by-answer (refused n) f g = f n refl
 by-answer (given x) f g = g x refl
 
 -- the bench goes as the two buffers do
-step-buffers : (c : Edit) (b : Bench) → buffersOf (benchStep c b) ≡ callStep c (buffersOf b)
+pub step-buffers : (c : Edit) (b : Bench) → buffersOf (benchStep c b) ≡ callStep c (buffersOf b)
 unfolding benchStep callStep
 step-buffers c b = by-answer (benchCall c b .answer) (λ n e. by-test (b .turned) (λ t. rw (e, t)) (λ t. rw (e, t)))
     (λ x e. by-test (b .turned) (λ t. rw (e, t)) (λ t. rw (e, t)))

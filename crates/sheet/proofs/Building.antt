@@ -9,7 +9,7 @@ use native.Mathlib.Numerals.{add-one}
 use native.Mathlib.Omega.{arith}
 use Rattle.octets.specs.Octets.{begins, numberAt, overwrite}
 use Rattle.entries.specs.Entries.{Entry, at, names}
-use Rattle.entries.proofs.Valid.{length-names}
+use Rattle.entries.proofs.Valid.{length-names, valid-all}
 use Rattle.front_coding.specs.Records.{bucketHead, recordOf, records}
 use Rattle.front_coding.specs.Written.{Sized}
 use Rattle.book.specs.Answers.{entriesBytes}
@@ -62,7 +62,7 @@ module _ {sheet : List ℕ} {n : ℕ} (s : HeldSheet sheet n) {total k a b i : �
     low = omega (arith, s .count)
 
     pub size-here : Here sheet es i k
-    size-here = here sheet es (sheet-ok s) i k low (g .stands)
+    size-here = here sheet es (valid-all es (sheet-ok s)) i k low (g .stands)
 
     pub size-turn :
         {r : ℕ} → Sized (recordOf bucketHead i (between a b sheet) (between (k + 1) (k + 1 + getD sheet k 0) sheet)) r
@@ -104,7 +104,7 @@ module _
       before = omega (arith, s .count)
 
       pub fill-here : Here sheet (inSheet sheet) (c .index) k
-      fill-here = here sheet (inSheet sheet) (sheet-ok s) (c .index) k before (g .stands)
+      fill-here = here sheet (inSheet sheet) (valid-all (inSheet sheet) (sheet-ok s)) (c .index) k before (g .stands)
 
       pub fill-room : PutRoom d n c (between (k + 1) (k + 1 + getD sheet k 0) sheet)
       fill-room = partial-room (g .put) (s .count) before (fill-here .name) (sheet-ok s)

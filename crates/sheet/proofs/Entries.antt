@@ -1,4 +1,4 @@
--- The entries of a sheet, read one by one: what stands at the index where the entry of a position begins.
+-- The entries of a sheet or of an answer, read one by one: what stands at the index where the entry of a position begins.
 use Prim.Native.Nat.{_+_, _<_, _^_, _≤_, suc, ℕ}
 use mathlib.Core.Path.{_∙_, _≡_, sym}
 use mathlib.Core.Bool.{true}
@@ -8,15 +8,15 @@ use lib.Seq.{drop-cons}
 use native.Mathlib.Numerals.{add-one}
 use native.Mathlib.Omega.{arith}
 use borrow.Author.Tests.{ltb-true}
-use Rattle.octets.specs.Lists.{concatMap}
+use Rattle.octets.specs.Lists.{all, concatMap}
 use Rattle.octets.specs.Octets.{be, begins, numberAt}
 use Rattle.octets.proofs.Lists.{at-all}
 use Rattle.octets.proofs.Numbers.{stands-number}
 use Rattle.octets.proofs.Order.{begins-at, begins-length}
 use Rattle.octets.proofs.Tests.{and-true}
-use Rattle.entries.specs.Entries.{Entry, at, noEntry, valid}
+use Rattle.entries.specs.Entries.{Entry, at, isEntry, noEntry}
 use Rattle.entries.specs.Names.{isName, isScore, longestName}
-use Rattle.entries.proofs.Valid.{name-length, valid-of}
+use Rattle.entries.proofs.Valid.{name-length}
 use Rattle.book.specs.Answers.{entriesBytes, entryBytes}
 use Rattle.book.proofs.Size.{length-entryBytes}
 use Rattle.sheet.proofs.Passing.{between, row-byte, row-name}
@@ -30,7 +30,7 @@ pub record Here (sheet : List ℕ) (es : List Entry) (i k : ℕ) : Type 0 where
   pub next : begins (entriesBytes (drop (i + 1) es)) (drop (k + 1 + getD sheet k 0 + 4) sheet) ≡ true
 
 module _
-    (sheet : List ℕ) (es : List Entry) (ok : valid es ≡ true) (i k : ℕ) (h : i < length es)
+    (sheet : List ℕ) (es : List Entry) (ok : all isEntry es ≡ true) (i k : ℕ) (h : i < length es)
     (s : begins (entriesBytes (drop i es)) (drop k sheet) ≡ true)
   where
     abbrev e : Entry
@@ -64,10 +64,10 @@ module _
     pub here : Here sheet es i k
     unfolding isScore
     here =
-        let v = valid-of es ok in
-        let f = ltb-true (e .score) (2 ^ 32) (at-all (λ f. isScore (f .score)) noEntry es (v .fits) i h) in
+        let v = and-true (isName (e .name)) (isScore (e .score)) (at-all isEntry noEntry es ok i h) in
+        let f = ltb-true (e .score) (2 ^ 32) (v .1) in
         record {
-          short = name-length (e .name) (at-all (λ f. isName (f .name)) noEntry es (v .allowed) i h);
+          short = name-length (e .name) (v .0);
           room = inside;
           name = sym (row-name sheet k) ∙ entry-at e (drop k sheet) (both .0) .0;
           score = stands-number 4 sheet (k + 1 + getD sheet k 0) (e .score) f score-stands (omega (arith, inside));

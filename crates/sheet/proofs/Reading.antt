@@ -24,7 +24,7 @@ entryBytes-split : (e : Entry) (r : List ℕ) → entryBytes e ++ r ≡ length (
 unfolding entryBytes
 entryBytes-split e r = simp append-assoc
 
-sheetFrom-of : (es : List Entry) (rest : List ℕ) → all (λ e. isScore (e .score)) es ≡ true → sheetFrom (length es) (entriesBytes es ++ rest) ≡ es
+pub sheetFrom-of : (es : List Entry) (rest : List ℕ) → all (λ e. isScore (e .score)) es ≡ true → sheetFrom (length es) (entriesBytes es ++ rest) ≡ es
 unfolding entriesBytes isScore
 sheetFrom-of [] rest h = refl
 sheetFrom-of (e ∷ es) rest h =

@@ -1,0 +1,4 @@
+pub mod Digits
+pub mod Parsing
+pub mod Decimal
+pub mod Printing

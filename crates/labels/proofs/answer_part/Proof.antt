@@ -1,0 +1,134 @@
+-- `labels::answer_part` is safe, ends, and keeps at most 64 bytes of a line. The loop's invariant: the buffers keep their lengths, and there is
+-- room for a line. The measure is what is left of the part. Assumes nothing.
+use Prim.Native.Nat.{_+_, _-_, _≤_}
+use mathlib.Core.Path.{sym}
+use lib.ListN.{drop, length, length-drop, take}
+use lib.Seq.{length-take-le}
+use native.Mathlib.Omega.{arith}
+use Rattle.front_coding.proofs.Steps.{to-end}
+use Rattle.histories.specs.Run.{bench}
+use Rattle.interpreter.specs.Feed.{FeedDone, console}
+use Rattle.labels.proofs.Lending.{Ready, fed-within, ready-on, ready-start}
+use Rattle.labels.proofs.answer_part.Statement.{statement}
+use Rattle.labels.proofs.answer_part.Tie as tie
+
+abbrev Inv-loop : tie.InvT-loop
+Inv-loop part line₀ first₀ second₀ out₀ used₀ kept₀ turned₀ line first second out used kept turned =
+    (used ≤ length part) × Ready line₀ first₀ second₀ out₀ line first second out kept
+
+abbrev μ-loop : tie.MeasureT-loop
+μ-loop part line₀ first₀ second₀ out₀ used₀ kept₀ turned₀ line first second out used kept turned =
+    length part - used
+
+-- the turn of a feed, and what it gave of what is left of the part
+abbrev turn : tie.After-feed Inv-loop μ-loop → tie.In-loop Inv-loop μ-loop
+turn f = f .before .before .before .before .before .before
+
+did :
+    (f : tie.After-feed Inv-loop μ-loop)
+    → let l = turn f .before in
+    let k = f .feed .last .1 .1 .1 in
+    FeedDone (drop (l .loop .used) (l .before .before .before .before .before .before .args .part .now))
+    (console (take (l .loop .kept) (l .loop .line)) (bench (l .loop .first) (l .loop .second) (l .loop .turned))) (l .loop .out) (f .feed .result)
+    (k .0) (k .1 .0) (k .1 .1 .0) (k .1 .1 .1 .0)
+did f =
+    let l = turn f .before in
+    rw (to-end (l .before .before .before .before .before .before .args .part .now) (l .loop .used)) at (f .feed .ensures)
+
+used-within :
+    (f : tie.After-feed Inv-loop μ-loop)
+    → let l = turn f .before in
+    l .loop .used + f .feed .result .used ≤ length (l .before .before .before .before .before .before .args .part .now)
+used-within f =
+    let l = turn f .before in
+    fed-within (l .before .before .before .before .before .before .args .part .now) (l .loop .used) (l .loop .inv .0) (did f)
+
+loop-holds : tie.Need-loop-holds Inv-loop μ-loop
+loop-holds c =
+    let s = c .before .before .before .before .before in (omega arith, ready-start (s .args .first .now) (s .args .second .now) (s .pre))
+
+sub-feed : tie.Need-sub-feed Inv-loop μ-loop
+sub-feed c = omega arith
+
+part-feed-start : tie.Need-part-feed-start Inv-loop μ-loop
+part-feed-start c = omega arith
+
+part-feed-end : tie.Need-part-feed-end Inv-loop μ-loop
+part-feed-end c = omega arith
+
+feed-requires : tie.Need-feed-requires Inv-loop μ-loop
+feed-requires c κs = c .before .before .before .before .before .before .loop .inv .1 .room
+
+slice-reshare-prefix-write-all : tie.Need-slice-reshare-prefix-write-all Inv-loop μ-loop
+slice-reshare-prefix-write-all c =
+    let f = c .before .before .before .before .before .before .before .before in
+    omega (arith, did f .printed .inside, f .feed .kept .1 .1 .1 .1 .1 .1 .0)
+
+slice-aggregate-write-all : tie.Need-slice-aggregate-write-all Inv-loop μ-loop
+slice-aggregate-write-all c =
+    let f = c .before .before .before .before .before .before .before .before .before in
+    sym
+    (length-take-le (f .feed .result .bytes) (f .feed .last .1 .1 .1 .1 .1 .1 .0)
+    (omega (arith, did f .printed .inside, f .feed .kept .1 .1 .1 .1 .1 .1 .0)))
+
+write-all-requires : tie.Need-write-all-requires Inv-loop μ-loop
+write-all-requires c κs = tt
+
+add-used : tie.Need-add-used Inv-loop μ-loop
+add-used c =
+    let f = c .before .before .before .before .before .before .before .before .before .before .before in
+    omega (arith, used-within f, turn f .before .before .before .before .before .before)
+
+loop-less : tie.Need-loop-less Inv-loop μ-loop
+loop-less c =
+    let f = c .before .before .before .before .before .before .before .before .before .before .before in
+    let i = turn f in
+    let l = i .before in
+    let part = l .before .before .before .before .before .before .args .part .now in
+    let h = i .loop-test .taken in
+    let a = did f .ahead (omega (arith, length-drop (l .loop .used) part)) in
+    omega (arith, used-within f)
+
+loop-again : tie.Need-loop-again Inv-loop μ-loop
+loop-again c =
+    let f = c .before .before .before .before .before .before .before .before .before .before .before in
+    let k = f .feed .kept .1 .1 .1 in
+    (used-within f, ready-on (turn f .before .loop .inv .1) (did f .few) (k .0) (k .1 .0) (k .1 .1 .0) (k .1 .1 .1 .0))
+
+same-length : tie.Need-same-length Inv-loop μ-loop
+same-length c = c .before .loop .inv .1 .lineSize
+
+same-length-2 : tie.Need-same-length-2 Inv-loop μ-loop
+same-length-2 c = c .before .loop .inv .1 .firstSize
+
+same-length-3 : tie.Need-same-length-3 Inv-loop μ-loop
+same-length-3 c = c .before .loop .inv .1 .secondSize
+
+same-length-4 : tie.Need-same-length-4 Inv-loop μ-loop
+same-length-4 c = c .before .loop .inv .1 .outSize
+
+returns : tie.Need-returns Inv-loop μ-loop
+returns c = c .before .loop .inv .1 .room .few
+
+pub answer-part-spec : {M : Type 1} → statement M
+answer-part-spec =
+    tie.close
+    (tie.spec
+    Inv-loop
+    μ-loop
+    loop-holds
+    sub-feed
+    part-feed-start
+    part-feed-end
+    feed-requires
+    slice-reshare-prefix-write-all
+    slice-aggregate-write-all
+    write-all-requires
+    add-used
+    loop-less
+    loop-again
+    same-length
+    same-length-2
+    same-length-3
+    same-length-4
+    returns)

@@ -1,0 +1,102 @@
+// The program `labels`: command lines from standard input, and what they print to standard output.
+// It only reads and writes. What a line prints, and that any input prints what the ledger says, is crate `interpreter`'s.
+ghost use Prim.Native.Nat.{_≤_};
+ghost use Rattle.interpreter.specs.Feed.{FeedRoom, keptBytes};
+
+// Between two reads: the bytes kept of the line begun, whether the second buffer holds the book, and whether the input goes on.
+struct State {
+    kept: usize,
+    turned: bool,
+    open: bool,
+}
+
+// Feeds a part of the input, and writes what it prints.
+fn answer_part(
+    part: &[u8],
+    s: State,
+    line: &mut [u8],
+    first: &mut [u8],
+    second: &mut [u8],
+    out: &mut [u8],
+) -> State
+    requires { ⌜ FeedRoom (s .kept) (now line) (now out) ⌝ }
+    ensures { λ r. ⌜ r .kept ≤ keptBytes ⌝ }
+{
+    let mut used = 0;
+    let mut kept = s.kept;
+    let mut turned = s.turned;
+    while used < part.len() {
+        let f = interpreter::feed(&part[used..], kept, turned, line, first, second, out);
+        let n = f.bytes;
+        io::write_all(1, &out[..n]);
+        used += f.used;
+        kept = f.kept;
+        turned = f.turned;
+    }
+    State {
+        kept: kept,
+        turned: turned,
+        open: true,
+    }
+}
+
+// Reads once, and answers what was read.
+fn read_part(
+    input: &mut [u8],
+    s: State,
+    line: &mut [u8],
+    first: &mut [u8],
+    second: &mut [u8],
+    out: &mut [u8],
+) -> State
+    requires { ⌜ FeedRoom (s .kept) (now line) (now out) ⌝ }
+    ensures { λ r. ⌜ r .kept ≤ keptBytes ⌝ }
+{
+    let got = libc::read(0, input);
+    let n = io::count(got, input);
+    if n == 0 {
+        return State {
+            kept: s.kept,
+            turned: s.turned,
+            open: false,
+        };
+    }
+    answer_part(&input[..n], s, line, first, second, out)
+}
+
+// Reads to the end of the input. A proved loop has to end, so it counts its reads down from a number that no run uses up.
+fn read_all(
+    input: &mut [u8],
+    line: &mut [u8],
+    first: &mut [u8],
+    second: &mut [u8],
+    out: &mut [u8],
+) -> State
+    requires { ⌜ FeedRoom 0 (now line) (now out) ⌝ }
+    ensures { λ r. ⌜ r .kept ≤ keptBytes ⌝ }
+{
+    let mut reads = u64::MAX;
+    let mut s = State {
+        kept: 0,
+        turned: false,
+        open: true,
+    };
+    while reads > 0 && s.open {
+        s = read_part(input, s, line, first, second, out);
+        reads -= 1;
+    }
+    s
+}
+
+fn main() {
+    let mut first = [0u8; 57344];
+    let mut second = [0u8; 57344];
+    let mut line = [0u8; 64];
+    let mut input = [0u8; 65536];
+    let mut out = [0u8; 1024];
+    label_book::empty(&mut first);
+    let s = read_all(&mut input, &mut line, &mut first, &mut second, &mut out);
+    let f = interpreter::finish(s.kept, s.turned, &line, &mut first, &mut second, &mut out);
+    let n = f.bytes;
+    io::write_all(1, &out[..n]);
+}
