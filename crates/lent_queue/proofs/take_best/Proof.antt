@@ -47,6 +47,7 @@ use Rattle.range_machine.specs.declared.Best.{Best}
 use Rattle.completion.specs.Machine.{noRange}
 use Rattle.range_machine.specs.Slots.{bestFrom, bestOf, without}
 use Rattle.lent_queue.proofs.Lent.{Holds, calls-lent}
+use Rattle.lent_queue.proofs.Rows.{bytes-fit, rv}
 use Rattle.lent_queue.proofs.Within.{best-within}
 use Rattle.completion.proofs.Range as R
 use Rattle.completion.proofs.Range.Laws as R′
@@ -61,16 +62,10 @@ use Rattle.lent_queue.proofs.take_best as self
 use Rattle.lent_queue.proofs.take_best.Statement as stated
 use Rattle.lent_queue.proofs.take_best.Code as code
 
-bytes-fit : (i n : ℕ) → n * 32 < 2 ^ 63 → i < n → i * 32 < 2 ^ 64
-bytes-fit i n room within = omega (arith, room, within)
-
 abbrev stayed : Stays (self.ended .signature .params) (self.ended .kept)
 stayed = (stay-slice (0 ∷ []) tt (plain (λ _. R.the-row)), (stay-none (λ _. usize) yes, tt))
 
--- the machine values of a range and of a best
-abbrev rv : Range → List Val
-rv = LL.vals R.the-type R′.the-laws
-
+-- the machine values of a best
 abbrev bv : Best → List Val
 bv = LL.vals B.the-type B′.the-laws
 
