@@ -5,7 +5,7 @@
 --         Q, gives     what is known of the result and of the last list, and that the callee's `post` says it
 --     gives-up        what a `&κ mut [T]` owns is given up for its last list
 -- Assumes `Given`.
-use mathlib.Core.Path.{_≡_, refl, sym, ap}
+use mathlib.Core.Path.{_≡_, refl, sym}
 use Prim.Native.Nat.{ℕ}
 use mathlib.Core.List.{List, [], _∷_}
 use lib.ListN.{length}
@@ -22,7 +22,6 @@ use types.Kit.{Given, Item, ‵, raw, given, _⊛_, some, later, Seq, Post, runs
 use types.Run.{Opds}
 use types.Tokens.{lft-new, lft-end}
 use denote.RattleType.{RattleType}
-use denote.Ref.{RefT}
 use denote.Slice.{sliceVal, MutSlice, Room, finally, res-finally, heres, codedHoleys}
 use denote.Triple.Statement.{Contract, Triple}
 use denote.Triple.Call.{calls-at}

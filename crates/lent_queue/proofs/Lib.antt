@@ -4,3 +4,4 @@ pub mod Rows
 pub mod Within
 pub mod Calls
 pub mod Running
+pub mod Parameters
