@@ -33,14 +33,11 @@ use denote.Triple.Walked.{says}
 use Rattle.completion.specs.declared.Range.{Range}
 use Rattle.range_machine.specs.Slots.{bestOf, without}
 use Rattle.lent_queue.proofs.Lent.{Holds}
+use Rattle.lent_queue.proofs.Rows.{rv}
 use Rattle.completion.proofs.Range as R
 use Rattle.completion.proofs.Range.Laws as R′
 use Rattle.lent_queue.proofs.put as put
 use Rattle.lent_queue.proofs.take_best as take
-
--- the machine values of a range
-abbrev pub rv : Range → List Val
-rv = LL.vals R.the-type R′.the-laws
 
 module _ {M : Type 1} (𝓤 : URA M) (H : Heap 𝓤) (A : Atoms 𝓤) (mem : Memory → SProp 𝓤) (run : Routine → Fun 𝓤) where
   abbrev pub Put : Contract 𝓤

@@ -24,7 +24,7 @@ use denote.Laws.{Is, shows}
 use denote.Plain.{uint-vals, uint-tells, uint-makes}
 use denote.Builtin.{u8, usize}
 use denote.Ref.{RefT}
-use denote.Slice.{sliceVal, MutSlice, ShrSlice, Room, finally, slice-vals, mut-slice-tells, shr-slice-tells, shr-slice-lawful, shr-slice-copy}
+use denote.Slice.{MutSlice, ShrSlice, Room, finally, slice-vals, mut-slice-tells, shr-slice-tells, shr-slice-lawful, shr-slice-copy}
 use denote.Signature.{plain}
 use denote.Steps.{owned, peeks, heard, nothing}
 use denote.Enum.Laws as EL
@@ -40,6 +40,7 @@ use Rattle.completion.specs.declared.Range.{Range}
 use Rattle.completion.specs.declared.Completion.{Completion}
 use Rattle.completion.specs.Complete.{completeBook}
 use Rattle.lent_queue.specs.Waiting.{CompletedOver}
+use Rattle.lent_queue.proofs.Parameters.{Arg, Book, Prefix, sv, vals-of}
 use Rattle.completion.proofs.Range as R
 use Rattle.completion.proofs.Completion as S
 use Rattle.completion.proofs.Completion.Laws as S′
@@ -61,26 +62,17 @@ Inner 𝓤 H A mem run = tripleOf 𝓤 H A inner.signature (inner.spec 𝓤 H A 
 
 module _ {M : Type 1} (𝓤 : URA M) (H : Heap 𝓤) (A : Atoms 𝓤) (W : Given 𝓤 H A) (mem : Memory → SProp 𝓤) (run : Routine → Fun 𝓤) (κ₀ κ₁ κ₂ κ₃ : Lft) (q₀ q₁ q₂ q₃ : Share)
     (bk px : RefT (List ℕ)) (k : ℕ) (ds : RefT (List ℕ)) (rs : RefT (List Range)) (k-fits : k < 2 ^ 64) (d-room : Room u8 (length (ds .now))) (r-room : Room R.the-row (length (rs .now))) where
-  abbrev sb : RefT (List ℕ) → Val
-  sb x = sliceVal (x .ptr) (length (x .now))
-
-  abbrev sr : Val
-  sr = sliceVal (rs .ptr) (length (rs .now))
-
-  abbrev Arg : Type 0
-  Arg = RefT (List ℕ) × (RefT (List ℕ) × (ℕ × (RefT (List ℕ) × (RefT (List Range) × Unit {0}))))
-
   abbrev a : Arg
   a = (bk, (px, (k, (ds, (rs, tt)))))
 
   abbrev vals : List Val × (List Val × (List Val × (List Val × (List Val × Unit {0}))))
-  vals = (sb bk ∷ [], (sb px ∷ [], (vint w64 k ∷ [], (sb ds ∷ [], (sr ∷ [], tt)))))
+  vals = vals-of a
 
   abbrev Bk : Fml
-  Bk = ShrSlice (named 0) κ₀ u8 .own bk (sb bk ∷ [])
+  Bk = Book κ₀ bk
 
   abbrev Px : Fml
-  Px = ShrSlice (named 1) κ₁ u8 .own px (sb px ∷ [])
+  Px = Prefix κ₁ px
 
   -- what the five parameters own, and the tokens of their lifetimes
   abbrev Owns : Fml
@@ -112,17 +104,17 @@ module _ {M : Type 1} (𝓤 : URA M) (H : Heap 𝓤) (A : Atoms 𝓤) (W : Given
       nothing ! $ move ! (2 ∷ 0 ∷ []) $ fjoin ! $ move ! (2 ∷ 0 ∷ []) $ fjoin ! $ owned ! usize (Is usize) (uint-makes 𝓤 H A W w64) k _ (refl, k-fits) $ fjoin ! $ move ! (2 ∷ 0 ∷ []) $ fjoin ! $ move ! (2 ∷ 0 ∷ []) $ fjoin ! $ done !
 
   module _ (C : Calls 𝓤 H) (Λ : Loops 𝓤 H) (fm : FmC 𝓤 H (W .laws) C) (known : Triple 𝓤 (C #lent-queue·complete) (Inner 𝓤 H A mem run)) where
-    walk : Is (ShrSlice (named 0) κ₀ u8) bk (sb bk ∷ []) → Is (ShrSlice (named 1) κ₁ u8) px (sb px ∷ [])
-        → ent 𝓤 (onEntry 𝓤 H A self.signature (κ₀, (κ₁, (κ₂, (κ₃, tt)))) (q₀, (q₁, (q₂, (q₃, tt)))) a vals) (WpFn 𝓤 H C Λ code.function (sb bk ∷ sb px ∷ vint w64 k ∷ sb ds ∷ sr ∷ []) Post)
+    walk : Is (ShrSlice (named 0) κ₀ u8) bk (sv bk ∷ []) → Is (ShrSlice (named 1) κ₁ u8) px (sv px ∷ [])
+        → ent 𝓤 (onEntry 𝓤 H A self.signature (κ₀, (κ₁, (κ₂, (κ₃, tt)))) (q₀, (q₁, (q₂, (q₃, tt)))) a vals) (WpFn 𝓤 H C Λ code.function (sv bk ∷ sv px ∷ vint w64 k ∷ sv ds ∷ sv rs ∷ []) Post)
     walk isb isp =
-        qed W (Tokens ∷ ‵ Owns ∷ []) ∵ move ! (1 ∷ []) $ fsplit ! $ use1 W (‵ Bk ⊛ ‵ Bk) (shr-slice-copy 𝓤 H A W (named 0) κ₀ u8 .twice bk (sb bk ∷ [])) $ split ! $
-        move ! (2 ∷ []) $ fsplit ! $ use1 W (‵ Px ⊛ ‵ Px) (shr-slice-copy 𝓤 H A W (named 1) κ₁ u8 .twice px (sb px ∷ [])) $ split ! $
+        qed W (Tokens ∷ ‵ Owns ∷ []) ∵ move ! (1 ∷ []) $ fsplit ! $ use1 W (‵ Bk ⊛ ‵ Bk) (shr-slice-copy 𝓤 H A W (named 0) κ₀ u8 .twice bk (sv bk ∷ [])) $ split ! $
+        move ! (2 ∷ []) $ fsplit ! $ use1 W (‵ Px ⊛ ‵ Px) (shr-slice-copy 𝓤 H A W (named 1) κ₁ u8 .twice px (sv px ∷ [])) $ split ! $
         -- [prefix; prefix; the others; book; book; the tokens]
         move ! (1 ∷ 2 ∷ []) $ fjoin ! $ move ! (2 ∷ 0 ∷ []) $ fjoin ! $ move ! (3 ∷ 0 ∷ []) $ use2 W (raw (Inner 𝓤 H A mem run .pre to-inner)) goes-inner $
         -- [what the call asks; prefix; book]
-        enter ! C Λ code.function (sb bk ∷ sb px ∷ vint w64 k ∷ sb ds ∷ sr ∷ []) _ $
+        enter ! C Λ code.function (sv bk ∷ sv px ∷ vint w64 k ∷ sv ds ∷ sv rs ∷ []) _ $
         alloc1 ! (λ l₀. alloc1 ! (λ l₁. alloc1 ! (λ l₂. alloc1 ! (λ l₃. alloc1 ! (λ l₄. alloc1 ! (λ l₅. alloc1 ! (λ l₆. alloc1 ! (λ l₇. alloc1 ! (λ l₈. alloc1 ! (λ l₉. alloc0 ! $ params1 ! $
-        pass1 ! (init ! 16 refl (shr-slice-lawful 𝓤 H A W (named 0) κ₀ u8 .typed bk (sb bk ∷ []) isb .0)) $ pass1 ! (init ! 14 refl (shr-slice-lawful 𝓤 H A W (named 1) κ₁ u8 .typed px (sb px ∷ []) isp .0)) $ pass1 ! (init ! 12 refl (tt, record { fits = k-fits })) $
+        pass1 ! (init ! 16 refl (shr-slice-lawful 𝓤 H A W (named 0) κ₀ u8 .typed bk (sv bk ∷ []) isb .0)) $ pass1 ! (init ! 14 refl (shr-slice-lawful 𝓤 H A W (named 1) κ₁ u8 .typed px (sv px ∷ []) isp .0)) $ pass1 ! (init ! 12 refl (tt, record { fits = k-fits })) $
         pass1 ! (init ! 10 refl (tt, (tt, (record { fits = d-room .0 }, tt)))) $ pass1 ! (init ! 8 refl (tt, (tt, (record { fits = r-room .0 }, tt)))) $ pass0 ! $
         assigns ! (addr ! (from ! (fld ! refl (hop ! (look-in ! 10 (sub ! 0 refl (whole !))) (stop !))))) (from ! (stop !)) (init ! 6 refl (tt, tt)) $
         assigns ! (agg ! (and-then ! (load ! (from ! (stop !)) (look ! 6 refl)) (and-then ! (load ! (from ! (fld ! refl (stop !))) (look-in ! 10 (sub ! 1 refl (whole !)))) (no-more !)))) (from ! (stop !)) (init ! 4 refl (tt, (tt, (record { fits = d-room .0 }, tt)))) $

@@ -1,7 +1,7 @@
 -- `lent_queue::take_best` meets its contract: a walk of its MIR, by hand. The first element is read; the slice is lent again to `best_from` and comes back (`Lent.antt`); the last of the n is read, and stored over the best.
 -- Assumes nothing.
-use mathlib.Core.Path.{_≡_, refl, sym, ap, subst, _∙_}
-use Prim.Native.Nat.{ℕ, zero, suc, _<_, _≤_, _+_, _-_, _*_, _^_}
+use mathlib.Core.Path.{_≡_, refl, sym, ap, subst}
+use Prim.Native.Nat.{ℕ, _<_, _≤_, _-_, _^_}
 use native.Mathlib.Nat.{zero-add}
 use native.Mathlib.Omega.{arith}
 use mathlib.Core.List.{[], _∷_, List}
@@ -39,14 +39,15 @@ use denote.Triple.Statement.{Contract, Triple}
 use denote.Triple.Entry.{onEntry}
 use denote.Triple.Spec.{Meets, tripleOf}
 use denote.Triple.Table.{entered, cited}
-use denote.Triple.Clauses.{ensured, lasts}
+use denote.Triple.Clauses.{lasts}
 use denote.Triple.Walked.{says, needs, Stays, stay-slice, stay-none, walkOf, goes-none, goes-slice, Walks, ends-at, walked, walk-meets}
 use denote.Exit.{yes}
 use Rattle.completion.specs.declared.Range.{Range}
 use Rattle.range_machine.specs.declared.Best.{Best}
 use Rattle.completion.specs.Machine.{noRange}
-use Rattle.range_machine.specs.Slots.{bestFrom, bestOf, without}
+use Rattle.range_machine.specs.Slots.{bestFrom}
 use Rattle.lent_queue.proofs.Lent.{Holds, calls-lent}
+use Rattle.lent_queue.proofs.Rows.{bytes-fit, rv}
 use Rattle.lent_queue.proofs.Within.{best-within}
 use Rattle.completion.proofs.Range as R
 use Rattle.completion.proofs.Range.Laws as R′
@@ -61,16 +62,10 @@ use Rattle.lent_queue.proofs.take_best as self
 use Rattle.lent_queue.proofs.take_best.Statement as stated
 use Rattle.lent_queue.proofs.take_best.Code as code
 
-bytes-fit : (i n : ℕ) → n * 32 < 2 ^ 63 → i < n → i * 32 < 2 ^ 64
-bytes-fit i n room within = omega (arith, room, within)
-
 abbrev stayed : Stays (self.ended .signature .params) (self.ended .kept)
 stayed = (stay-slice (0 ∷ []) tt (plain (λ _. R.the-row)), (stay-none (λ _. usize) yes, tt))
 
--- the machine values of a range and of a best
-abbrev rv : Range → List Val
-rv = LL.vals R.the-type R′.the-laws
-
+-- the machine values of a best
 abbrev bv : Best → List Val
 bv = LL.vals B.the-type B′.the-laws
 
