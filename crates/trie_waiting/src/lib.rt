@@ -2,9 +2,10 @@
 ghost use mathlib.Core.Path.{_≡_};
 ghost use Prim.Native.Nat.{_-_, _<_, _≤_};
 ghost use lib.ListN.{drop};
+ghost use Rattle.octets.specs.Octets.{below};
 ghost use Rattle.entries.specs.Completion.{maxCount};
 ghost use Rattle.entries.specs.Names.{longestName};
-ghost use Rattle.trie_waiting.specs.Waits.{Put, Ready, isBefore, placeAmong, putAt, putIn, waits};
+ghost use Rattle.trie_waiting.specs.Waits.{Put, Ready, isBefore, pathOf, placeAmong, putAt, putIn, waits};
 
 // A node that waits: the path down to it with its own label, and its score; where it stands in the trie; from where its child field
 // counts; whether no later sibling waits with it.
@@ -23,6 +24,18 @@ pub struct Queue {
     pub count: usize,
 }
 
+// Whether the path of a comes before that of b.
+fn is_earlier(a: Waiting, b: Waiting) -> bool
+    requires { ⌜ (a .len ≤ longestName) × (b .len ≤ longestName) ⌝ }
+    ensures { λ r. ⌜ r ≡ below (pathOf a) (pathOf b) ⌝ }
+{
+    let p = a.path;
+    let q = b.path;
+    let n = a.len;
+    let m = b.len;
+    octets::is_below(&p[..n], &q[..m])
+}
+
 // Whether a comes before b: the higher score, at equal scores the earlier path.
 pub fn is_before(a: Waiting, b: Waiting) -> bool
     requires { ⌜ (a .len ≤ longestName) × (b .len ≤ longestName) ⌝ }
@@ -31,11 +44,7 @@ pub fn is_before(a: Waiting, b: Waiting) -> bool
     if a.score != b.score {
         return b.score < a.score;
     }
-    let p = a.path;
-    let q = b.path;
-    let n = a.len;
-    let m = b.len;
-    octets::is_below(&p[..n], &q[..m])
+    is_earlier(a, b)
 }
 
 // How many nodes come before x.

@@ -1,52 +1,22 @@
 -- `trie_waiting::is_before` meets its contract: unequal scores decide, else the paths in byte order.
 -- No loop, so no invariant. Assumes nothing.
-use mathlib.Core.Path.{_≡_, sym}
-use lib.ListN.{length}
-use lib.Seq.{length-take-le}
-use native.Mathlib.Omega.{arith}
-use borrow.Author.Tests.{eq-eqb, ne-eqb}
 use borrow.Author.Needs.{needs}
-use Rattle.entries.specs.Names.{longestName}
+use borrow.Author.Tests.{eq-eqb, ne-eqb}
 use Rattle.trie_waiting.proofs.is_before.Statement.{statement}
 use Rattle.trie_waiting.proofs.is_before.Tie as tie
-
--- the arrays are 48 bytes long
-long-a : (c : tie.Start) → length (c .args .a .path) ≡ longestName
-long-a c = search needs
-
-long-b : (c : tie.Start) → length (c .args .b .path) ≡ longestName
-long-b c = search needs
 
 returns : tie.Need-returns
 returns c =
     let z = c .before .before .before .before .before in
     rw (ne-eqb (z .args .a .score) (z .args .b .score) (c .before .before .if1 .taken))
 
-array-share-prefix-p : tie.Need-array-share-prefix-p
-array-share-prefix-p c = omega (arith, long-a (c .before .before .before .before .before))
-
-slice-aggregate-is-below : tie.Need-slice-aggregate-is-below
-slice-aggregate-is-below c =
-    let z = c .before .before .before .before .before .before in
-    sym (length-take-le (z .args .a .len) (z .args .a .path) (omega (arith, long-a z)))
-
-array-share-prefix-q : tie.Need-array-share-prefix-q
-array-share-prefix-q c = omega (arith, long-b (c .before .before .before .before .before .before))
-
-slice-aggregate-is-below-2 : tie.Need-slice-aggregate-is-below-2
-slice-aggregate-is-below-2 c =
-    let z = c .before .before .before .before .before .before .before in
-    sym (length-take-le (z .args .b .len) (z .args .b .path) (omega (arith, long-b z)))
-
-is-below-requires : tie.Need-is-below-requires
-is-below-requires c κs = tt
+is-earlier-requires : tie.Need-is-earlier-requires
+is-earlier-requires c κs = search needs
 
 returns-2 : tie.Need-returns-2
 returns-2 c =
-    let z = c .before .before .before .before .before .before .before .before in
-    rw (eq-eqb (z .args .a .score) (z .args .b .score) (c .before .before .before .before .before .if1 .left)) (c .is-below .ensures)
+    let z = c .before .before .before .before in
+    rw (eq-eqb (z .args .a .score) (z .args .b .score) (c .before .if1 .left)) (c .is-earlier .ensures)
 
 pub is-before-spec : {M : Type 1} → statement M
-is-before-spec =
-    tie.close
-    (tie.spec returns array-share-prefix-p slice-aggregate-is-below array-share-prefix-q slice-aggregate-is-below-2 is-below-requires returns-2)
+is-before-spec = tie.close (tie.spec returns is-earlier-requires returns-2)

@@ -16,7 +16,7 @@ put-at-requires c κs =
     let z = c .before in
     let a = place-most (z .args .x) (waits (z .args .q)) in
     let b = length-take (z .args .q .count) (z .args .q .nodes) in
-    (omega (arith, a, b, c .place-of .ensures), z .pre .2, z .pre .3)
+    (omega (arith, a, b, c .place-of .ensures), omega (arith, z .pre .2), omega (arith, z .pre .2, z .pre .3))
 
 returns : tie.Need-returns
 returns c =
