@@ -1,15 +1,15 @@
-// Writing the trie image of a table of names.
+// The trie of a book that was checked: its names unpacked into rows, the groups measured, then written from the last to the first.
 use trie_nodes::Run;
 ghost use mathlib.Core.Path.{_≡_};
-ghost use mathlib.Core.Bool.{true, false};
-ghost use Prim.Native.Nat.{ℕ, _+_, _-_, _*_, _<_, _≤_, min};
+ghost use mathlib.Core.Bool.{true};
+ghost use Prim.Native.Nat.{_+_, min};
 ghost use lib.ListN.{length};
-ghost use Rattle.trie.specs.Trie.{longestLabel};
 ghost use Rattle.entries.specs.Entries.{valid};
-ghost use Rattle.trie_table.specs.Table.{entries, Table};
 ghost use Rattle.book.specs.Book.{inBook};
 ghost use Rattle.book.specs.Held.{Held};
-ghost use Rattle.trie_writer.specs.Writing.{Groupable, Grouped, Answered};
+ghost use Rattle.trie.specs.Trie.{longestLabel};
+ghost use Rattle.trie_table.specs.Table.{Table, entries};
+ghost use Rattle.trie_writer.specs.Writing.{Answered, Groupable, Grouped};
 
 // A run with the bytes of what stands under it.
 fn with_under(r: Run, n: u32) -> Run
