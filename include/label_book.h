@@ -2,19 +2,20 @@
  * The label book, for C: link target/staticlib/libexports.a (rt staticlib exports), x86-64.
  *
  * A book is an image of at most 1,024 entries, each a name of 1 to 48 bytes from 20 to 7E and a score; a sheet lists the same entries in
- * plain. An image stands at the front of a lent buffer; the bytes behind it are neither read nor changed. Positions count from 0 in name
- * order, which is byte order.
+ * plain, and a trie holds them for completion. An image stands at the front of a lent buffer; the bytes behind it are neither read nor
+ * changed. Positions count from 0 in name order, which is byte order.
  *
  * A buffer is a pointer and a length in bytes. A pointer is never null, not with length 0 either. A destination and the out values
  * overlap nothing else that is lent; two sources may be the same bytes. A call keeps no pointer and allocates nothing.
  *
  * Every call returns 0 or the number of its refusal, the smallest that applies:
- *   1  a book or sheet that is not laid out as such, or is cut off by its buffer
+ *   1  a book, sheet or trie that is not laid out as such, or is cut off by its buffer
  *   2  a name or prefix that is not allowed
+ *   3  a completion of 0 or more than 16 entries
  *   4  withdraw, name_of: a name that the book does not hold
  *   5  set: a new name where 1,024 are held
  *   6  a position or bucket that the book does not have
- *   7  a destination that is shorter than the bytes needed
+ *   7  a destination that is shorter than the bytes needed, or fewer ranges than entries asked for
  * With a refusal every out value is 0 and no lent byte has changed. With 0 the out values are as said at each call, and a destination
  * has changed only where the answer was written, at its front.
  *
@@ -66,6 +67,26 @@ uint8_t label_book_build(const uint8_t *sheet, size_t sheet_len, uint8_t *dst, s
 
 /* Writes the sheet of a book's entries; tells them and its bytes. Refusals 1, 7. */
 uint8_t label_book_list(const uint8_t *book, size_t book_len, uint8_t *dst, size_t dst_len, size_t *entries, size_t *bytes);
+
+/* Writes the trie of a book's entries; tells them and its bytes. Refusals 1, 7. */
+uint8_t label_book_write_trie(const uint8_t *book, size_t book_len, uint8_t *dst, size_t dst_len, size_t *entries, size_t *bytes);
+
+/* An open range, in which completion from a book keeps where it looks on. */
+struct label_book_range {
+    size_t first, best;
+    uint32_t score;
+    size_t last;
+};
+
+/* Writes the best k of the entries that the prefix begins, or all if fewer, k from 1 to 16, each as name_at does; tells how many, their
+ * bytes, and the looks. At least 53 * k bytes and k ranges are lent; the ranges are free after an answer. Refusals 1, 2, 3, 7. */
+uint8_t label_book_complete(const uint8_t *book, size_t book_len, const uint8_t *prefix, size_t prefix_len, size_t k,
+                            uint8_t *dst, size_t dst_len, struct label_book_range *ranges, size_t ranges_len,
+                            size_t *offered, size_t *bytes, size_t *looks);
+
+/* The same from a trie, with no ranges; tells 0 looks. Refusals 1, 2, 3, 7. */
+uint8_t label_book_complete_trie(const uint8_t *trie, size_t trie_len, const uint8_t *prefix, size_t prefix_len, size_t k,
+                                 uint8_t *dst, size_t dst_len, size_t *offered, size_t *bytes, size_t *looks);
 
 #ifdef __cplusplus
 }

@@ -3,13 +3,28 @@ use Prim.Native.Nat.{ℕ}
 use mathlib.Core.Path.{_≡_}
 use mathlib.Core.List.{List}
 use Rattle.book.specs.Answers as answers
-use Rattle.book.specs.Answers.{Outcome}
+use Rattle.book.specs.Answers.{Offered, Outcome}
+use Rattle.completion.specs.Complete.{Completed, offeredOf}
+use Rattle.completion.specs.declared.Completion.{Completion}
+use Rattle.completion.specs.declared.Range.{Range}
+use Rattle.lent_queue.specs.Waiting.{CompletedOver}
 use Rattle.label_book.specs.Calls.{Answered, writtenOf}
 use Rattle.label_book.specs.declared.Written.{Written}
-use Rattle.exports.specs.Told.{Left, WrittenTold}
+use Rattle.exports.specs.Told.{Left, OfferedLeft, OfferedOver, OfferedTold, WrittenTold}
 
 -- every call that writes
 pub left :
     {o : Outcome answers.Written} {w : Written} {dst : List ℕ} {r e b : ℕ}
     → Answered o w dst → WrittenTold (writtenOf w) r e b → Left o r e b dst
 left a t = record { told = rw (← a .answer) t; dest = a .left }
+
+-- every completion
+pub offered-left :
+    {o : Outcome Offered} {w : Completion} {dst : List ℕ} {r n b l : ℕ}
+    → Completed o w dst → OfferedTold (offeredOf w) r n b l → OfferedLeft o r n b l dst
+offered-left a t = record { told = rw (← a .answer) t; dest = a .left }
+
+pub offered-over :
+    {o : Outcome Offered} {w : Completion} {dst : List ℕ} {xs ys : List Range} {r n b l : ℕ}
+    → CompletedOver o w dst xs ys → OfferedTold (offeredOf w) r n b l → OfferedOver o r n b l dst xs ys
+offered-over a t = record { left = offered-left (a .completed) t; lent = a .lent }

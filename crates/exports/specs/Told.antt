@@ -6,9 +6,11 @@ use mathlib.Core.List.{List}
 use mathlib.Core.Option.{Option, none, some}
 use lib.ListN.{drop, length, take}
 use Rattle.front_coding.specs.Records.{bucketSize}
-use Rattle.book.specs.Answers.{Answer, Outcome, Place, Span, Written, counts, noPlace, noSpan, noneWritten, number, onAnswer}
+use Rattle.book.specs.Answers.{Answer, Offered, Outcome, Place, Span, Written, counts, noPlace, noSpan, noneOffered, noneWritten, number, onAnswer}
 use Rattle.book.specs.Book.{inBook, isBook, layout21, offset}
 use Rattle.book.specs.Lookups.{headLength, headName}
+use Rattle.completion.specs.Complete.{Lent}
+use Rattle.completion.specs.declared.Range.{Range}
 
 -- the entries and bytes that a call reports
 pub record WrittenTold (a : Answer Written) (r e b : ℕ) : Type 0 where
@@ -20,6 +22,22 @@ pub record WrittenTold (a : Answer Written) (r e b : ℕ) : Type 0 where
 pub record Left (o : Outcome Written) (r e b : ℕ) (dst : List ℕ) : Type 0 where
   pub told : WrittenTold (o .answer) r e b
   pub dest : dst ≡ o .dest
+
+-- the same of a completion: the entries offered, the bytes written and the looks
+pub record OfferedTold (a : Answer Offered) (r n b l : ℕ) : Type 0 where
+  pub returned : r ≡ number a
+  pub offered : n ≡ counts noneOffered a .offered
+  pub bytes : b ≡ counts noneOffered a .bytes
+  pub looks : l ≡ counts noneOffered a .looks
+
+pub record OfferedLeft (o : Outcome Offered) (r n b l : ℕ) (dst : List ℕ) : Type 0 where
+  pub told : OfferedTold (o .answer) r n b l
+  pub dest : dst ≡ o .dest
+
+-- and of one that is lent the ranges xs, which are then ys
+pub record OfferedOver (o : Outcome Offered) (r n b l : ℕ) (dst : List ℕ) (xs ys : List Range) : Type 0 where
+  pub left : OfferedLeft o r n b l dst
+  pub lent : Lent (o .answer) xs ys
 
 -- finding as C gets it: whether there is a place, 1 or 0, and the place, zeros where there is none
 abbrev pub isThere : Option Place → ℕ

@@ -1,11 +1,14 @@
 // The label book for C: each call of the front door under a C name (include/label_book.h). A call returns 0 or the refusal's number, and
 // tells its counts through pointers, all of them 0 with a refusal.
 ghost use mathlib.Core.Path.{_≡_};
+ghost use lib.ListN.{length};
 ghost use Rattle.book.specs.Lookups.{find, nameAt, nameAtByName, prefixRange};
 ghost use Rattle.edits.specs.Edits.{emptyBook, setEntry, withdraw};
 ghost use Rattle.sheet.specs.Sheet.{buildBook, listBook};
+ghost use Rattle.completion.specs.Complete.{completeBook, offeredOf};
+ghost use Rattle.trie.specs.Calls.{completeTrie, writeTrie};
 ghost use Rattle.label_book.specs.Calls.{foundOf, spanOf, writtenOf};
-ghost use Rattle.exports.specs.Told.{FoundTold, HasBucket, HeadTold, Left, SpanTold, WrittenTold, headAt};
+ghost use Rattle.exports.specs.Told.{FoundTold, HasBucket, HeadTold, Left, OfferedLeft, OfferedOver, OfferedTold, SpanTold, WrittenTold, headAt};
 
 // Tells what was written.
 fn tell_written(w: label_book::Written, entries: &mut usize, bytes: &mut usize) -> u8
@@ -21,6 +24,33 @@ fn tell_written(w: label_book::Written, entries: &mut usize, bytes: &mut usize) 
         } => {
             *entries = e;
             *bytes = b;
+            0
+        }
+    }
+}
+
+// Tells what was offered.
+fn tell_offered(
+    w: completion::Completion,
+    offered: &mut usize,
+    bytes: &mut usize,
+    looks: &mut usize,
+) -> u8
+    ensures { λ r. ⌜ OfferedTold (offeredOf w) r (now (offered .exit)) (now (bytes .exit)) (now (looks .exit)) ⌝ }
+{
+    *offered = 0;
+    *bytes = 0;
+    *looks = 0;
+    match w {
+        completion::Completion::Refused(n) => n,
+        completion::Completion::Offered {
+            offered: k,
+            bytes: b,
+            looks: l,
+        } => {
+            *offered = k;
+            *bytes = b;
+            *looks = l;
             0
         }
     }
@@ -155,6 +185,19 @@ pub extern "C" fn label_book_list(
     tell_written(label_book::list(book, dst), entries, bytes)
 }
 
+// Writes the trie of a book.
+#[no_mangle]
+pub extern "C" fn label_book_write_trie(
+    book: &[u8],
+    dst: &mut [u8],
+    entries: &mut usize,
+    bytes: &mut usize,
+) -> u8
+    ensures { λ r. ⌜ Left (writeTrie (now (book .entry)) (now (dst .entry))) r (now (entries .exit)) (now (bytes .exit)) (now (dst .exit)) ⌝ }
+{
+    tell_written(label_book::write_trie(book, dst), entries, bytes)
+}
+
 // The position and score of a name, or that it is absent.
 #[no_mangle]
 pub extern "C" fn label_book_find(
@@ -211,4 +254,43 @@ pub extern "C" fn label_book_head(
             0
         }
     }
+}
+
+// Completion from a book, whose open ranges wait in lent ones.
+#[no_mangle]
+pub extern "C" fn label_book_complete(
+    book: &[u8],
+    prefix: &[u8],
+    k: usize,
+    dst: &mut [u8],
+    ranges: &mut [completion::Range],
+    offered: &mut usize,
+    bytes: &mut usize,
+    looks: &mut usize,
+) -> u8
+    ensures { λ r. ⌜ OfferedOver (completeBook (now (book .entry)) (now (prefix .entry)) k (now (dst .entry)) (length (now (ranges .entry)))) r (now (offered .exit)) (now (bytes .exit)) (now (looks .exit)) (now (dst .exit)) (now (ranges .entry)) (now (ranges .exit)) ⌝ }
+{
+    let answer = label_book::complete(book, prefix, k, dst, ranges);
+    tell_offered(answer, offered, bytes, looks)
+}
+
+// Completion from a trie.
+#[no_mangle]
+pub extern "C" fn label_book_complete_trie(
+    trie: &[u8],
+    prefix: &[u8],
+    k: usize,
+    dst: &mut [u8],
+    offered: &mut usize,
+    bytes: &mut usize,
+    looks: &mut usize,
+) -> u8
+    ensures { λ r. ⌜ OfferedLeft (completeTrie (now (trie .entry)) (now (prefix .entry)) k (now (dst .entry))) r (now (offered .exit)) (now (bytes .exit)) (now (looks .exit)) (now (dst .exit)) ⌝ }
+{
+    tell_offered(
+        label_book::complete_trie(trie, prefix, k, dst),
+        offered,
+        bytes,
+        looks,
+    )
 }
