@@ -181,13 +181,15 @@ fn take_name(book: &[u8], n: usize, p: panel::Panel) -> panel::Panel
     if p.rows == 0 {
         return p;
     }
+    let row = p.highlight;
     let len = p.len;
     let text = p.text;
     let s = book_complete::offers(book, n, &text[..len], 5);
     let offered = s.offered;
-    let c = book_find::cursor_at(book, n, offered[p.highlight]);
+    let c = book_find::cursor_at(book, n, offered[row]);
+    let name = c.name;
     panel::Panel {
-        text: c.name,
+        text: name,
         len: c.len,
         highlight: 0,
         rows: p.rows,
