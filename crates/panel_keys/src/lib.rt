@@ -252,3 +252,12 @@ pub fn step_in(book: &[u8], p: panel::Panel, key: u8) -> Done
         answer: Pressed::Rows(after.rows),
     }
 }
+
+// A key: the lent panel is updated in place.
+pub fn press(book: &[u8], panel: &mut panel::Panel, key: u8) -> Pressed
+    ensures { λ r. ⌜ PressedAs (press (now (book .entry)) (now (panel .entry)) key) r (now (panel .exit)) ⌝ }
+{
+    let done = step_in(book, *panel, key);
+    *panel = done.panel;
+    done.answer
+}
