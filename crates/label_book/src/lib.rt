@@ -15,6 +15,8 @@ ghost use Rattle.book.specs.Lookups.{find, foundIn, headLength, headName, nameA
 ghost use Rattle.edits.specs.Edits.{emptyBook, setEntry, withdraw};
 ghost use Rattle.edits.specs.Splice.{Spliced, result};
 ghost use Rattle.sheet.specs.Sheet.{buildBook, listBook};
+ghost use Rattle.panel.specs.Panel.{press};
+ghost use Rattle.panel_keys.specs.Keys.{PressedAs};
 ghost use Rattle.label_book.specs.Calls.{Answered, foundOf, lengthOf, oneEntry, placeAs, spanOf, wholeBook};
 
 // What a call that writes a book, a sheet or an entry reports.
@@ -306,4 +308,13 @@ pub fn list(book: &[u8], dst: &mut [u8]) -> Written
         entries: n,
         bytes: total,
     }
+}
+
+// A key of the panel: the lent state is updated in place.
+pub fn press(book: &[u8], panel: &mut panel::Panel, key: u8) -> panel_keys::Pressed
+    ensures { λ r. ⌜ PressedAs (press (now (book .entry)) (now (panel .entry)) key) r (now (panel .exit)) ⌝ }
+{
+    let done = panel_keys::step_in(book, *panel, key);
+    *panel = done.panel;
+    done.answer
 }

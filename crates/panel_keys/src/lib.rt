@@ -1,4 +1,4 @@
-// The panel's keys: a covered core by value, then the state lent and updated in place.
+// The panel's keys, over a panel by value.
 ghost use mathlib.Core.Path.{_≡_};
 ghost use mathlib.Core.Bool.{true};
 ghost use Prim.Native.Nat.{_<_, _≤_, _-_, min};
@@ -251,13 +251,4 @@ pub fn step_in(book: &[u8], p: panel::Panel, key: u8) -> Done
         panel: after,
         answer: Pressed::Rows(after.rows),
     }
-}
-
-// A key: the lent panel is updated in place.
-pub fn press(book: &[u8], panel: &mut panel::Panel, key: u8) -> Pressed
-    ensures { λ r. ⌜ PressedAs (press (now (book .entry)) (now (panel .entry)) key) r (now (panel .exit)) ⌝ }
-{
-    let done = step_in(book, *panel, key);
-    *panel = done.panel;
-    done.answer
 }

@@ -1,4 +1,4 @@
--- `panel_keys::press` meets its contract: a walk of its MIR, by hand. The borrow is opened, the panel is copied out and passed to `step_in`, the panel that `step_in` returned is stored in its place, and the borrow is closed at it.
+-- `label_book::press` meets its contract: a walk of its MIR, by hand. The borrow is opened, the panel is copied out and passed to `step_in`, the panel that `step_in` returned is stored in its place, and the borrow is closed at it.
 -- All that it knows of `step_in` is that it meets its contract.
 -- Assumes nothing.
 use mathlib.Core.Path.{_≡_, refl, ap}
@@ -44,23 +44,23 @@ use denote.Triple.Clauses.{ensured, lasts}
 use denote.Exit.{yes}
 use Rattle.panel.specs.declared.Panel.{Panel}
 use Rattle.panel.specs.Panel.{press as pressOf}
 use Rattle.panel_keys.specs.declared.Done.{Done}
 use Rattle.panel_keys.specs.declared.Pressed.{Pressed}
 use Rattle.panel_keys.specs.Keys.{PressedAs}
 use Rattle.panel.proofs.Panel as P
 use Rattle.panel.proofs.Panel.Laws as P′
 use Rattle.panel_keys.proofs.Done as D
 use Rattle.panel_keys.proofs.Done.Laws as D′
 use Rattle.panel_keys.proofs.Pressed as S
 use Rattle.panel_keys.proofs.Pressed.Laws as S′
 use Rattle.panel_keys.proofs.step_in as step
 use Rattle.panel_keys.proofs.step_in.Symbol as step-def
 use Rattle.panel_keys.proofs.step_in.Symbol.{name as #step-in}
 use Rattle.panel_keys.proofs.step_in.Met as step-thm
-use Rattle.panel_keys.proofs.press.Key.{name as #press}
-use Rattle.panel_keys.proofs.press as press
-use Rattle.panel_keys.proofs.press.Statement as stated
-use Rattle.panel_keys.proofs.press.Code as code
+use Rattle.label_book.proofs.press.Key.{name as #press}
+use Rattle.label_book.proofs.press as press
+use Rattle.label_book.proofs.press.Statement as stated
+use Rattle.label_book.proofs.press.Code as code
 
 abbrev Arg : Type 0
 Arg = RefT (List ℕ) × (RefT Panel × (ℕ × Unit {0}))
