@@ -18,6 +18,8 @@ ghost use Rattle.sheet.specs.Sheet.{buildBook, listBook};
 ghost use Rattle.trie.specs.Calls.{completeTrie, writeTrie};
 ghost use Rattle.completion.specs.Complete.{Completed, completeBook};
 ghost use Rattle.lent_queue.specs.Waiting.{CompletedOver};
+ghost use Rattle.panel.specs.Panel.{press};
+ghost use Rattle.panel_keys.specs.Keys.{PressedAs};
 ghost use Rattle.label_book.specs.Calls.{Answered, checkBook, checkedOf, foundOf, lengthOf, oneEntry, placeAs, spanOf, wholeBook};
 
 // What a call that writes a book, a sheet or an entry reports.
@@ -362,4 +364,13 @@ pub fn complete_trie(trie: &[u8], prefix: &[u8], k: usize, dst: &mut [u8]) -> co
     ensures { λ r. ⌜ Completed (completeTrie (now (trie .entry)) (now (prefix .entry)) k (now (dst .entry))) r (now (dst .exit)) ⌝ }
 {
     trie_complete::complete_trie(trie, prefix, k, dst)
+}
+
+// A key of the panel: the lent state is updated in place.
+pub fn press(book: &[u8], panel: &mut panel::Panel, key: u8) -> panel_keys::Pressed
+    ensures { λ r. ⌜ PressedAs (press (now (book .entry)) (now (panel .entry)) key) r (now (panel .exit)) ⌝ }
+{
+    let done = panel_keys::step_in(book, *panel, key);
+    *panel = done.panel;
+    done.answer
 }

@@ -2,7 +2,7 @@
 use Prim.Native.Nat.{_+_, _-_, min, ℕ}
 use mathlib.Core.Bool.{Bool, _&&_, _||_, not}
 use mathlib.Core.List.{List, [], _++_, _∷_}
-use lib.Dec.{eqb, leb, ltb}
+use lib.Dec.{eqb, leb}
 use lib.ListN.{length, replicate, take}
 use Rattle.octets.specs.Lists.{any, if_then_else_}
 use Rattle.entries.specs.Completion.{completion}
@@ -10,13 +10,7 @@ use Rattle.entries.specs.Entries.{Entry, at}
 use Rattle.entries.specs.Names.{isPrefix, longestName}
 use Rattle.book.specs.Answers.{Answer, _when_, onAnswer, unless}
 use Rattle.book.specs.Book.{inBook, isBook}
-
--- the lent state: 48 bytes of text of which the first `len` are typed, the highlighted row, the rows
-pub record Panel : Type 0 where
-  pub text : List ℕ
-  pub len : ℕ
-  pub highlight : ℕ
-  pub rows : ℕ
+use Rattle.panel.specs.declared.Panel.{Panel}
 
 -- what a key works on: the typed text and the highlighted row
 pub record Typing : Type 0 where
@@ -44,20 +38,35 @@ appends key = leb 0x20 key && leb key 0x7E
 abbrev pub isListed : ℕ → Bool
 isListed key = appends key || any (eqb key) (0x08 ∷ 0x01 ∷ 0x02 ∷ 0x0D ∷ 0x00 ∷ [])
 
--- what a listed key does to the text and the row, once the row is lowered
+-- append a byte
+abbrev pub appended : ℕ → Typing → Typing
+appended key t = typing (t .typed ++ (key ∷ [])) 0
+
+-- erase the last byte, if there is one
+abbrev pub erased : Typing → Typing
+erased t = if eqb (length (t .typed)) 0 then t else typing (take (length (t .typed) - 1) (t .typed)) 0
+
+-- up and down, stopping at the ends
+abbrev pub raised : Typing → Typing
+raised t = typing (t .typed) (t .row - 1)
+
+abbrev pub movedDown : List Entry → Typing → Typing
+movedDown es t = typing (t .typed) (min (t .row + 1) (length (offeredFor es (t .typed)) - 1))
+
+-- take the highlighted name, if there are rows
+abbrev pub nameTaken : List Entry → Typing → Typing
+nameTaken es t =
+    let offered = offeredFor es (t .typed) in
+    if eqb (length offered) 0 then t else typing (at offered (t .row) .name) 0
+
+-- what a listed key does to the text and the row, once the row is lowered; 00 only recounts
 unfoldable pub acts : List Entry → ℕ → Typing → Typing
 acts es key t =
-    let offered = offeredFor es (t .typed) in
-    -- append
-    if appends key then typing (t .typed ++ (key ∷ [])) 0
-    -- erase the last byte
-    else if eqb key 0x08 then (if eqb (length (t .typed)) 0 then t else typing (take (length (t .typed) - 1) (t .typed)) 0)
-    -- up, down
-    else if eqb key 0x01 then typing (t .typed) (t .row - 1)
-    else if eqb key 0x02 then typing (t .typed) (min (t .row + 1) (length offered - 1))
-    -- take the highlighted name
-    else if eqb key 0x0D then (if eqb (length offered) 0 then t else typing (at offered (t .row) .name) 0)
-    -- 00: only recount
+    if appends key then appended key t
+    else if eqb key 0x08 then erased t
+    else if eqb key 0x01 then raised t
+    else if eqb key 0x02 then movedDown es t
+    else if eqb key 0x0D then nameTaken es t
     else t
 
 -- the state afterwards: bytes past the text are zero, the rows are counted
@@ -74,20 +83,28 @@ panelOf es t =
 abbrev pub typedIn : Panel → List ℕ
 typedIn p = take (p .len) (p .text)
 
+-- what a panel holds for a key to work on
+abbrev pub typingIn : Panel → Typing
+typingIn p = typing (typedIn p) (p .highlight)
+
+-- the length is not over 48, and every byte within it is allowed
+abbrev pub isTyped : Panel → Bool
+isTyped p = leb (p .len) longestName && isPrefix (typedIn p)
+
 -- an answer, the number of rows, and the panel afterwards
-pub record Pressed : Type 0 where
+pub record AfterKey : Type 0 where
   pub answer : Answer ℕ
   pub panel : Panel
 
 -- a key: rows are counted and the highlight lowered before it acts and after
-unfoldable pub press : List ℕ → Panel → ℕ → Pressed
+unfoldable pub press : List ℕ → Panel → ℕ → AfterKey
 press book p key =
     let es = inBook book in
-    let new = panelOf es (lowered es (acts es key (lowered es (typing (typedIn p) (p .highlight))))) in
+    let new = panelOf es (lowered es (acts es key (lowered es (typingIn p)))) in
     let answer =
     unless
     (1 when not (isBook book)
-    ∷ 2 when (ltb longestName (p .len) || not (isPrefix (typedIn p)))
+    ∷ 2 when not (isTyped p)
     ∷ 8 when not (isListed key)
     ∷ 9 when (appends key && leb longestName (p .len))
     ∷ [])

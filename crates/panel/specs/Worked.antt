@@ -13,7 +13,8 @@ use Rattle.front_coding.specs.Records.{recordLength, recordName, recordOf}
 use Rattle.book.specs.Book.{bookImage, entriesIn, imageIn, offset, offsets, peak, peaks, readBook, readIn, recordsAt, scores}
 use Rattle.book.specs.Frame.{countOf, framed, readAs}
 use Rattle.book.specs.Shown.{P1, P3, changed, letters, shownLength, spare}
-use Rattle.panel.specs.Panel.{Panel, acts, lowered, panelOf, press}
+use Rattle.panel.specs.declared.Panel.{Panel}
+use Rattle.panel.specs.Panel.{acts, lowered, panelOf, press}
 
 -- a panel before a key: the typed text, bytes that are not read behind it, the highlighted row, rows that are not read
 abbrev before : List ℕ → ℕ → Panel

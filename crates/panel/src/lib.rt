@@ -1,1 +1,9 @@
-// Definitions in specs/, laws in proofs/; no functions.
+// The panel's typing state. The rest of this crate is definitions and laws.
+
+// 48 bytes of text of which the first `len` are typed, the highlighted row, the rows.
+pub struct Panel {
+    pub text: [u8; 48],
+    pub len: usize,
+    pub highlight: usize,
+    pub rows: usize,
+}

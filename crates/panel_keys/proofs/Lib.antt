@@ -1,0 +1,3 @@
+pub mod Typing
+pub mod Rows
+pub mod Pressing
