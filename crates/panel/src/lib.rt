@@ -1,6 +1,7 @@
 // The panel's typing state. The rest of this crate is definitions and laws.
 
 // 48 bytes of text of which the first `len` are typed, the highlighted row, the rows.
+#[repr(C)]
 pub struct Panel {
     pub text: [u8; 48],
     pub len: usize,
