@@ -181,12 +181,12 @@ fn take_name(book: &[u8], n: usize, p: panel::Panel) -> panel::Panel
     if p.rows == 0 {
         return p;
     }
-    let row = p.highlight;
+    let chosen = p.highlight;
     let len = p.len;
     let text = p.text;
     let s = book_complete::offers(book, n, &text[..len], 5);
     let offered = s.offered;
-    let c = book_find::cursor_at(book, n, offered[row]);
+    let c = book_find::cursor_at(book, n, offered[chosen]);
     let name = c.name;
     panel::Panel {
         text: name,
@@ -229,7 +229,7 @@ fn refuse(p: panel::Panel, number: u8) -> Done
     }
 }
 
-// A key, over a panel by value: the checks in the table's order, then the rows counted, the key's act, and the rows counted again.
+// A key, over a panel by value: the checks in the table's order, the rows counted before the key acts and again after.
 pub fn step_in(book: &[u8], p: panel::Panel, key: u8) -> Done
     ensures { λ r. ⌜ PressedAs (press (now (book .entry)) p key) (r .answer) (r .panel) ⌝ }
 {
@@ -242,10 +242,10 @@ pub fn step_in(book: &[u8], p: panel::Panel, key: u8) -> Done
     if !is_listed(key) {
         return refuse(p, 8);
     }
+    let before = settle(book, n, p);
     if is_full(p, key) {
         return refuse(p, 9);
     }
-    let before = settle(book, n, p);
     let after = settle(book, n, act(book, n, before, key));
     Done {
         panel: after,

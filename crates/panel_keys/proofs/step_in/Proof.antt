@@ -26,7 +26,10 @@ typed e = sym (e .before .is-typed .ensures) ∙ not-false (e .before .is-typed 
 listed : (e : tie.Else2) → isListed (start (e .before .before .before) .args .key) ≡ true
 listed e = sym (e .before .is-listed .ensures) ∙ not-false (e .before .is-listed .result) (e .if2 .left)
 
-room : (e : tie.Else3) → isFull (start (e .before .before .before .before .before) .args .p) (start (e .before .before .before .before .before) .args .key) ≡ false
+abbrev passed : tie.Else3 → tie.Else2
+passed e = e .before .before .before
+
+room : (e : tie.Else3) → isFull (start (passed e .before .before .before) .args .p) (start (passed e .before .before .before) .args .key) ≡ false
 room e = sym (e .before .is-full .ensures) ∙ e .if3 .left
 
 check-requires : tie.Need-check-requires
@@ -79,6 +82,9 @@ returns-3 c =
     refused-as (z .args .book .now) (z .args .p) (z .args .key) 8 (c .refuse3 .ensures)
     (rw (held (e .before) .isIt, typed e, sym (l .is-listed .ensures) ∙ not-true (l .is-listed .result) (t .if2 .taken)))
 
+settle-requires : tie.Need-settle-requires
+settle-requires c κs = let e = c .before .before in (held (e .before), typed-short (start (e .before) .args .p) (typed e))
+
 is-full-requires : tie.Need-is-full-requires
 is-full-requires c κs = tt
 
@@ -90,36 +96,31 @@ unfolding press
 returns-4 c =
     let t = c .before in
     let f = t .before in
-    let e = f .before .before .before in
+    let l = f .before .before in
+    let e = l .before .before in
     let z = start (e .before) in
     refused-as (z .args .book .now) (z .args .p) (z .args .key) 9 (c .refuse4 .ensures)
-    (rw (held (e .before) .isIt, typed e, listed (f .before), sym (f .is-full .ensures) ∙ t .if3 .taken))
-
-settle-requires : tie.Need-settle-requires
-settle-requires c κs =
-    let e = c .before .before .before .before in (held (e .before), typed-short (start (e .before) .args .p) (typed e))
+    (rw (held (e .before) .isIt, typed e, listed l, sym (f .is-full .ensures) ∙ t .if3 .taken))
 
 act-requires : tie.Need-act-requires
 act-requires c κs =
-    let f = c .before in
-    let e = f .before .before .before .before in
+    let e = passed c .before .before in
     let z = start (e .before) in
-    let r = act-ready (inBook (z .args .book .now)) (z .args .p) (z .args .key) (typed-short (z .args .p) (typed e)) (room f) (c .settle .ensures) in
+    let r = act-ready (inBook (z .args .book .now)) (z .args .p) (z .args .key) (typed-short (z .args .p) (typed e)) (room c) (c .before .before .settle .ensures) in
     (held (e .before), r .0, r .1)
 
 settle-requires-2 : tie.Need-settle-requires-2
-settle-requires-2 c κs =
-    let e = c .before .before .before .before .before .before in (held (e .before), c .act .ensures .short)
+settle-requires-2 c κs = (held (passed (c .before) .before .before .before), c .act .ensures .short)
 
 returns-5 : tie.Need-returns-5
 returns-5 c =
     let a = c .before in
-    let f = a .before .before in
-    let l = f .before .before in
+    let f = a .before in
+    let l = passed f in
     let e = l .before .before in
     let z = start (e .before) in
     accepted (z .args .book .now) (z .args .p) (a .act .result) (z .args .key) (held (e .before) .isIt) (typed e) (listed l) (room f)
-    (a .before .settle .ensures) (a .act .ensures) (c .settle2 .ensures)
+    (f .before .before .settle .ensures) (a .act .ensures) (c .settle2 .ensures)
 
 pub step-in-spec : {M : Type 1} → statement M
 step-in-spec =
@@ -136,10 +137,10 @@ step-in-spec =
     is-listed-requires
     refuse-requires-3
     returns-3
+    settle-requires
     is-full-requires
     refuse-requires-4
     returns-4
-    settle-requires
     act-requires
     settle-requires-2
     returns-5)
