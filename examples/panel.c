@@ -1,6 +1,6 @@
 /*
- * A term's first lesson, on the label book's C calls: a teacher starts a book and edits it, a student types the start of a name, the teacher
- * keeps the book as a sheet. Build and run it with examples/run-c; examples/panel.rs is the same in Rust.
+ * A term's first lesson, on the label book's C calls: a teacher starts a book and edits it, a student types the start of a name and takes one
+ * that is offered, the teacher keeps the book as a sheet. Build and run it with examples/run-c; examples/panel.rs is the same in Rust.
  */
 #include <stdio.h>
 #include <stdlib.h>
@@ -13,6 +13,12 @@ enum { ROOM = 57344 };
 
 /* The longest entry: a length byte, 48 bytes of name, a 4-byte score. */
 enum { ENTRY = 53 };
+
+/* The panel offers up to five names. */
+enum { ROWS = 5 };
+
+/* The keys that are no letters. */
+enum { RECOUNT = 0x00, UP = 0x01, DOWN = 0x02, ERASE = 0x08, TAKE = 0x0D };
 
 /* Two buffers. The book stands in one of them; an edit reads it there and writes the new book into the other. */
 struct bench {
@@ -35,6 +41,8 @@ static const char *reason(uint8_t number) {
     case 5: return "the book is full";
     case 6: return "the book has no such position";
     case 7: return "the buffer is too short";
+    case 8: return "the panel has no such key";
+    case 9: return "there is no room for another letter";
     default: return "not a refusal of these calls";
     }
 }
@@ -70,25 +78,40 @@ static void withdraw(struct bench *b, const char *name) {
     edited(b, number, entries, bytes);
 }
 
-/* Prints an entry as the calls write it: length byte, name, and the score with its highest byte first. */
-static void print_entry(const uint8_t *entry) {
+/* Prints an entry as the calls write it: length byte, name, and the score with its highest byte first. Gives where it ends. */
+static const uint8_t *print_entry(const uint8_t *entry) {
     size_t length = entry[0];
     const uint8_t *s = entry + 1 + length;
     uint32_t score = (uint32_t)s[0] << 24 | (uint32_t)s[1] << 16 | (uint32_t)s[2] << 8 | s[3];
-    printf("  %.*s  %u\n", (int)length, (const char *)entry + 1, (unsigned)score);
+    printf("%.*s  %u\n", (int)length, (const char *)entry + 1, (unsigned)score);
+    return s + 4;
 }
 
-/* What the panel shows for a typed text: how many names it begins, and these names in name order. */
-static void show_rows(const struct bench *b, const uint8_t *text, size_t length) {
-    size_t first, count;
-    must(label_book_prefix_range(book(b), ROOM, text, length, &first, &count), "label_book_prefix_range");
-    printf("typed \"%.*s\": %zu\n", (int)length, (const char *)text, count);
-    for (size_t i = 0; i < count; i++) {
-        uint8_t entry[ENTRY];
-        size_t entries, bytes;
-        must(label_book_name_at(book(b), ROOM, first + i, entry, sizeof entry, &entries, &bytes), "label_book_name_at");
-        print_entry(entry);
+/* What the panel shows: the best names that the typed text begins, the highlighted one marked. */
+static void show_rows(const struct bench *b, const struct label_book_panel *panel) {
+    uint8_t answer[ROWS * ENTRY];
+    struct label_book_range ranges[ROWS];
+    size_t offered, bytes, looks;
+    must(label_book_complete(book(b), ROOM, panel->text, panel->len, ROWS, answer, sizeof answer, ranges, ROWS, &offered, &bytes, &looks),
+         "label_book_complete");
+    const uint8_t *entry = answer;
+    for (size_t row = 0; row < offered; row++) {
+        printf("  %c ", row == panel->highlight ? '>' : ' ');
+        entry = print_entry(entry);
     }
+}
+
+/* One key. After a refusal the panel is as it was, and the student goes on typing. */
+static void press(const struct bench *b, struct label_book_panel *panel, uint8_t key) {
+    size_t rows;
+    uint8_t number = label_book_press(book(b), ROOM, panel, key, &rows);
+    printf("key %02X: ", (unsigned)key);
+    if (number != 0) {
+        printf("declined, %u: %s\n", (unsigned)number, reason(number));
+        return;
+    }
+    printf("typed \"%.*s\", %zu offered\n", (int)panel->len, (const char *)panel->text, rows);
+    show_rows(b, panel);
 }
 
 /* The teacher: a new book, four set-ups, a better score, and two slips that the book declines without harm. */
@@ -107,19 +130,20 @@ static void edit(struct bench *b) {
     withdraw(b, "ac");
 }
 
-/* The student: types two letters and takes the name that they have come to. */
-static void type(const struct bench *b) {
-    const char *keys = "rc";
-    uint8_t text[48];
-    size_t length = 0;
-    for (const char *key = keys; *key != 0; key++) {
-        text[length++] = (uint8_t)*key;
-        show_rows(b, text, length);
-    }
+/* The student: types a letter, moves down, slips once, and takes a name. Meanwhile the teacher withdraws one that is offered. */
+static void type(struct bench *b) {
+    struct label_book_panel panel = {0};
+    press(b, &panel, 'r');
+    press(b, &panel, DOWN);
+    press(b, &panel, DOWN);
+    press(b, &panel, 0x7F);
+    withdraw(b, "rl");
+    press(b, &panel, RECOUNT);
+    press(b, &panel, TAKE);
     size_t found, position;
     uint32_t score;
-    must(label_book_find(book(b), ROOM, text, length, &found, &position, &score), "label_book_find");
-    if (found != 0) printf("loaded \"%.*s\" with score %u\n", (int)length, (const char *)text, (unsigned)score);
+    must(label_book_find(book(b), ROOM, panel.text, panel.len, &found, &position, &score), "label_book_find");
+    if (found != 0) printf("loaded \"%.*s\" with score %u\n", (int)panel.len, (const char *)panel.text, (unsigned)score);
 }
 
 /* The teacher again: the book as a plain sheet, and a book built from the sheet, which is the same book byte for byte. */

@@ -1,17 +1,36 @@
-//! A term's first lesson, on the label book's C calls: a teacher starts a book and edits it, a student types the start of a name, the teacher
-//! keeps the book as a sheet. Build and run it with examples/run-rust; examples/panel.c is the same in C.
+//! A term's first lesson, on the label book's C calls: a teacher starts a book and edits it, a student types the start of a name and takes one
+//! that is offered, the teacher keeps the book as a sheet. Build and run it with examples/run-rust; examples/panel.c is the same in C.
 use std::process::exit;
 
 /// The calls as include/label_book.h declares them.
 mod c {
+    /// What is typed, and the highlighted row of the names offered for it.
+    #[repr(C)]
+    pub struct Panel {
+        pub text: [u8; 48],
+        pub len: usize,
+        pub highlight: usize,
+        pub rows: usize,
+    }
+
+    /// An open range, in which completion keeps where it looks on.
+    #[repr(C)]
+    #[derive(Clone, Copy, Default)]
+    pub struct Range {
+        pub first: usize,
+        pub best: usize,
+        pub score: u32,
+        pub last: usize,
+    }
+
     #[rustfmt::skip]
     extern "C" {
         pub fn label_book_empty(dst: *mut u8, dst_len: usize, entries: *mut usize, bytes: *mut usize) -> u8;
         pub fn label_book_set(book: *const u8, book_len: usize, name: *const u8, name_len: usize, score: u32, dst: *mut u8, dst_len: usize, entries: *mut usize, bytes: *mut usize) -> u8;
         pub fn label_book_withdraw(book: *const u8, book_len: usize, name: *const u8, name_len: usize, dst: *mut u8, dst_len: usize, entries: *mut usize, bytes: *mut usize) -> u8;
         pub fn label_book_find(book: *const u8, book_len: usize, name: *const u8, name_len: usize, found: *mut usize, position: *mut usize, score: *mut u32) -> u8;
-        pub fn label_book_name_at(book: *const u8, book_len: usize, position: usize, dst: *mut u8, dst_len: usize, entries: *mut usize, bytes: *mut usize) -> u8;
-        pub fn label_book_prefix_range(book: *const u8, book_len: usize, prefix: *const u8, prefix_len: usize, first: *mut usize, count: *mut usize) -> u8;
+        pub fn label_book_complete(book: *const u8, book_len: usize, prefix: *const u8, prefix_len: usize, k: usize, dst: *mut u8, dst_len: usize, ranges: *mut Range, ranges_len: usize, offered: *mut usize, bytes: *mut usize, looks: *mut usize) -> u8;
+        pub fn label_book_press(book: *const u8, book_len: usize, panel: *mut Panel, key: u8, rows: *mut usize) -> u8;
         pub fn label_book_build(sheet: *const u8, sheet_len: usize, dst: *mut u8, dst_len: usize, entries: *mut usize, bytes: *mut usize) -> u8;
         pub fn label_book_list(book: *const u8, book_len: usize, dst: *mut u8, dst_len: usize, entries: *mut usize, bytes: *mut usize) -> u8;
     }
@@ -60,13 +79,35 @@ mod label_book {
         }
     }
 
-    pub fn name_at(book: &[u8], position: usize, dst: &mut [u8]) -> Counts {
-        counts(|a, b| unsafe { c::label_book_name_at(book.as_ptr(), book.len(), position, dst.as_mut_ptr(), dst.len(), a, b) })
+    /// The number offered, which stand at the front of the destination.
+    pub fn complete(book: &[u8], prefix: &[u8], k: usize, dst: &mut [u8], ranges: &mut [c::Range]) -> Result<usize, u8> {
+        let mut looks = 0;
+        let told = counts(|a, b| unsafe {
+            c::label_book_complete(
+                book.as_ptr(),
+                book.len(),
+                prefix.as_ptr(),
+                prefix.len(),
+                k,
+                dst.as_mut_ptr(),
+                dst.len(),
+                ranges.as_mut_ptr(),
+                ranges.len(),
+                a,
+                b,
+                &mut looks,
+            )
+        });
+        told.map(|(offered, _)| offered)
     }
 
-    /// First position and count.
-    pub fn prefix_range(book: &[u8], prefix: &[u8]) -> Counts {
-        counts(|a, b| unsafe { c::label_book_prefix_range(book.as_ptr(), book.len(), prefix.as_ptr(), prefix.len(), a, b) })
+    /// The rows.
+    pub fn press(book: &[u8], panel: &mut c::Panel, key: u8) -> Result<usize, u8> {
+        let mut rows = 0;
+        match unsafe { c::label_book_press(book.as_ptr(), book.len(), panel, key, &mut rows) } {
+            0 => Ok(rows),
+            number => Err(number),
+        }
     }
 
     pub fn build(sheet: &[u8], dst: &mut [u8]) -> Counts {
@@ -84,6 +125,14 @@ const ROOM: usize = 57_344;
 /// The longest entry: a length byte, 48 bytes of name, a 4-byte score.
 const ENTRY: usize = 53;
 
+/// The panel offers up to five names.
+const ROWS: usize = 5;
+
+/// The keys that are no letters; 01 moves up and 08 erases.
+const RECOUNT: u8 = 0x00;
+const DOWN: u8 = 0x02;
+const TAKE: u8 = 0x0D;
+
 /// What a teacher reads for the number of a refusal.
 fn reason(number: u8) -> &'static str {
     match number {
@@ -93,6 +142,8 @@ fn reason(number: u8) -> &'static str {
         5 => "the book is full",
         6 => "the book has no such position",
         7 => "the buffer is too short",
+        8 => "the panel has no such key",
+        9 => "there is no room for another letter",
         _ => "not a refusal of these calls",
     }
 }
@@ -139,23 +190,37 @@ impl Bench {
         self.edited(told);
     }
 
-    /// What the panel shows for a typed text: how many names it begins, and these names in name order.
-    fn show_rows(&self, typed: &[u8]) {
-        let (first, count) = must(label_book::prefix_range(&self.book, typed), "prefix_range");
-        println!("typed \"{}\": {count}", text(typed));
-        for position in first..first + count {
-            let mut entry = [0; ENTRY];
-            must(label_book::name_at(&self.book, position, &mut entry), "name_at");
-            print_entry(&entry);
+    /// What the panel shows: the best names that the typed text begins, the highlighted one marked.
+    fn show_rows(&self, panel: &c::Panel) {
+        let (mut answer, mut ranges) = ([0; ROWS * ENTRY], [c::Range::default(); ROWS]);
+        let typed = &panel.text[..panel.len];
+        let offered = must(label_book::complete(&self.book, typed, ROWS, &mut answer, &mut ranges), "complete");
+        let mut entries = &answer[..];
+        for row in 0..offered {
+            print!("  {} ", if row == panel.highlight { '>' } else { ' ' });
+            entries = print_entry(entries);
+        }
+    }
+
+    /// One key. After a refusal the panel is as it was, and the student goes on typing.
+    fn press(&self, panel: &mut c::Panel, key: u8) {
+        print!("key {key:02X}: ");
+        match label_book::press(&self.book, panel, key) {
+            Ok(rows) => {
+                println!("typed \"{}\", {rows} offered", text(&panel.text[..panel.len]));
+                self.show_rows(panel);
+            }
+            Err(number) => println!("declined, {number}: {}", reason(number)),
         }
     }
 }
 
-/// Prints an entry as the calls write it: length byte, name, and the score with its highest byte first.
-fn print_entry(entry: &[u8]) {
+/// Prints an entry as the calls write it: length byte, name, and the score with its highest byte first. Gives what stands behind it.
+fn print_entry(entry: &[u8]) -> &[u8] {
     let (name, rest) = entry[1..].split_at(entry[0] as usize);
-    let score = u32::from_be_bytes([rest[0], rest[1], rest[2], rest[3]]);
-    println!("  {}  {score}", text(name));
+    let (score, behind) = rest.split_at(4);
+    println!("{}  {}", text(name), u32::from_be_bytes([score[0], score[1], score[2], score[3]]));
+    behind
 }
 
 /// The teacher: a new book, four set-ups, a better score, and two slips that the book declines without harm.
@@ -174,15 +239,19 @@ fn edit() -> Bench {
     bench
 }
 
-/// The student: types two letters and takes the name that they have come to.
-fn type_keys(bench: &Bench) {
-    let mut typed = Vec::new();
-    for key in "rc".bytes() {
-        typed.push(key);
-        bench.show_rows(&typed);
-    }
-    if let Some((_, score)) = must(label_book::find(&bench.book, &typed), "find") {
-        println!("loaded \"{}\" with score {score}", text(&typed));
+/// The student: types a letter, moves down, slips once, and takes a name. Meanwhile the teacher withdraws one that is offered.
+fn type_keys(bench: &mut Bench) {
+    let mut panel = c::Panel { text: [0; 48], len: 0, highlight: 0, rows: 0 };
+    bench.press(&mut panel, b'r');
+    bench.press(&mut panel, DOWN);
+    bench.press(&mut panel, DOWN);
+    bench.press(&mut panel, 0x7F);
+    bench.withdraw("rl");
+    bench.press(&mut panel, RECOUNT);
+    bench.press(&mut panel, TAKE);
+    let typed = &panel.text[..panel.len];
+    if let Some((_, score)) = must(label_book::find(&bench.book, typed), "find") {
+        println!("loaded \"{}\" with score {score}", text(typed));
     }
 }
 
@@ -200,7 +269,7 @@ fn keep(bench: &mut Bench) -> bool {
 
 fn main() {
     let mut bench = edit();
-    type_keys(&bench);
+    type_keys(&mut bench);
     if !keep(&mut bench) {
         exit(1);
     }

@@ -5,17 +5,19 @@
  * plain, and a trie holds them for completion. An image stands at the front of a lent buffer; the bytes behind it are neither read nor
  * changed. Positions count from 0 in name order, which is byte order.
  *
- * A buffer is a pointer and a length in bytes. A pointer is never null, not with length 0 either. A destination and the out values
- * overlap nothing else that is lent; two sources may be the same bytes. A call keeps no pointer and allocates nothing.
+ * A buffer is a pointer and a length in bytes. A pointer is never null, not with length 0 either. A destination, lent ranges, a lent panel and
+ * the out values overlap nothing else that is lent; two sources may be the same bytes. A call keeps no pointer and allocates nothing.
  *
  * Every call returns 0 or the number of its refusal, the smallest that applies:
  *   1  a book, sheet or trie that is not laid out as such, or is cut off by its buffer
- *   2  a name or prefix that is not allowed
+ *   2  a name or prefix that is not allowed; a panel whose length is over 48, or that holds a byte within it that is not allowed
  *   3  a completion of 0 or more than 16 entries
  *   4  withdraw, name_of: a name that the book does not hold
  *   5  set: a new name where 1,024 are held
  *   6  a position or bucket that the book does not have
  *   7  a destination that is shorter than the bytes needed, or fewer ranges than entries asked for
+ *   8  a key that the panel does not have
+ *   9  a key that appends, at 48 bytes
  * With a refusal every out value is 0 and no lent byte has changed. With 0 the out values are as said at each call, and a destination
  * has changed only where the answer was written, at its front.
  *
@@ -87,6 +89,16 @@ uint8_t label_book_complete(const uint8_t *book, size_t book_len, const uint8_t 
 /* The same from a trie, with no ranges; tells 0 looks. Refusals 1, 2, 3, 7. */
 uint8_t label_book_complete_trie(const uint8_t *trie, size_t trie_len, const uint8_t *prefix, size_t prefix_len, size_t k,
                                  uint8_t *dst, size_t dst_len, size_t *offered, size_t *bytes, size_t *looks);
+
+/* What is typed, the first len bytes of text, and the highlighted row, from 0, of the rows offered for it. Zeros are an empty panel. */
+struct label_book_panel {
+    uint8_t text[48];
+    size_t len, highlight, rows;
+};
+
+/* One key, which changes the panel: 20 to 7E append, 08 erases, 01 and 02 move up and down, 0D takes the highlighted name, 00 only counts
+ * again; tells the rows, at most 5. Refusals 1, 2, 8, 9. */
+uint8_t label_book_press(const uint8_t *book, size_t book_len, struct label_book_panel *panel, uint8_t key, size_t *rows);
 
 #ifdef __cplusplus
 }

@@ -8,9 +8,13 @@ use Rattle.completion.specs.Complete.{Completed, offeredOf}
 use Rattle.completion.specs.declared.Completion.{Completion}
 use Rattle.completion.specs.declared.Range.{Range}
 use Rattle.lent_queue.specs.Waiting.{CompletedOver}
+use Rattle.panel.specs.Panel.{AfterKey}
+use Rattle.panel.specs.declared.Panel.{Panel}
+use Rattle.panel_keys.specs.Keys.{PressedAs, pressedOf}
+use Rattle.panel_keys.specs.declared.Pressed.{Pressed}
 use Rattle.label_book.specs.Calls.{Answered, writtenOf}
 use Rattle.label_book.specs.declared.Written.{Written}
-use Rattle.exports.specs.Told.{Left, OfferedLeft, OfferedOver, OfferedTold, WrittenTold}
+use Rattle.exports.specs.Told.{Left, OfferedLeft, OfferedOver, OfferedTold, PanelLeft, RowsTold, WrittenTold}
 
 -- every call that writes
 pub left :
@@ -28,3 +32,9 @@ pub offered-over :
     {o : Outcome Offered} {w : Completion} {dst : List ℕ} {xs ys : List Range} {r n b l : ℕ}
     → CompletedOver o w dst xs ys → OfferedTold (offeredOf w) r n b l → OfferedOver o r n b l dst xs ys
 offered-over a t = record { left = offered-left (a .completed) t; lent = a .lent }
+
+-- a key
+pub rows-left :
+    {o : AfterKey} {w : Pressed} {p : Panel} {r k : ℕ}
+    → PressedAs o w p → RowsTold (pressedOf w) r k → PanelLeft o r k p
+rows-left a t = record { told = rw (← a .answer) t; leaves = a .leaves }

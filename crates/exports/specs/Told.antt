@@ -11,6 +11,8 @@ use Rattle.book.specs.Book.{inBook, isBook, layout21, offset}
 use Rattle.book.specs.Lookups.{headLength, headName}
 use Rattle.completion.specs.Complete.{Lent}
 use Rattle.completion.specs.declared.Range.{Range}
+use Rattle.panel.specs.Panel.{AfterKey}
+use Rattle.panel.specs.declared.Panel.{Panel}
 
 -- the entries and bytes that a call reports
 pub record WrittenTold (a : Answer Written) (r e b : ℕ) : Type 0 where
@@ -38,6 +40,15 @@ pub record OfferedLeft (o : Outcome Offered) (r n b l : ℕ) (dst : List ℕ) : 
 pub record OfferedOver (o : Outcome Offered) (r n b l : ℕ) (dst : List ℕ) (xs ys : List Range) : Type 0 where
   pub left : OfferedLeft o r n b l dst
   pub lent : Lent (o .answer) xs ys
+
+-- a key as C gets it: the rows, and the panel that is left
+pub record RowsTold (a : Answer ℕ) (r k : ℕ) : Type 0 where
+  pub returned : r ≡ number a
+  pub rows : k ≡ counts 0 a
+
+pub record PanelLeft (o : AfterKey) (r k : ℕ) (panel : Panel) : Type 0 where
+  pub told : RowsTold (o .answer) r k
+  pub leaves : panel ≡ o .panel
 
 -- finding as C gets it: whether there is a place, 1 or 0, and the place, zeros where there is none
 abbrev pub isThere : Option Place → ℕ

@@ -7,8 +7,10 @@ ghost use Rattle.edits.specs.Edits.{emptyBook, setEntry, withdraw};
 ghost use Rattle.sheet.specs.Sheet.{buildBook, listBook};
 ghost use Rattle.completion.specs.Complete.{completeBook, offeredOf};
 ghost use Rattle.trie.specs.Calls.{completeTrie, writeTrie};
+ghost use Rattle.panel.specs.Panel.{press};
+ghost use Rattle.panel_keys.specs.Keys.{pressedOf};
 ghost use Rattle.label_book.specs.Calls.{foundOf, spanOf, writtenOf};
-ghost use Rattle.exports.specs.Told.{FoundTold, HasBucket, HeadTold, Left, OfferedLeft, OfferedOver, OfferedTold, SpanTold, WrittenTold, headAt};
+ghost use Rattle.exports.specs.Told.{FoundTold, HasBucket, HeadTold, Left, OfferedLeft, OfferedOver, OfferedTold, PanelLeft, RowsTold, SpanTold, WrittenTold, headAt};
 
 // Tells what was written.
 fn tell_written(w: label_book::Written, entries: &mut usize, bytes: &mut usize) -> u8
@@ -51,6 +53,20 @@ fn tell_offered(
             *offered = k;
             *bytes = b;
             *looks = l;
+            0
+        }
+    }
+}
+
+// Tells the rows.
+fn tell_rows(w: panel_keys::Pressed, rows: &mut usize) -> u8
+    ensures { λ r. ⌜ RowsTold (pressedOf w) r (now (rows .exit)) ⌝ }
+{
+    *rows = 0;
+    match w {
+        panel_keys::Pressed::Refused(n) => n,
+        panel_keys::Pressed::Rows(k) => {
+            *rows = k;
             0
         }
     }
@@ -293,4 +309,18 @@ pub extern "C" fn label_book_complete_trie(
         bytes,
         looks,
     )
+}
+
+// A key of the panel: the lent state is updated in place.
+#[no_mangle]
+pub extern "C" fn label_book_press(
+    book: &[u8],
+    panel: &mut panel::Panel,
+    key: u8,
+    rows: &mut usize,
+) -> u8
+    ensures { λ r. ⌜ PanelLeft (press (now (book .entry)) (now (panel .entry)) key) r (now (rows .exit)) (now (panel .exit)) ⌝ }
+{
+    let answer = label_book::press(book, panel, key);
+    tell_rows(answer, rows)
 }
