@@ -1,6 +1,6 @@
 -- The refusals of completion from a trie in the table's order, and its answer.
 use Prim.Native.Nat.{_*_, _<_, _≤_, ℕ}
-use mathlib.Core.Path.{_≡_, refl}
+use mathlib.Core.Path.{_≡_}
 use mathlib.Core.Bool.{false, true}
 use mathlib.Core.List.{List}
 use lib.Dec.{ltb}

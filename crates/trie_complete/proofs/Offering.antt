@@ -1,33 +1,27 @@
 -- The entries offered so far and those that the search still offers are the completion.
-use Prim.Native.Nat.{_*_, _+_, _-_, _<_, _≤_, min, suc, zero, ℕ}
+use Prim.Native.Nat.{_*_, _+_, _-_, _<_, _≤_, suc, zero, ℕ}
 use mathlib.Core.Path.{_∙_, _≡_, ap, refl, sym}
 use mathlib.Core.Bool.{true}
 use mathlib.Core.List.{List, [], _++_, _∷_, append-assoc, append-nil}
-use lib.ListN.{drop, getD, length, length-append, length-take, take}
+use lib.ListN.{drop, getD, length, length-append, length-take}
 use lib.Seq.{drop-cons, getD-take, length-sets, length-take-le, sets}
 use native.Mathlib.Omega.{arith}
 use Rattle.octets.specs.Lists.{concatMap}
-use Rattle.octets.specs.Octets.{overwrite}
 use Rattle.octets.proofs.Stores.{sets-append, sets-overwrite}
 use Rattle.entries.specs.Completion.{completion, maxCount}
 use Rattle.entries.specs.Entries.{Entry, entry}
-use Rattle.entries.specs.Names.{longestName}
 use Rattle.book.specs.Answers.{entriesBytes, entryBytes, given}
 use Rattle.book.proofs.Size.{length-entryBytes}
-use Rattle.completion.specs.Complete.{entryRoom, offeredAs, offeredOf}
-use Rattle.completion.specs.declared.Completion.{Completion}
+use Rattle.completion.specs.Complete.{entryRoom}
 use Rattle.completion.specs.declared.Completion.the-variants as answer
-use Rattle.trie.specs.Trie.{levels}
-use Rattle.trie_search.specs.Descend.{start}
-use Rattle.trie_search.specs.Planted.{plant}
 use Rattle.trie_search.specs.Search as search
-use Rattle.trie_search.specs.Search.{follow, offers, wait}
+use Rattle.trie_search.specs.Search.{offers, wait}
 use Rattle.trie_search.proofs.Descend.{start-offers}
 use Rattle.trie_waiting.specs.declared.Queue.{Queue}
 use Rattle.trie_waiting.specs.declared.Waiting.{Waiting}
-use Rattle.trie_waiting.specs.Waits.{knownOf, nowhere, pathOf, waits}
+use Rattle.trie_waiting.specs.Waits.{knownOf, nowhere, waits}
 use Rattle.trie_turns.specs.declared.Turn.{Turn}
-use Rattle.trie_turns.specs.Turns.{Done, Reaches, SomeTodo, Stand, StandAll, Todo}
+use Rattle.trie_turns.specs.Turns.{Done, Reaches, SomeTodo, StandAll, Todo}
 use Rattle.trie_turns.proofs.Turning.{all-length}
 use Rattle.trie_complete.specs.Offers.{Gives, Offered, TurnGiven, TurnReady, firstWaits, inTrie, isTrie, turnOf}
 use Rattle.trie_complete.proofs.Starting.{trie-valid}

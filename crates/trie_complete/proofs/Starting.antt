@@ -1,11 +1,10 @@
 -- Where the search starts in a buffer in which a trie is read.
-use Prim.Native.Nat.{_+_, _<_, _≤_, ℕ}
+use Prim.Native.Nat.{_<_, ℕ}
 use mathlib.Core.Path.{_∙_, _≡_, ap, refl, sym}
 use mathlib.Core.Bool.{_&&_, false≢true, true}
 use mathlib.Core.List.{List, [], _∷_}
 use mathlib.Core.Option.{Option, none, some}
-use lib.ListN.{drop, length, take}
-use native.Mathlib.Nat.{not-suc-le-zero}
+use lib.ListN.{drop, length}
 use native.Mathlib.Omega.{arith}
 use Rattle.octets.specs.Octets.{be, begins, numberAt}
 use Rattle.octets.proofs.Numbers.{stands-number}
@@ -21,7 +20,7 @@ use Rattle.trie.specs.Reading.{readTrie}
 use Rattle.trie.specs.Trie.{groupOf, highest, levels, trieImage}
 use Rattle.trie.proofs.Trie.{trie-exact}
 use Rattle.trie_search.specs.Descend.{start}
-use Rattle.trie_search.specs.Places.{NodeAt, Stands, scoreFieldAt, scoreOr}
+use Rattle.trie_search.specs.Places.{Stands, scoreFieldAt, scoreOr}
 use Rattle.trie_search.specs.Planted.{plant}
 use Rattle.trie_search.specs.Search as search
 use Rattle.trie_search.specs.Search.{Forest, tree, waiting}
@@ -29,8 +28,8 @@ use Rattle.trie_search.proofs.Stands.{Field, InTrie, trie-stands}
 use Rattle.trie_waiting.specs.declared.Queue.{Queue}
 use Rattle.trie_waiting.specs.declared.Waiting.{Waiting}
 use Rattle.trie_waiting.specs.Waits.{waits}
-use Rattle.trie_steps.specs.Steps.{Inside, Reached, arriveAt}
-use Rattle.trie_turns.specs.Turns.{Is, Reaches, StandAll, Toward, marked}
+use Rattle.trie_steps.specs.Steps.{Reached, arriveAt}
+use Rattle.trie_turns.specs.Turns.{Reaches, StandAll, Toward, marked}
 use Rattle.trie_turns.proofs.Standing.{here-is, label-long}
 use Rattle.trie_complete.specs.Offers.{firstWaits, inTrie, isTrie}
 

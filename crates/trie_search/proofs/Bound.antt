@@ -1,21 +1,21 @@
 -- A group is no longer than 16 bytes for each suffix and level, so that every child field holds its value.
 use Prim.Native.Nat.{_*_, _+_, _-_, _<_, _≤_, suc, zero, ℕ}
-use mathlib.Core.Path.{_∙_, _≡_, ap, refl, sym}
+use mathlib.Core.Path.{_≡_, ap, refl}
 use mathlib.Core.Logic.{inl, inr}
-use mathlib.Core.Bool.{Bool, false, true}
-use mathlib.Core.List.{List, [], _++_, _∷_, map}
+use mathlib.Core.Bool.{Bool}
+use mathlib.Core.List.{List, [], _++_, _∷_}
 use lib.Dec.{eqb, ltb}
 use lib.ListN.{length, length-append, length-map}
 use native.Mathlib.Omega.{arith}
-use Rattle.octets.specs.Lists.{_∈_, if_then_else_, insertBy, sortBy}
+use Rattle.octets.specs.Lists.{_∈_, insertBy, sortBy}
 use Rattle.octets.specs.Octets.{be}
 use Rattle.octets.proofs.Coding.{length-be}
-use Rattle.octets.proofs.Lists.{sort-in, sort-length, sort-map}
+use Rattle.octets.proofs.Lists.{sort-length, sort-map}
 use Rattle.octets.proofs.Tests.{by-test}
 use Rattle.entries.specs.Entries.{Entry}
 use Rattle.trie.specs.Trie.{Node, byFirst, firstScore, groupBytes, groupOf, isLast, isLeaf, labelOf, nodeBytes, nodeOf, otherBytes, ownSize, remains, siblings, sizeOf, standsBefore, usedUp}
 use Rattle.trie.proofs.Sets.{OneFirst, byFirst-flat, byFirst-run, flat, label-short, length-remains}
-use Rattle.trie.proofs.Trie.{node-inner, node-label, node-leaf, nodes, own, ownSiblings, run-some, siblings-inner, siblings-leaf, sortedSets, unders}
+use Rattle.trie.proofs.Trie.{node-inner, node-label, node-leaf, nodes, ownSiblings, run-some, siblings-inner, siblings-leaf, sortedSets, unders}
 
 -- 16 bytes for each of n suffixes and each of d levels
 abbrev pub most : ℕ → ℕ → ℕ

@@ -1,35 +1,33 @@
 -- The search from the node that a prefix leads to offers the completion.
-use Prim.Native.Nat.{ℕ, zero, suc, _+_, _-_, _≤_, _<_}
+use Prim.Native.Nat.{ℕ, zero, suc, _<_}
 use mathlib.Core.Path.{_≡_, refl, sym, _∙_, ap}
 use mathlib.Core.Logic.{_⊎_, inl, inr}
 use mathlib.Core.Bool.{Bool, true, false, false≢true, _&&_}
-use mathlib.Core.List.{List, [], _∷_, _++_, map, append-assoc, append-nil}
+use mathlib.Core.List.{List, [], _∷_, _++_, append-assoc, append-nil}
 use native.Mathlib.Nat.{not-suc-le-zero}
 use native.Mathlib.Omega.{arith}
 use lib.Dec.{eqb}
 use lib.ListN.{length, take, drop}
-use lib.Seq.{take-nil}
 use borrow.Author.Tests.{eqb-true, eq-eqb}
-use Rattle.octets.specs.Lists.{_∈_, concatMap, if_then_else_, keep, sortBy}
+use Rattle.octets.specs.Lists.{_∈_, concatMap, keep, sortBy}
 use Rattle.octets.specs.Octets.{begins}
-use Rattle.octets.proofs.Count.{count, count-append, count-concat-sort, count-ext, count-map}
+use Rattle.octets.proofs.Count.{count, count-concat-sort, count-map}
 use Rattle.octets.proofs.Lists.{all-in, append-in, in-append-left, keep-none, sort-in}
-use Rattle.octets.proofs.Order.{begins-append}
-use Rattle.octets.proofs.Tests.{and-true, by-test, eqb-self}
+use Rattle.octets.proofs.Tests.{and-true, by-test}
 use Rattle.entries.specs.Completion.{completion, matches}
-use Rattle.entries.specs.Entries.{Entry, byRank, entry, outranks, valid}
+use Rattle.entries.specs.Entries.{Entry, entry, valid}
 use Rattle.entries.specs.Names.{isName}
 use Rattle.entries.proofs.BestList.{different-rising}
-use Rattle.entries.proofs.Valid.{Valid, name-length, valid-of}
+use Rattle.entries.proofs.Valid.{name-length, valid-of}
 use Rattle.trie.specs.Reading.{prefixed}
 use Rattle.trie.specs.Trie.{byFirst, highest, labelOf, levels, remains, usedUp}
-use Rattle.trie.proofs.Sets.{OneFirst, byFirst-flat, byFirst-run, flat, label-progress, label-split, stripped, used-up}
+use Rattle.trie.proofs.Sets.{byFirst-flat, byFirst-run, flat, label-progress, label-split, used-up}
 use Rattle.trie_search.proofs.Keys.{key, label-key, setKey}
-use Rattle.trie_search.specs.Search.{Forest, none, tree, Waiting, wait, waiting, offers, inside, held, own, Clear, top, Proper}
+use Rattle.trie_search.specs.Search.{Forest, none, tree, Waiting, wait, offers, inside, held, own, top, Proper}
 use Rattle.trie_search.proofs.Search.{Kept, rank-same, search-offers}
 use Rattle.trie_search.specs.Planted.{keyBefore, kidsOf, plantAll, plant}
 use Rattle.trie_search.specs.Descend.{orElse, descend, start}
-use Rattle.trie_search.proofs.Planted.{Fine, Placed, sets-placed, set-fine, set-rising, set-count, plant-count, plant-proper, kids-none, kids-some, inside-cons, own-inner, remains-planted, run-key, begins-key, prefixed-append, prefixed-more, prefixed-from, prefixed-none, From, book-offers}
+use Rattle.trie_search.proofs.Planted.{Fine, Placed, sets-placed, set-fine, set-rising, set-count, plant-count, plant-proper, kids-none, kids-some, inside-cons, remains-planted, run-key, begins-key, prefixed-append, prefixed-more, prefixed-from, prefixed-none, From, book-offers}
 
 -- the search from where it starts
 inside-less : (p l : List ℕ) (s : ℕ) (kids next : Forest) (e : Entry) → e ∈ inside p (tree l s kids none) → e ∈ inside p (tree l s kids next)

@@ -1,15 +1,15 @@
 -- The forest of a rising set holds its entries, and is what the search needs.
-use Prim.Native.Nat.{ℕ, zero, suc, _+_, _-_, _≤_, _<_, max}
+use Prim.Native.Nat.{ℕ, zero, suc, _≤_, _<_}
 use mathlib.Core.Path.{_≡_, refl, sym, _∙_, ap}
 use mathlib.Core.Logic.{_⊎_, inl, inr}
-use mathlib.Core.Bool.{Bool, true, false, false≢true, _&&_}
-use mathlib.Core.List.{List, [], _∷_, _++_, map, append-assoc, append-nil}
+use mathlib.Core.Bool.{Bool, true, false, false≢true}
+use mathlib.Core.List.{List, [], _∷_, _++_, map, append-assoc}
 use native.Mathlib.Nat.{not-suc-le-zero}
 use native.Mathlib.Omega.{arith}
-use lib.Dec.{ltb, eqb}
+use lib.Dec.{eqb}
 use lib.ListN.{length, take, drop, length-append}
-use borrow.Author.Tests.{ltb-true, ltb-false, lt-ltb, le-ltb, eqb-true, eqb-false, eq-eqb, ne-eqb}
-use Rattle.octets.specs.Lists.{_∈_, concatMap, if_then_else_, insertBy, sortBy}
+use borrow.Author.Tests.{le-ltb, eqb-true}
+use Rattle.octets.specs.Lists.{_∈_, insertBy, sortBy}
 use Rattle.octets.specs.Octets.{begins, below}
 use Rattle.octets.proofs.Count.{count, count-append, count-concat-sort, count-ext, count-map}
 use Rattle.octets.proofs.Lists.{all-in, append-in, in-map, insert-in, map-in, sort-in, sort-length, sort-map}
@@ -21,7 +21,7 @@ use Rattle.entries.specs.Names.{isName}
 use Rattle.entries.proofs.BestList.{different-rising}
 use Rattle.entries.proofs.Rank.{not-outranks-trans, rank-sorted}
 use Rattle.entries.proofs.Same.{counted, in-counted, sameEntry}
-use Rattle.entries.proofs.Valid.{Valid, name-length, valid-of}
+use Rattle.entries.proofs.Valid.{name-length, valid-of}
 use Rattle.trie.specs.Reading.{prefixed}
 use Rattle.trie.specs.Trie.{byFirst, highest, labelOf, levels, remains, usedUp}
 use Rattle.trie.proofs.Sets.{OneFirst, byFirst-flat, byFirst-run, flat, highest-remains, label-progress, label-split, one-first, stripped, used-up}

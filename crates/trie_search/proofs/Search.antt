@@ -1,25 +1,24 @@
 -- The search offers the first k in rank.
-use Prim.Native.Nat.{ℕ, zero, suc, _+_, _-_, _≤_, _<_, min}
+use Prim.Native.Nat.{ℕ, zero, suc, _+_, _≤_, _<_}
 use mathlib.Core.Path.{_≡_, refl, sym, _∙_, ap}
 use mathlib.Core.Logic.{_⊎_, inl, inr}
 use mathlib.Core.Bool.{Bool, true, false, false≢true}
-use mathlib.Core.List.{List, [], _∷_, _++_, append-assoc, append-nil}
+use mathlib.Core.List.{List, [], _∷_, _++_, append-nil}
 use native.Mathlib.Omega.{arith}
 use lib.Dec.{ltb, eqb}
-use borrow.Author.Tests.{ltb-true, ltb-false, lt-ltb, le-ltb, eqb-true, eqb-false, eq-eqb, ne-eqb}
+use borrow.Author.Tests.{ltb-true, ltb-false, le-ltb, eqb-true, eqb-false, eq-eqb, ne-eqb}
 use lib.ListN.{length, take, drop}
-use lib.Seq.{take-nil}
-use Rattle.octets.specs.Lists.{_∈_, concatMap, if_then_else_, insertBy, sortBy}
+use Rattle.octets.specs.Lists.{_∈_, concatMap, insertBy}
 use Rattle.octets.specs.Octets.{begins, below}
 use Rattle.octets.proofs.Count.{count, count-append, count-concat-insert, count-sort}
-use Rattle.octets.proofs.Lists.{append-in, in-append-left, in-append-right, insert-in, sort-in, take-in}
-use Rattle.octets.proofs.Order.{begins-append, begins-split, below-asym, below-cases, below-irrefl, below-total, below-trans}
+use Rattle.octets.proofs.Lists.{append-in, in-append-left, in-append-right, insert-in, take-in}
+use Rattle.octets.proofs.Order.{begins-append, begins-split}
 use Rattle.octets.proofs.Sorted.{sorted}
 use Rattle.octets.proofs.Tests.{and-true, by-test, eqb-self}
 use Rattle.entries.specs.Entries.{Entry, byRank, entry, outranks}
-use Rattle.entries.proofs.Rank.{not-outranks-trans, outranks-asym, outranks-cases, outranks-irrefl, outranks-total, outranks-trans, rank-first, rank-sorted}
+use Rattle.entries.proofs.Rank.{not-outranks-trans, outranks-asym, outranks-total, rank-first, rank-sorted}
 use Rattle.entries.proofs.Same.{sorted-unique}
-use Rattle.trie_search.specs.Search.{Forest, none, tree, Waiting, wait, waiting, known, waitsBefore, putIn, Turn, follow, offers, inside, held, Clear, top, own, Proper}
+use Rattle.trie_search.specs.Search.{Forest, none, tree, Waiting, wait, waiting, known, waitsBefore, putIn, Turn, follow, offers, inside, held, Clear, top, Proper}
 
 abbrev pub flat : List Waiting → List Entry
 flat ws = concatMap held ws

@@ -3,10 +3,9 @@ use Prim.Native.Nat.{_+_, _-_, _<_, _^_, _≤_, suc, zero, ℕ}
 use mathlib.Core.Path.{_∙_, _≡_, ap, refl, sym}
 use mathlib.Core.Logic.{inl, inr}
 use mathlib.Core.Bool.{Bool, _||_, false, false≢true, not, true}
-use mathlib.Core.List.{List, [], _++_, _∷_, append-assoc, map}
+use mathlib.Core.List.{List, [], _++_, _∷_, append-assoc}
 use lib.Dec.{eqb, ltb}
-use lib.ListN.{drop, getD, length, length-append, length-drop, take}
-use lib.Seq.{drop-at, drop-drop, getD-drop, take-at}
+use lib.ListN.{drop, length, length-append}
 use native.Mathlib.Nat.{not-suc-le-zero}
 use native.Mathlib.Omega.{arith}
 use borrow.Author.Tests.{ltb-true}
@@ -15,19 +14,18 @@ use Rattle.octets.specs.Octets.{begins}
 use Rattle.octets.proofs.Lists.{all-in, map-in, sort-in, sort-map}
 use Rattle.octets.proofs.Order.{begins-split}
 use Rattle.octets.proofs.Tests.{by-test}
-use Rattle.trie.specs.Reading.{childSize, labelLength, lastMark, scoreSize}
 use Rattle.entries.specs.Entries.{Entry, entry, valid}
 use Rattle.entries.specs.Names.{isName, longestName}
 use Rattle.entries.proofs.Valid.{name-length, valid-of}
 use Rattle.book.specs.Frame.{framed}
 use Rattle.book.proofs.Frame.{framed-body}
-use Rattle.trie.specs.Trie.{Node, byFirst, firstScore, groupBytes, groupOf, headerByte, highest, isLast, isLeaf, labelOf, levels, nodeBytes, nodeOf, otherBytes, ownSize, remains, siblings, sizeOf, standsBefore, trieImage, usedUp}
-use Rattle.trie.proofs.Header.{Size, header-child, header-label, header-last, header-score, ownSize-nonzero, ownSize-size, sizeOf-fits, sizeOf-nonzero, sizeOf-size}
+use Rattle.trie.specs.Trie.{Node, byFirst, firstScore, groupBytes, groupOf, highest, isLast, isLeaf, labelOf, levels, nodeBytes, nodeOf, otherBytes, ownSize, remains, siblings, sizeOf, standsBefore, trieImage, usedUp}
+use Rattle.trie.proofs.Header.{Size, ownSize-nonzero, ownSize-size, sizeOf-fits, sizeOf-nonzero, sizeOf-size}
 use Rattle.trie.proofs.Sets.{OneFirst, byFirst-run, highest-below, label-short, label-split, one-first, stripped}
-use Rattle.trie.proofs.Trie.{Fit, group-some, group-split, node-inner, node-label, node-leaf, node-score, node-split, nodes, own, ownSiblings, set-fit, set-in, siblings-inner, siblings-leaf, sortedSets, unders, valid-fit}
+use Rattle.trie.proofs.Trie.{Fit, group-some, group-split, node-inner, node-label, node-leaf, node-score, nodes, own, ownSiblings, set-fit, set-in, siblings-inner, siblings-leaf, sortedSets, unders, valid-fit}
 use Rattle.trie_search.specs.Planted.{keyBefore, kidsOf, plant, plantAll}
-use Rattle.trie_search.specs.Search.{Forest, Proper, known, none, top, tree, wait, waiting}
-use Rattle.trie_search.specs.Places.{Lower, NodeAt, Stands, behindAt, childFieldAt, childrenAt, headAt, isNone, labelAt, fromBehind, isLeafAt, labelFrom, scoreFieldAt, scoreOr}
+use Rattle.trie_search.specs.Search.{Forest, Proper, known, none, top, tree, wait}
+use Rattle.trie_search.specs.Places.{Lower, Stands, behindAt, childrenAt, isNone, isLeafAt, scoreFieldAt, scoreOr}
 use Rattle.trie_search.proofs.Bound.{group-most, most-grows, node-size}
 use Rattle.trie_search.proofs.Nodes.{Reads, behind, reads}
 use Rattle.trie_search.proofs.Search.{not-outranked}

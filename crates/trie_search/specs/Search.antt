@@ -1,10 +1,10 @@
 -- Completion from a trie: best-first over at most k waiting nodes.
-use Prim.Native.Nat.{ℕ, zero, suc, _+_, _≤_}
+use Prim.Native.Nat.{ℕ, zero, suc}
 use mathlib.Core.Path.{_≡_}
 use mathlib.Core.Bool.{Bool, true, false}
 use mathlib.Core.List.{List, [], _∷_, _++_}
-use lib.ListN.{length, take}
-use Rattle.octets.specs.Lists.{_∈_, concatMap, insertBy}
+use lib.ListN.{take}
+use Rattle.octets.specs.Lists.{_∈_, insertBy}
 use Rattle.octets.specs.Octets.{begins}
 use Rattle.entries.specs.Entries.{Entry, entry, outranks}
 

@@ -1,15 +1,14 @@
 -- Numbers in fields of 0, 1, 2 or 4 bytes, and the sizes that header bytes say.
 use Prim.Native.Nat.{_%_, _+_, _/_, _<_, _≤_, ℕ}
 use mathlib.Core.Path.{_≡_, refl}
-use mathlib.Core.Logic.{_⊎_, inl, inr}
+use mathlib.Core.Logic.{inl, inr}
 use mathlib.Core.Bool.{Bool, false, true}
 use mathlib.Core.List.{List}
 use lib.Dec.{eqb, leb}
-use lib.ListN.{drop, getD, length}
+use lib.ListN.{getD, length}
 use lib.Seq.{drop-cons, sets}
 use native.Mathlib.Omega.{arith}
-use borrow.Author.Tests.{eqb-false, eqb-true, le-leb}
-use Rattle.octets.specs.Lists.{if_then_else_}
+use borrow.Author.Tests.{eqb-false, le-leb}
 use Rattle.octets.specs.Octets.{fromBe, numberAt}
 use Rattle.octets.proofs.Tests.{by-test}
 use Rattle.trie.specs.Reading.{childSize, labelLength, lastMark, scoreSize, sizeAt}

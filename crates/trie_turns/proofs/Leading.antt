@@ -1,11 +1,10 @@
 -- The way from a first sibling to the node that a prefix leads to.
 use Prim.Native.Nat.{_<_, _≤_, ℕ}
-use mathlib.Core.Path.{_∙_, _≡_, ap, refl, sym}
-use mathlib.Core.Bool.{Bool, false, false≢true, not, true}
+use mathlib.Core.Path.{_∙_, _≡_, refl, sym}
+use mathlib.Core.Bool.{false, false≢true, true}
 use mathlib.Core.List.{List, [], _++_, _∷_}
 use lib.ListN.{length}
 use native.Mathlib.Omega.{arith}
-use Rattle.octets.specs.Lists.{if_then_else_}
 use Rattle.octets.specs.Octets.{begins}
 use Rattle.octets.proofs.Tests.{by-test}
 use Rattle.entries.specs.Names.{longestName}
@@ -16,8 +15,8 @@ use Rattle.trie_search.specs.Search.{Forest, none, tree, wait}
 use Rattle.trie_waiting.specs.declared.Queue.{Queue}
 use Rattle.trie_waiting.specs.declared.Waiting.{Waiting}
 use Rattle.trie_waiting.specs.Waits.{pathOf, waits}
-use Rattle.trie_steps.specs.Steps.{Inside, behindOf, childOf, firstOf, nextOf}
-use Rattle.trie_turns.specs.Turns.{Is, Onward, Reaches, SomeToward, Stand, StandAll, Toward, goesDown, isStuck, marked, onwardOf}
+use Rattle.trie_steps.specs.Steps.{Inside, childOf, nextOf}
+use Rattle.trie_turns.specs.Turns.{Is, Onward, Reaches, SomeToward, Toward, goesDown, isStuck, marked, onwardOf}
 use Rattle.trie_turns.proofs.Standing.{child-at, child-is, is-short, next-at, next-is}
 use Rattle.trie_turns.proofs.Turning.{child-there, next-there}
 

@@ -1,24 +1,18 @@
 -- Nodes that wait stand for nodes of a forest: the steps, the order, the turns.
-use Prim.Native.Nat.{_+_, _-_, _<_, _≤_, min, suc, zero, ℕ}
+use Prim.Native.Nat.{_+_, _-_, _≤_, ℕ}
 use mathlib.Core.Path.{_∙_, _≡_, ap, refl, sym}
-use mathlib.Core.Logic.{inl, inr}
 use mathlib.Core.Bool.{false, false≢true}
 use mathlib.Core.List.{List, _++_}
 use lib.ListN.{drop, length, length-append, length-drop, length-take, take}
-use lib.Seq.{length-sets, length-take-le, sets, sets-eq, take-all, take-append-le, take-at, take-take}
+use lib.Seq.{length-sets, length-take-le, sets, sets-eq, take-at, take-take}
 use native.Mathlib.Omega.{arith}
-use Rattle.octets.specs.Lists.{_∈_, if_then_else_, insertBy}
-use Rattle.octets.proofs.Tests.{by-test}
-use Rattle.entries.specs.Entries.{Entry, entry}
 use Rattle.entries.specs.Names.{longestName}
-use Rattle.trie.specs.Reading.{labelLength, lastMark}
-use Rattle.trie_search.specs.Places.{Lower, NodeAt, Stands, behindAt, childrenAt, fromBehind, headAt, isLeafAt, isNone, labelAt, labelFrom, scoreFieldAt, scoreOr}
-use Rattle.trie_search.specs.Search as search
-use Rattle.trie_search.specs.Search.{Forest, known, none, tree, wait, waiting, waitsBefore}
+use Rattle.trie.specs.Reading.{labelLength}
+use Rattle.trie_search.specs.Places.{Stands, fromBehind, headAt, isLeafAt, isNone, labelAt, labelFrom, scoreFieldAt}
+use Rattle.trie_search.specs.Search.{Forest, none, tree}
 use Rattle.trie_waiting.specs.declared.Waiting.{Waiting}
-use Rattle.trie_waiting.specs.Waits.{isBefore, knownOf, pathOf, putIn}
-use Rattle.trie_steps.specs.Steps.{ChildRoom, Inside, NextRoom, Reached, arriveAt, behindOf, childOf, firstOf, frontOf, nextOf}
-use Rattle.trie_turns.specs.Turns.{Is, Stand, StandAll, withNext}
+use Rattle.trie_steps.specs.Steps.{ChildRoom, Inside, NextRoom, arriveAt, behindOf, childOf, firstOf, frontOf, nextOf}
+use Rattle.trie_turns.specs.Turns.{Is}
 
 -- the label is as long as the header says
 pub label-long : (bs : List ℕ) (at : ℕ) → Inside bs at → length (labelAt bs at) ≡ labelLength (headAt bs at)

@@ -2,23 +2,23 @@
 use Prim.Native.Nat.{_<_, _≤_, suc, zero, ℕ}
 use mathlib.Core.Path.{_∙_, _≡_, ap, refl, sym}
 use mathlib.Core.Logic.{inl, inr}
-use mathlib.Core.Bool.{Bool, false, false≢true, true}
+use mathlib.Core.Bool.{false, false≢true, true}
 use mathlib.Core.List.{List, [], _++_, _∷_}
-use lib.ListN.{drop, length, length-take, take}
+use lib.ListN.{length, length-take, take}
 use lib.Seq.{take-all}
 use native.Mathlib.Omega.{arith}
-use Rattle.octets.specs.Lists.{_∈_, if_then_else_, insertBy}
+use Rattle.octets.specs.Lists.{insertBy}
 use Rattle.octets.proofs.Tests.{by-test}
 use Rattle.entries.specs.Completion.{maxCount}
-use Rattle.entries.specs.Entries.{Entry, entry, outranks}
+use Rattle.entries.specs.Entries.{entry, outranks}
 use Rattle.entries.specs.Names.{longestName}
-use Rattle.trie_search.specs.Places.{isLeafAt, isNone}
+use Rattle.trie_search.specs.Places.{isLeafAt}
 use Rattle.trie_search.specs.Search as search
 use Rattle.trie_search.specs.Search.{Forest, follow, known, none, tree, wait, waiting, waitsBefore}
 use Rattle.trie_waiting.specs.declared.Queue.{Queue}
 use Rattle.trie_waiting.specs.declared.Waiting.{Waiting}
-use Rattle.trie_waiting.specs.Waits.{Put, Ready, Short, isBefore, knownOf, pathOf, putIn, waits}
-use Rattle.trie_steps.specs.Steps.{ChildRoom, Inside, NextRoom, behindOf, childOf, firstOf, nextOf}
+use Rattle.trie_waiting.specs.Waits.{Put, Short, isBefore, knownOf, putIn, waits}
+use Rattle.trie_steps.specs.Steps.{ChildRoom, NextRoom, childOf, firstOf, nextOf}
 use Rattle.trie_turns.specs.declared.Turn.{Turn}
 use Rattle.trie_turns.specs.Turns.{Done, Is, NextReady, SomeTodo, Stand, StandAll, Todo, withNext}
 use Rattle.trie_turns.proofs.Standing.{child-is, child-room, is-short, next-is, next-room}

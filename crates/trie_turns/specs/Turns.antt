@@ -1,7 +1,7 @@
 -- What nodes that wait stand for in a forest, and what a turn of the search does with them.
 use Prim.Native.Nat.{_+_, _≤_, ℕ}
 use mathlib.Core.Path.{_≡_}
-use mathlib.Core.Bool.{Bool, _&&_, false, not, true}
+use mathlib.Core.Bool.{Bool, false, not, true}
 use mathlib.Core.List.{List, [], _++_, _∷_}
 use lib.ListN.{length}
 use Rattle.octets.specs.Lists.{if_then_else_}
@@ -9,7 +9,7 @@ use Rattle.octets.specs.Octets.{begins}
 use Rattle.entries.specs.Completion.{maxCount}
 use Rattle.entries.specs.Names.{longestName}
 use Rattle.trie_search.specs.Descend.{descend}
-use Rattle.trie_search.specs.Places.{Lower, NodeAt, Stands, behindAt, fromBehind, isLeafAt, isNone, scoreOr}
+use Rattle.trie_search.specs.Places.{Lower, NodeAt, Stands, fromBehind, isLeafAt, isNone, scoreOr}
 use Rattle.trie_search.specs.Search as search
 use Rattle.trie_search.specs.Search.{Forest, follow, tree, wait}
 use Rattle.trie_waiting.specs.declared.Queue.{Queue}

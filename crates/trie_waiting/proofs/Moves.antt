@@ -1,13 +1,13 @@
 -- Nodes put in their place in a queue: the place, the nodes behind it moved on by one, the last dropped.
-use Prim.Native.Nat.{_+_, _-_, _<_, _≤_, min, suc, zero, ℕ}
+use Prim.Native.Nat.{_+_, _-_, _<_, _≤_, suc, zero, ℕ}
 use mathlib.Core.Path.{_∙_, _≡_, ap, refl, sym}
 use mathlib.Core.Bool.{false, true}
 use mathlib.Core.List.{List, [], _++_, _∷_, append-assoc, append-nil, map}
-use lib.ListN.{drop, drop-of-length-le, getD, length, length-append, length-drop, length-set, length-take, set, take}
-use lib.Seq.{drop-cons, drop-set-lt, getD-take, length-take-le, take-all, take-append-le, take-set-lt, take-suc, take-suc-set, take-take}
+use lib.ListN.{drop, drop-of-length-le, getD, length, length-append, length-set, length-take, set, take}
+use lib.Seq.{drop-cons, getD-take, length-take-le, take-all, take-append-le, take-suc-set, take-take}
 use native.Mathlib.Numerals.{add-one}
 use native.Mathlib.Omega.{arith}
-use Rattle.octets.specs.Lists.{_∈_, if_then_else_, insertBy}
+use Rattle.octets.specs.Lists.{_∈_}
 use Rattle.octets.proofs.Lists.{get-in}
 use Rattle.octets.proofs.Tests.{by-test}
 use Rattle.trie_waiting.specs.Waits.{Put, isBefore, placeAmong, putAt, putIn, waits}

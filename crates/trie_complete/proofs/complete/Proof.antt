@@ -1,9 +1,7 @@
 -- `trie_complete::complete` meets its contract: turn by turn, until k are offered or no node waits.
 -- Invariant: the entries offered so far and those that the search still offers are the completion; the bytes of the first stand at the
 -- front of the destination. The entries still to be offered fall. Assumes nothing.
-use Prim.Native.Nat.{_+_, _*_, _-_, _<_, _≤_, ℕ}
-use mathlib.Core.Path.{_∙_, _≡_, sym}
-use lib.ListN.{length}
+use Prim.Native.Nat.{_-_}
 use native.Mathlib.Omega.{arith}
 use Rattle.trie_complete.proofs.Offering.{Offering, offering-full, offering-length, offering-none, offering-on, offering-ready, offering-room, offering-start}
 use borrow.Author.Needs.{needs}

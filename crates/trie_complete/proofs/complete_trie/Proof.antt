@@ -1,14 +1,13 @@
 -- `trie_complete::complete_trie` meets its contract: the checks in the table's order, then the completion.
 -- No loop, so no invariant. Assumes nothing.
-use Prim.Native.Nat.{_*_, _≤_}
+use Prim.Native.Nat.{_*_}
 use mathlib.Core.Path.{_∙_, _≡_, sym}
-use mathlib.Core.Bool.{false, true}
-use lib.Dec.{ltb}
+use mathlib.Core.Bool.{true}
 use lib.ListN.{length}
 use native.Mathlib.Omega.{arith}
 use borrow.Author.Tests.{le-ltb, lt-ltb, not-false, not-true}
 use Rattle.entries.specs.Names.{isPrefix}
-use Rattle.completion.specs.Complete.{badCount, entryRoom}
+use Rattle.completion.specs.Complete.{entryRoom}
 use Rattle.trie.specs.Reading.{readTrie}
 use Rattle.book_check.proofs.Held.{told-book, told-damaged}
 use Rattle.trie_complete.specs.Offers.{isTrie}

@@ -1,7 +1,6 @@
 -- `trie_complete::put_leaf` meets its contract: the path in the array and the score are written as one entry.
 -- No loop, so no invariant. Assumes nothing.
-use Prim.Native.Nat.{_+_, _≤_}
-use mathlib.Core.Path.{_∙_, _≡_, sym}
+use mathlib.Core.Path.{_≡_, sym}
 use lib.ListN.{length}
 use lib.Seq.{length-take-le}
 use native.Mathlib.Omega.{arith}

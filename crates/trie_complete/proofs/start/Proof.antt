@@ -4,7 +4,6 @@ use Prim.Native.Nat.{ℕ}
 use mathlib.Core.Path.{_∙_, _≡_, ap, sym}
 use mathlib.Core.List.{List}
 use lib.ListN.{length, length-replicate, replicate}
-use native.Mathlib.Omega.{arith}
 use Rattle.octets.specs.Octets.{numberAt}
 use Rattle.trie_search.specs.Places.{scoreFieldAt}
 use Rattle.trie_steps.specs.Steps.{arriveAt}

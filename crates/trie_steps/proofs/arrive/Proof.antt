@@ -1,6 +1,6 @@
 -- `trie_steps::arrive` meets its contract: the label is copied behind the path, and the header says its length and the mark.
 -- No loop, so no invariant. Assumes nothing.
-use mathlib.Core.Path.{_∙_, _≡_, ap}
+use mathlib.Core.Path.{_∙_, ap}
 use lib.Seq.{sets}
 use Rattle.trie_steps.proofs.Fields.{arrive-is}
 use borrow.Author.Needs.{needs}

@@ -1,6 +1,6 @@
 -- `trie_steps::children_at` meets its contract: the number behind the score field, of the size that the header says, counted from `from`.
 -- No loop, so no invariant. Assumes nothing.
-use Prim.Native.Nat.{_+_, _≤_, ℕ}
+use Prim.Native.Nat.{_+_}
 use mathlib.Core.Path.{_∙_, _≡_, ap}
 use native.Mathlib.Omega.{arith}
 use Rattle.octets.specs.Octets.{numberAt}

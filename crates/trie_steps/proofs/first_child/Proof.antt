@@ -1,7 +1,6 @@
 -- `trie_steps::first_child` meets its contract: the node where the child field leads, behind the node's own path.
 -- No loop, so no invariant. Assumes nothing.
-use mathlib.Core.Path.{_∙_, _≡_, refl, sym}
-use Rattle.trie_steps.specs.Steps.{Reached}
+use mathlib.Core.Path.{_∙_, refl}
 use Rattle.trie_steps.proofs.Fields.{arrive-same}
 use borrow.Author.Needs.{needs}
 use Rattle.trie_steps.proofs.first_child.Statement.{statement}

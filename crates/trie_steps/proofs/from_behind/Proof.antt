@@ -1,7 +1,6 @@
 -- `trie_steps::from_behind` meets its contract: a leaf changes nothing, else the first child counts.
 -- No loop, so no invariant. Assumes nothing.
-use Prim.Native.Nat.{_≤_}
-use mathlib.Core.Path.{_∙_, _≡_, sym}
+use mathlib.Core.Path.{_∙_, sym}
 use Rattle.trie_steps.proofs.Fields.{from-inner, from-leaf}
 use borrow.Author.Needs.{needs}
 use Rattle.trie_steps.proofs.from_behind.Statement.{statement}

@@ -1,6 +1,6 @@
 -- `trie_steps::is_leaf` meets its contract: the child size in the header is 0.
 -- No loop, so no invariant. Assumes nothing.
-use mathlib.Core.Path.{_≡_, ap}
+use mathlib.Core.Path.{ap}
 use lib.Dec.{eqb}
 use borrow.Author.Needs.{needs}
 use Rattle.trie_steps.proofs.is_leaf.Statement.{statement}

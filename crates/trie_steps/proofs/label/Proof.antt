@@ -1,10 +1,10 @@
 -- `trie_steps::label` meets its contract: the part behind the header byte and the two fields.
 -- No loop, so no invariant. Assumes nothing.
-use Prim.Native.Nat.{_+_, _-_, ℕ}
+use Prim.Native.Nat.{_+_, _-_}
 use mathlib.Core.Path.{_∙_, _≡_, ap}
 use lib.ListN.{drop, take}
 use native.Mathlib.Omega.{arith}
-use Rattle.trie.specs.Reading.{childSize, labelLength, scoreSize}
+use Rattle.trie.specs.Reading.{labelLength}
 use Rattle.trie_search.specs.Places.{headAt, labelFrom}
 use borrow.Author.Needs.{needs}
 use Rattle.trie_steps.proofs.label.Statement.{statement}

@@ -1,6 +1,6 @@
 -- `trie_steps::next_sibling` meets its contract: the node behind, after the path in front of the node's own label.
 -- No loop, so no invariant. Assumes nothing.
-use Prim.Native.Nat.{_-_, _≤_}
+use Prim.Native.Nat.{_-_}
 use mathlib.Core.Path.{_∙_, _≡_, ap, sym}
 use native.Mathlib.Omega.{arith}
 use Rattle.trie_search.specs.Places.{scoreFieldAt}

@@ -1,6 +1,6 @@
 -- `trie_steps::number` meets its contract: each of the four sizes is read as such.
 -- No loop, so no invariant. Assumes nothing.
-use mathlib.Core.Path.{_∙_, _≡_, ap, sym}
+use mathlib.Core.Path.{_∙_, ap, sym}
 use native.Mathlib.Omega.{arith}
 use Rattle.octets.specs.Octets.{numberAt}
 use Rattle.trie_steps.proofs.Fields.{number-none, number-one, size-four}

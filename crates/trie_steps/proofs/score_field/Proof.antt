@@ -1,7 +1,7 @@
 -- `trie_steps::score_field` meets its contract: the number behind the header byte, of the size that the header says.
 -- No loop, so no invariant. Assumes nothing.
 use Prim.Native.Nat.{_+_}
-use mathlib.Core.Path.{_∙_, _≡_, ap}
+use mathlib.Core.Path.{_∙_, ap}
 use native.Mathlib.Omega.{arith}
 use borrow.Author.Needs.{needs}
 use Rattle.octets.specs.Octets.{numberAt}

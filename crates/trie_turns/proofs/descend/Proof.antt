@@ -1,6 +1,6 @@
 -- `trie_turns::descend` meets its contract: the way goes down or to the next sibling until the prefix begins the node's path.
 -- Invariant: where the way leads from the first node it leads from this one. The bytes ahead of the node fall. Assumes nothing.
-use Prim.Native.Nat.{_-_, _≤_, ℕ}
+use Prim.Native.Nat.{_-_}
 use mathlib.Core.Path.{_∙_, _≡_, ap, sym}
 use mathlib.Core.Bool.{false}
 use lib.ListN.{length}
@@ -9,7 +9,6 @@ use borrow.Author.Tests.{not-false, not-true}
 use Rattle.octets.specs.Octets.{begins}
 use Rattle.trie_waiting.specs.Waits.{pathOf}
 use Rattle.trie_turns.proofs.Leading.{Heading, heading-on, heading-start, nobody-reaches, toward-ahead, toward-here, toward-inside, toward-onward, toward-short, toward-stuck}
-use borrow.Author.Needs.{needs}
 use Rattle.trie_turns.proofs.descend.Statement.{statement}
 use Rattle.trie_turns.proofs.descend.Tie as tie
 

@@ -1,6 +1,6 @@
 -- `trie_turns::follow` meets its contract: each node's next sibling is put among those that wait, until the node is a leaf.
 -- Invariant: what a turn gives from the first node it gives from this one. The bytes ahead of the node fall. Assumes nothing.
-use Prim.Native.Nat.{_-_, _≤_, ℕ}
+use Prim.Native.Nat.{_-_}
 use mathlib.Core.Path.{_∙_, _≡_, ap, sym}
 use mathlib.Core.Bool.{false}
 use lib.ListN.{length}
@@ -10,7 +10,6 @@ use Rattle.trie_search.specs.Places.{isLeafAt}
 use Rattle.trie_steps.specs.Steps.{firstOf}
 use Rattle.trie_turns.proofs.Standing.{child-at}
 use Rattle.trie_turns.proofs.Turning.{Following, child-there, following-on, following-ready, following-start, todo-ahead, todo-done}
-use borrow.Author.Needs.{needs}
 use Rattle.trie_turns.proofs.follow.Statement.{statement}
 use Rattle.trie_turns.proofs.follow.Tie as tie
 

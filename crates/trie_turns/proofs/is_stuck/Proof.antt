@@ -1,6 +1,6 @@
 -- `trie_turns::is_stuck` meets its contract: there is a next sibling, or the way goes down, or neither.
 -- No loop, so no invariant. Assumes nothing.
-use mathlib.Core.Path.{_≡_, ap, refl}
+use mathlib.Core.Path.{ap, refl}
 use mathlib.Core.Bool.{not}
 use borrow.Author.Tests.{not-false, not-true}
 use borrow.Author.Needs.{needs}

@@ -1,6 +1,6 @@
 -- `trie_turns::onward` meets its contract: the first child where the way goes down, else the next sibling.
 -- No loop, so no invariant. Assumes nothing.
-use mathlib.Core.Path.{_∙_, _≡_, sym}
+use mathlib.Core.Path.{_∙_, sym}
 use borrow.Author.Needs.{needs}
 use Rattle.trie_turns.proofs.onward.Statement.{statement}
 use Rattle.trie_turns.proofs.onward.Tie as tie

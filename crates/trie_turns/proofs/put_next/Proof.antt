@@ -1,11 +1,9 @@
 -- `trie_turns::put_next` meets its contract: without a next sibling nothing comes to wait, else it is put in its place.
 -- No loop, so no invariant. Assumes nothing.
 use Prim.Native.Nat.{_≤_}
-use mathlib.Core.Path.{_≡_}
 use Rattle.entries.specs.Names.{longestName}
 use Rattle.trie_turns.proofs.Standing.{next-short}
 use Rattle.trie_turns.proofs.Turning.{put-kept, put-more}
-use borrow.Author.Needs.{needs}
 use Rattle.trie_turns.proofs.put_next.Statement.{statement}
 use Rattle.trie_turns.proofs.put_next.Tie as tie
 

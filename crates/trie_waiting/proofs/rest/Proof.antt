@@ -1,6 +1,6 @@
 -- `trie_waiting::rest` meets its contract: each node but the first takes the place of the one before it.
 -- Invariant: the nodes in front of i - 1 and those from i on are the nodes behind the first. The nodes left fall. Assumes nothing.
-use Prim.Native.Nat.{_-_, _≤_}
+use Prim.Native.Nat.{_-_}
 use mathlib.Core.Path.{_≡_, refl}
 use lib.ListN.{length}
 use native.Mathlib.Omega.{arith}
