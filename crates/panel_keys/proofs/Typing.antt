@@ -1,27 +1,34 @@
 -- The typed text of a panel: what each key's act and the clearing behind it make of the 48 bytes.
 use Prim.Native.Nat.{_+_, _-_, _<_, _≤_, min, suc, ℕ}
 use mathlib.Core.Path.{_∙_, _≡_, ap, refl, sym}
-use mathlib.Core.List.{List, [], _++_, _∷_}
-use lib.ListN.{drop, length, length-replicate, replicate, replicate-append-replicate, set, take}
-use lib.Seq.{drop-at, length-take-le, sets, take-append-seam, take-suc-set, take-take}
+use mathlib.Core.List.{List, [], _++_, _∷_, append-nil}
+use lib.ListN.{drop, drop-of-length-le, length, length-replicate, replicate, replicate-append-replicate, set, take}
+use lib.Seq.{length-sets, length-take-le, sets, sets-eq, take-append-seam, take-suc-set, take-take}
 use native.Mathlib.Omega.{arith}
 use borrow.Author.Tests.{eq-eqb, ne-eqb}
-use Rattle.octets.proofs.Stores.{sets-overwrite}
+use Rattle.octets.proofs.Loops.{sets-out}
+use Rattle.octets.proofs.Stores.{sets-append}
 use Rattle.entries.specs.Entries.{Entry}
 use Rattle.entries.specs.Names.{longestName}
 use Rattle.panel.specs.declared.Panel.{Panel}
 use Rattle.panel.specs.Panel.{Typing, appended, erased, lowered, offeredFor, panelOf, typedIn, typing, typingIn}
 use Rattle.panel_keys.specs.Keys.{Counted, Typed}
 
--- zeros behind a text
-drop-zeros : (k m : ℕ) → drop {A = ℕ} k (replicate (k + m) 0) ≡ replicate m 0
-drop-zeros k m = rw (← replicate-append-replicate {A = ℕ} k m 0) (drop-at {A = ℕ} (replicate k 0) (replicate m 0) k (length-replicate {A = ℕ} k 0))
+-- 48 zeros stored behind a text of 48 bytes or fewer: those past the end are left out
+module _ (text : List ℕ) (n : ℕ) (long : length text ≡ longestName) (h : n ≤ longestName) where
+  abbrev zeros : ℕ → List ℕ
+  zeros k = replicate k 0
 
-cleared : (w : List ℕ) → length w ≤ longestName → sets (replicate longestName 0) 0 w ≡ w ++ replicate (longestName - length w) 0
-cleared w h =
-    let z : longestName ≡ length w + (longestName - length w) = omega arith in
-    sets-overwrite (replicate longestName 0) w (omega (arith, length-replicate {A = ℕ} longestName 0))
-    ∙ ap (λ l. w ++ l) (ap (λ n. drop {A = ℕ} (length w) (replicate n 0)) z ∙ drop-zeros (length w) (longestName - length w))
+  cleared : sets text n (zeros longestName) ≡ take n text ++ zeros (longestName - n)
+  cleared =
+      let k = longestName - n in
+      let l : length (zeros k) ≡ k = length-replicate {A = ℕ} k 0 in
+      let z : zeros longestName ≡ zeros k ++ zeros n = ap zeros (let e : longestName ≡ k + n = omega arith in e) ∙ sym (replicate-append-replicate {A = ℕ} k n 0) in
+      let front = sets text n (zeros k) in
+      let out : sets front (n + length (zeros k)) (zeros n) ≡ front = sets-out front (n + length (zeros k)) (zeros n) (omega (arith, length-sets text n (zeros k), long)) in
+      let ends : drop (n + length (zeros k)) text ≡ [] = drop-of-length-le text {i = n + length (zeros k)} (omega (arith, long)) in
+      ap (sets text n) z ∙ sym (sets-append text (zeros k) (zeros n) n) ∙ out ∙ sets-eq (zeros k) text n (omega (arith, long))
+      ∙ rw (ends, append-nil (take n text ++ zeros k))
 
 -- a panel of 48 bytes of which at most 48 are typed
 module _ (p : Panel) (long : length (p .text) ≡ longestName) where
@@ -31,12 +38,12 @@ module _ (p : Panel) (long : length (p .text) ≡ longestName) where
   -- with its rows counted, its highlight lowered and zeros behind its text
   pub settled :
       (es : List Entry) {text : List ℕ} {rows row : ℕ} → p .len ≤ longestName → rows ≡ length (offeredFor es (typedIn p))
-      → text ≡ sets (replicate longestName 0) 0 (typedIn p) → row ≡ min (p .highlight) (rows - 1)
+      → text ≡ sets (p .text) (p .len) (replicate longestName 0) → row ≡ min (p .highlight) (rows - 1)
       → record { text = text; len = p .len; highlight = row; rows = rows } ≡ panelOf es (lowered es (typingIn p))
   unfolding panelOf lowered
   settled es h r t l =
       let n = typed-length h in
-      let e = cleared (typedIn p) (omega arith) in
+      let e = cleared (p .text) (p .len) long h in
       rw (l, t, e, r, n)
 
   -- the acts on the text

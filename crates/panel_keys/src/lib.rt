@@ -105,10 +105,10 @@ fn settle(book: &[u8], n: usize, p: panel::Panel) -> panel::Panel
     ensures { λ r. ⌜ r ≡ panelOf (inBook (now (book .entry))) (lowered (inBook (now (book .entry))) (typingIn p)) ⌝ }
 {
     let len = p.len;
-    let typed = p.text;
-    let rows = count_rows(book, n, &typed[..len]);
-    let mut text = [0; 48];
-    octets::copy(&mut text, 0, &typed[..len]);
+    let mut text = p.text;
+    let rows = count_rows(book, n, &text[..len]);
+    let zeros = [0; 48];
+    octets::copy(&mut text, len, &zeros);
     panel::Panel {
         text: text,
         len: len,

@@ -1,9 +1,7 @@
--- `panel_keys::settle` meets its contract: the rows are counted, the row is lowered, and the text is copied over zeros (proofs/Typing).
+-- `panel_keys::settle` meets its contract: the rows are counted, the row is lowered, and zeros are stored behind the text (proofs/Typing).
 -- No loop, so no invariant. Assumes nothing.
-use Prim.Native.Nat.{_≤_}
 use mathlib.Core.Path.{_≡_, sym}
 use lib.ListN.{length}
-use lib.Seq.{length-take-le}
 use native.Mathlib.Omega.{arith}
 use borrow.Author.Needs.{needs}
 use Rattle.entries.specs.Names.{longestName}
@@ -16,11 +14,8 @@ use Rattle.panel_keys.proofs.settle.Tie as tie
 long : (c : tie.Start) → length (c .args .p .text) ≡ longestName
 long c = search needs
 
-within : (c : tie.Start) → c .args .p .len ≤ length (c .args .p .text)
-within c = omega (arith, long c, c .pre .1)
-
-array-share-prefix-typed : tie.Need-array-share-prefix-typed
-array-share-prefix-typed c = within (c .before .before)
+array-share-prefix-text : tie.Need-array-share-prefix-text
+array-share-prefix-text c = let z = c .before .before in omega (arith, long z, z .pre .1)
 
 slice-aggregate-count-rows : tie.Need-slice-aggregate-count-rows
 slice-aggregate-count-rows c = let z = c .before .before .before in sym (typed-length (z .args .p) (long z) (z .pre .1))
@@ -31,12 +26,8 @@ count-rows-requires c κs = c .before .before .before .pre .0
 slice-aggregate-copy : tie.Need-slice-aggregate-copy
 slice-aggregate-copy c = search needs
 
-array-share-prefix-typed-2 : tie.Need-array-share-prefix-typed-2
-array-share-prefix-typed-2 c = within (c .before .before .before .before .before)
-
 slice-aggregate-copy-2 : tie.Need-slice-aggregate-copy-2
-slice-aggregate-copy-2 c =
-    let z = c .before .before .before .before .before .before in sym (typed-length (z .args .p) (long z) (z .pre .1))
+slice-aggregate-copy-2 c = search needs
 
 copy-requires : tie.Need-copy-requires
 copy-requires c κs = tt
@@ -55,11 +46,10 @@ pub settle-spec : {M : Type 1} → statement M
 settle-spec =
     tie.close
     (tie.spec
-    array-share-prefix-typed
+    array-share-prefix-text
     slice-aggregate-count-rows
     count-rows-requires
     slice-aggregate-copy
-    array-share-prefix-typed-2
     slice-aggregate-copy-2
     copy-requires
     lower-requires
