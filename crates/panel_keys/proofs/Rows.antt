@@ -9,11 +9,10 @@ use native.Mathlib.Omega.{arith}
 use borrow.Author.Tests.{eq-eqb, ne-eqb}
 use Rattle.octets.proofs.Lists.{get-in, sort-length}
 use Rattle.entries.specs.Completion.{completion, matches, maxCount}
-use Rattle.entries.specs.Entries.{Entry, at, byRank, noEntry, outranks, rising}
+use Rattle.entries.specs.Entries.{Entry, at, byRank, outranks, rising}
 use Rattle.entries.specs.Names.{longestName}
 use Rattle.entries.specs.Place.{place}
 use Rattle.entries.proofs.Place.{place-matches}
-use Rattle.completion.specs.Machine.{machine}
 use Rattle.completion.proofs.Machine.{machine-inside, machine-promise}
 use Rattle.range_machine.specs.declared.Progress.{Progress}
 use Rattle.range_machine.specs.Turns.{soFar}

@@ -1,6 +1,6 @@
 -- The typed text of a panel: what each key's act and the clearing behind it make of the 48 bytes.
 use Prim.Native.Nat.{_+_, _-_, _<_, _≤_, min, suc, ℕ}
-use mathlib.Core.Path.{_∙_, _≡_, ap, refl, sym}
+use mathlib.Core.Path.{_∙_, _≡_, ap, sym}
 use mathlib.Core.List.{List, [], _++_, _∷_, append-nil}
 use lib.ListN.{drop, drop-of-length-le, length, length-replicate, replicate, replicate-append-replicate, set, take}
 use lib.Seq.{length-sets, length-take-le, sets, sets-eq, take-append-seam, take-suc-set, take-take}
@@ -11,7 +11,7 @@ use Rattle.octets.proofs.Stores.{sets-append}
 use Rattle.entries.specs.Entries.{Entry}
 use Rattle.entries.specs.Names.{longestName}
 use Rattle.panel.specs.declared.Panel.{Panel}
-use Rattle.panel.specs.Panel.{Typing, appended, erased, lowered, offeredFor, panelOf, typedIn, typing, typingIn}
+use Rattle.panel.specs.Panel.{Typing, appended, erased, lowered, offeredFor, panelOf, typedIn, typingIn}
 use Rattle.panel_keys.specs.Keys.{Counted, Typed}
 
 -- 48 zeros stored behind a text of 48 bytes or fewer: those past the end are left out

@@ -1,6 +1,6 @@
 -- `panel_keys::act` meets its contract: each key's act, by the tests of the definition in its order.
 -- No loop, so no invariant. Assumes nothing.
-use mathlib.Core.Path.{_∙_, _≡_, refl, sym}
+use mathlib.Core.Path.{_∙_, refl, sym}
 use borrow.Author.Tests.{ne-eqb}
 use Rattle.panel.specs.Panel.{acts}
 use Rattle.panel_keys.proofs.act.Statement.{statement}

@@ -3,7 +3,6 @@
 use native.Mathlib.Omega.{arith}
 use borrow.Author.Needs.{needs}
 use Rattle.book.specs.Book.{inBook}
-use Rattle.entries.specs.Completion.{matches}
 use Rattle.panel.specs.Panel.{panelCount, typedIn}
 use Rattle.panel_keys.proofs.Rows.{length-completion, lowers-none, lowers-one}
 use Rattle.panel_keys.proofs.down.Statement.{statement}

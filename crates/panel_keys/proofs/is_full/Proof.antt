@@ -1,6 +1,6 @@
 -- `panel_keys::is_full` meets its contract: both tests of the definition, in its order.
 -- No loop, so no invariant. Assumes nothing.
-use mathlib.Core.Path.{_∙_, _≡_, sym}
+use mathlib.Core.Path.{_∙_, sym}
 use borrow.Author.Tests.{not-false, not-true}
 use Rattle.panel_keys.proofs.is_full.Statement.{statement}
 use Rattle.panel_keys.proofs.is_full.Tie as tie

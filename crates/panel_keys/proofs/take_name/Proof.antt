@@ -1,14 +1,12 @@
 -- `panel_keys::take_name` meets its contract: the row's position is one that completion offers, and the name there becomes the text
 -- (proofs/Rows).
 -- No loop, so no invariant. Assumes nothing.
-use Prim.Native.Nat.{_<_, _≤_}
+use Prim.Native.Nat.{_<_}
 use mathlib.Core.Path.{_≡_, sym}
-use mathlib.Core.Bool.{true}
 use lib.ListN.{length}
 use native.Mathlib.Omega.{arith}
 use borrow.Author.Needs.{needs}
 use Rattle.entries.specs.Completion.{maxCount}
-use Rattle.entries.specs.Entries.{Entry, rising}
 use Rattle.entries.specs.Names.{longestName}
 use Rattle.book.specs.Book.{inBook}
 use Rattle.book.proofs.Lookups.{held-valid}
