@@ -58,8 +58,8 @@ module _ (book : List ℕ) (j : ℕ) where
       let b = has-bucket k h in
       let l = length-is k h in
       let p = held-head (held b) j (b .there) .name in
-      record { returned = rw h; start = rw h; length = rw h; part = rw h (rw l at p) }
+      record { returned = rw h; start = rw h; size = rw h; part = rw h (rw l at p) }
 
   pub told-refused : (n : ℕ) → headLength book j ≡ refused n → HeadTold book j n 0 0
   unfolding headName
-  told-refused n h = record { returned = rw h; start = rw h; length = rw h; part = rw h }
+  told-refused n h = record { returned = rw h; start = rw h; size = rw h; part = rw h }

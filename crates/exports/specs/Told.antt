@@ -84,6 +84,6 @@ headAt book j = offset layout21 (inBook book) j + 1
 pub record HeadTold (book : List ℕ) (j r s k : ℕ) : Type 0 where
   pub returned : r ≡ number (headLength book j)
   pub start : s ≡ onAnswer (headLength book j) 0 (headAt book j)
-  pub length : k ≡ counts 0 (headLength book j)
+  pub size : k ≡ counts 0 (headLength book j)
   -- that part of the book is the name, and empty with a refusal
   pub part : take k (drop s book) ≡ headName book j
