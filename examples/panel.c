@@ -37,6 +37,7 @@ static const char *reason(uint8_t number) {
     switch (number) {
     case 1: return "this is no book";
     case 2: return "a name has 1 to 48 bytes, each from 20 to 7E";
+    case 3: return "a completion is of 1 to 16 names";
     case 4: return "the book does not hold that name";
     case 5: return "the book is full";
     case 6: return "the book has no such position";

@@ -1,5 +1,5 @@
-//! A term's first lesson, on the label book's C calls: a teacher starts a book and edits it, a student types the start of a name and takes one
-//! that is offered, the teacher keeps the book as a sheet. Build and run it with examples/run-rust; examples/panel.c is the same in C.
+//! A term's first lesson, on the label book's C calls: a teacher starts a book and edits it, a student types the start of a name and takes
+//! one that is offered, the teacher keeps the book as a sheet. Build and run it with examples/run-rust; examples/panel.c is the same in C.
 use std::process::exit;
 
 /// The calls as include/label_book.h declares them.
@@ -138,6 +138,7 @@ fn reason(number: u8) -> &'static str {
     match number {
         1 => "this is no book",
         2 => "a name has 1 to 48 bytes, each from 20 to 7E",
+        3 => "a completion is of 1 to 16 names",
         4 => "the book does not hold that name",
         5 => "the book is full",
         6 => "the book has no such position",

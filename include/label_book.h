@@ -5,8 +5,8 @@
  * plain, and a trie holds them for completion. An image stands at the front of a lent buffer; the bytes behind it are neither read nor
  * changed. Positions count from 0 in name order, which is byte order.
  *
- * A buffer is a pointer and a length in bytes. A pointer is never null, not with length 0 either. A destination, lent ranges, a lent panel and
- * the out values overlap nothing else that is lent; two sources may be the same bytes. A call keeps no pointer and allocates nothing.
+ * A buffer is a pointer and a length in bytes. A pointer is never null, not with length 0 either. A destination, lent ranges, a lent panel
+ * and the out values overlap nothing else that is lent; two sources may be the same bytes. A call keeps no pointer and allocates nothing.
  *
  * Every call returns 0 or the number of its refusal, the smallest that applies:
  *   1  a book, sheet or trie that is not laid out as such, or is cut off by its buffer

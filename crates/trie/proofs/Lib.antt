@@ -1,3 +1,4 @@
 pub mod Sets
+pub mod Keys
 pub mod Header
 pub mod Trie

@@ -22,7 +22,7 @@ use Rattle.entries.proofs.Valid.{name-length, valid-of}
 use Rattle.trie.specs.Reading.{prefixed}
 use Rattle.trie.specs.Trie.{byFirst, highest, labelOf, levels, remains, usedUp}
 use Rattle.trie.proofs.Sets.{byFirst-flat, byFirst-run, flat, label-progress, label-split, used-up}
-use Rattle.trie_search.proofs.Keys.{key, label-key, setKey}
+use Rattle.trie.proofs.Keys.{key, label-key, setKey}
 use Rattle.trie_search.specs.Search.{Forest, none, tree, Waiting, wait, offers, inside, held, own, top, Proper}
 use Rattle.trie_search.proofs.Search.{Kept, rank-same, search-offers}
 use Rattle.trie_search.specs.Planted.{keyBefore, kidsOf, plantAll, plant}

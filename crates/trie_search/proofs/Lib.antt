@@ -1,4 +1,3 @@
-pub mod Keys
 pub mod Search
 pub mod Planted
 pub mod Descend

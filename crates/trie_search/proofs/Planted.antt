@@ -26,7 +26,7 @@ use Rattle.trie.specs.Reading.{prefixed}
 use Rattle.trie.specs.Trie.{byFirst, highest, labelOf, levels, remains, usedUp}
 use Rattle.trie.proofs.Sets.{OneFirst, byFirst-flat, byFirst-run, flat, highest-remains, label-progress, label-split, one-first, stripped, used-up}
 use Rattle.trie.proofs.Trie.{highest-append, highest-flat, highest-sort, set-in}
-use Rattle.trie_search.proofs.Keys.{Ordered, byFirst-ordered, key, label-key, same-key, setKey}
+use Rattle.trie.proofs.Keys.{Ordered, byFirst-ordered, key, label-key, same-key, setKey}
 use Rattle.trie_search.proofs.Search.{not-outranked, forest-offers, rank-same}
 use lib.Seq.{drop-append-seam}
 use Rattle.trie_search.specs.Search.{Forest, none, tree, Waiting, known, offers, waiting, inside, own, Clear, top, Proper}

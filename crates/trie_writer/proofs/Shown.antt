@@ -26,7 +26,8 @@ use Rattle.trie_nodes.specs.Runs.{Each, Falls, endsHere, firstHigh}
 use Rattle.trie_nodes.proofs.Loops.{length-nodesBytes}
 use Rattle.trie_rows.specs.Rows.{Good, Shared, Split, higher, restAt, setAt, setOf}
 use Rattle.trie_rows.proofs.Laws.{rest-part, row-facts, set-cons, shared-rising}
-use Rattle.trie_rows.proofs.Siblings.{byFirst-ordered, sort-higher}
+use Rattle.trie.proofs.Keys.{byFirst-ordered}
+use Rattle.trie_rows.proofs.Siblings.{sort-higher}
 use Rattle.trie_rows.proofs.Splitting.{set-member}
 use Rattle.trie_writer.specs.Writing.{underAt}
 use Rattle.trie_writer.proofs.Fuel.{Enough, enough-more, group-fuel, remains-some, set-enough}

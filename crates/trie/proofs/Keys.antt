@@ -14,27 +14,27 @@ use Rattle.octets.proofs.Order.{begins-take, below-cases}
 use Rattle.octets.proofs.Tests.{and-true, by-test, eqb-self}
 use Rattle.entries.specs.Entries.{Entry, rising}
 use Rattle.entries.proofs.Valid.{rising-tail}
 use Rattle.trie.specs.Trie.{byFirst, commonPrefix, joinFirst, labelOf, sameFirst}
 use Rattle.trie.proofs.Sets.{OneFirst, commonPrefix-begins, one-first, sameFirst-starts, starts, starts-prefix}
 
 -- the first set begins with the first suffix
-record Head (f : Entry) (fs : List Entry) : Type 0 where
-  more : List Entry
-  others : List (List Entry)
-  eq : byFirst (f ∷ fs) ≡ (f ∷ more) ∷ others
+pub record Head (f : Entry) (fs : List Entry) : Type 0 where
+  pub more : List Entry
+  pub others : List (List Entry)
+  pub eq : byFirst (f ∷ fs) ≡ (f ∷ more) ∷ others
 
 join-head : (f : Entry) (ss : List (List Entry)) → (m : List Entry) × (o : List (List Entry)) × (joinFirst f ss ≡ (f ∷ m) ∷ o)
 join-head f [] = ([], [], refl)
 join-head f ([] ∷ ss) = ([], ss, refl)
 join-head f ((g ∷ gs) ∷ ss) = by-test (sameFirst (f .name) (g .name)) (λ t. (g ∷ gs, ss, rw t)) (λ t. ([], (g ∷ gs) ∷ ss, rw t))
 
-first-head : (f : Entry) (fs : List Entry) → Head f fs
+pub first-head : (f : Entry) (fs : List Entry) → Head f fs
 first-head f fs = let j = join-head f (byFirst fs) in record { more = j .0; others = j .1; eq = j .2 }
 
-join-apart : (x f : Entry) (m : List Entry) (o : List (List Entry)) → sameFirst (x .name) (f .name) ≡ false → joinFirst x ((f ∷ m) ∷ o) ≡ (x ∷ []) ∷ (f ∷ m) ∷ o
+pub join-apart : (x f : Entry) (m : List Entry) (o : List (List Entry)) → sameFirst (x .name) (f .name) ≡ false → joinFirst x ((f ∷ m) ∷ o) ≡ (x ∷ []) ∷ (f ∷ m) ∷ o
 join-apart x f m o t = rw t
 
-join-same : (x f : Entry) (m : List Entry) (o : List (List Entry)) → sameFirst (x .name) (f .name) ≡ true → joinFirst x ((f ∷ m) ∷ o) ≡ (x ∷ f ∷ m) ∷ o
+pub join-same : (x f : Entry) (m : List Entry) (o : List (List Entry)) → sameFirst (x .name) (f .name) ≡ true → joinFirst x ((f ∷ m) ∷ o) ≡ (x ∷ f ∷ m) ∷ o
 join-same x f m o t = rw t
 
 -- the key of a suffix: 0 for the empty one, else its first byte and 1
