@@ -36,7 +36,8 @@ stored name own len k n e h q = rw (take-take k len name h, ← e) (take-sets na
 
 module _ (src : List ℕ) (c : Cursor) (sound : Sound src c) where
   -- no record of a book
-  pub step-bad : recordPart bucketHead (c .index) (nameIn c) (drop (c .at) src) ≡ Bad → Stepped src c (record { ok = false; next = c })
+  pub step-bad :
+      {d : Cursor} → recordPart bucketHead (c .index) (nameIn c) (drop (c .at) src) ≡ Bad → Stepped src c (record { ok = false; next = d })
   step-bad e = record { ok = sym (part-bad bucketHead (c .index) (nameIn c) (drop (c .at) src) e); next = λ t. absurd (false≢true t) }
 
   module _ (long : length (c .name) ≡ longestName) (kept start n : ℕ) where

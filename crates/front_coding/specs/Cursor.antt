@@ -9,6 +9,7 @@ use Rattle.entries.specs.Names.{isPrefix, longestName}
 use Rattle.front_coding.specs.Records.{bucketHead, recordLength, recordName}
 use Rattle.front_coding.specs.Step.{recordIs}
 use Rattle.front_coding.specs.declared.Cursor.{Cursor}
+use Rattle.front_coding.specs.declared.Reading.{Reading}
 use Rattle.front_coding.specs.declared.Step.{Step}
 
 -- the name that a cursor holds: the one of the record before it, none at first
@@ -34,3 +35,11 @@ pub record Next (s : List ℕ) (c d : Cursor) : Type 0 where
 pub record Stepped (s : List ℕ) (c : Cursor) (r : Step) : Type 0 where
   pub ok : r .ok ≡ recordIs bucketHead (c .index) (nameIn c) (drop (c .at) s)
   pub next : r .ok ≡ true → Next s c (r .next)
+
+-- Where the name is lent: the cursor made of its parts, and the step made of what the reading of the record at index i tells and of the name
+-- that it left.
+abbrev pub cursorOf : ℕ → ℕ → List ℕ → ℕ → Cursor
+cursorOf at i name len = record { at = at; index = i; name = name; len = len }
+
+abbrev pub stepOf : ℕ → Reading → List ℕ → Step
+stepOf i r name = record { ok = r .ok; next = cursorOf (r .end) (i + 1) name (r .len) }

@@ -6,7 +6,7 @@ ghost use lib.ListN.{length};
 ghost use Rattle.entries.specs.Names.{isPrefix, longestName};
 ghost use Rattle.front_coding.specs.Records.{bucketHead, recordOf};
 ghost use Rattle.front_coding.specs.Parts.{goesAbove, headPart, recordPart, tailPart};
-ghost use Rattle.front_coding.specs.Cursor.{Sound, Stepped};
+ghost use Rattle.front_coding.specs.Cursor.{Sound, Stepped, cursorOf, stepOf};
 ghost use Rattle.front_coding.specs.Written.{Room, Sized, Wrote, headRecord, tailRecord};
 
 // A place between records: where the next record starts, its position, and the name before it.
@@ -21,6 +21,13 @@ pub struct Cursor {
 pub struct Step {
     pub ok: bool,
     pub next: Cursor,
+}
+
+// Whether a record of a book stands at an index, where it ends, and the length of its name.
+pub struct Reading {
+    pub ok: bool,
+    pub end: usize,
+    pub len: usize,
 }
 
 // The parts of a record.
@@ -112,6 +119,31 @@ fn part_at(index: usize, prev: &[u8], s: &[u8]) -> Part
     }
 }
 
+// Reads the record at index at, at a position behind the name in the first len bytes of a lent array; its name takes that one's place.
+// For a pass over a whole book: the name stays where it is.
+pub fn read_record(src: &[u8], at: usize, index: usize, name: &mut [u8], len: usize) -> Reading
+    requires { ⌜ Sound (now src) (cursorOf at index (now name) len) × (length (now name) ≡ longestName) ⌝ }
+    ensures { λ r. ⌜ Stepped (now (src .entry)) (cursorOf at index (now (name .entry)) len) (stepOf index r (now (name .exit))) ⌝ }
+{
+    let s = &src[at..];
+    let part = part_at(index, &name[..len], s);
+    match part {
+        Part::Bad => Reading {
+            ok: false,
+            end: at,
+            len: len,
+        },
+        Part::Own(kept, start, n) => {
+            octets::copy(name, kept, &s[start..start + n]);
+            Reading {
+                ok: true,
+                end: at + start + n,
+                len: kept + n,
+            }
+        }
+    }
+}
+
 // Reads the record at a cursor: whether it is one of a book, and the cursor behind it.
 pub fn advance(src: &[u8], c: Cursor) -> Step
     requires { ⌜ Sound (now src) c ⌝ }
@@ -121,22 +153,15 @@ pub fn advance(src: &[u8], c: Cursor) -> Step
     let index = c.index;
     let len = c.len;
     let mut name = c.name;
-    let s = &src[at..];
-    let part = part_at(index, &name[..len], s);
-    match part {
-        Part::Bad => Step { ok: false, next: c },
-        Part::Own(kept, start, n) => {
-            octets::copy(&mut name, kept, &s[start..start + n]);
-            Step {
-                ok: true,
-                next: Cursor {
-                    at: at + start + n,
-                    index: index + 1,
-                    name: name,
-                    len: kept + n,
-                },
-            }
-        }
+    let t = read_record(src, at, index, &mut name, len);
+    Step {
+        ok: t.ok,
+        next: Cursor {
+            at: t.end,
+            index: index + 1,
+            name: name,
+            len: t.len,
+        },
     }
 }
 
