@@ -87,23 +87,23 @@ fn records_end(buf: &[u8], n: usize, start: usize) -> Ended
     requires { ⌜ (n ≤ maxEntries) × (start ≤ length (now buf)) ⌝ }
     ensures { λ r. ⌜ r ≡ endedAs (recordsEnd n n 0 [] start (now (buf .entry))) ⌝ }
 {
-    let mut c = front_coding::Cursor {
-        at: start,
-        index: 0,
-        name: [0; 48],
-        len: 0,
-    };
-    while c.index < n {
-        if !offset_is(buf, n, c.index, c.at) {
+    let mut name = [0u8; 48];
+    let mut len = 0;
+    let mut at = start;
+    let mut index = 0;
+    while index < n {
+        if !offset_is(buf, n, index, at) {
             return Ended::Damaged;
         }
-        let t = front_coding::advance(buf, c);
+        let t = front_coding::read_record(buf, at, index, &mut name, len);
         if !t.ok {
             return Ended::Damaged;
         }
-        c = t.next;
+        at = t.end;
+        len = t.len;
+        index += 1;
     }
-    Ended::At(c.at)
+    Ended::At(at)
 }
 
 // Where block j of n positions ends.

@@ -1,20 +1,26 @@
--- `book_check::records_end` meets its contract. The loop's invariant: the records from the cursor on end where all of them do.
--- The measure is the number of records left. Assumes nothing.
+-- `book_check::records_end` meets its contract. The loop's invariant: the records from index `at` on end where all of them do, and the
+-- array stays 48 bytes long. The measure is the number of records left. Assumes nothing.
 use Prim.Native.Nat.{_-_}
+use mathlib.Core.Path.{_∙_, _≡_, sym}
+use lib.ListN.{length}
 use native.Mathlib.Omega.{arith}
+use borrow.Author.Needs.{needs}
 use borrow.Author.Tests.{not-false, not-true}
+use Rattle.entries.specs.Names.{longestName}
+use Rattle.front_coding.specs.Cursor.{cursorOf}
 use Rattle.book_check.proofs.Loops.{Walking, walk-bad, walk-end, walk-misplaced, walk-start, walk-turn}
 use Rattle.book_check.proofs.records_end.Statement.{statement}
 use Rattle.book_check.proofs.records_end.Tie as tie
 
 abbrev Inv-loop : tie.InvT-loop
-Inv-loop buf n start c₀ c = Walking buf n start c
+Inv-loop buf n start name₀ len₀ at₀ index₀ name len at index =
+    Walking buf n start (cursorOf at index name len) × (length name ≡ longestName)
 
 abbrev μ-loop : tie.MeasureT-loop
-μ-loop buf n start c₀ c = n - c .index
+μ-loop buf n start name₀ len₀ at₀ index₀ name len at index = n - index
 
 loop-holds : tie.Need-loop-holds Inv-loop μ-loop
-loop-holds c = walk-start _ _ _ _ (c .before .pre .1)
+loop-holds c = (walk-start _ _ _ _ (c .before .pre .1), search needs)
 
 offset-is-requires : tie.Need-offset-is-requires Inv-loop μ-loop
 offset-is-requires c κs = omega arith
@@ -22,35 +28,41 @@ offset-is-requires c κs = omega arith
 returns : tie.Need-returns Inv-loop μ-loop
 returns c =
     let o = c .before in
-    walk-misplaced (o .before .before .before .loop .inv) (o .before .if1 .taken) (o .offset-is .ensures) (not-true _ (c .if2 .taken))
+    walk-misplaced (o .before .before .loop .inv .0) (o .before .loop-test .taken) (o .offset-is .ensures) (not-true _ (c .if1 .taken))
 
-advance-requires : tie.Need-advance-requires Inv-loop μ-loop
-advance-requires c κs =
-    let k = c .before .before in
-    k .before .before .loop .inv .sound (k .if1 .taken)
+slice-aggregate-read-record : tie.Need-slice-aggregate-read-record Inv-loop μ-loop
+slice-aggregate-read-record c = sym (c .before .before .before .before .loop .inv .1)
+
+read-record-requires : tie.Need-read-record-requires Inv-loop μ-loop
+read-record-requires c κs =
+    let k = c .before .before .before in
+    (k .before .loop .inv .0 .sound (k .loop-test .taken), k .before .loop .inv .1)
 
 returns-2 : tie.Need-returns-2 Inv-loop μ-loop
 returns-2 c =
-    let a = c .before .before in
-    let o = a .before .before in
-    walk-bad (o .before .before .before .loop .inv) (o .before .if1 .taken) (o .offset-is .ensures) (not-false _ (a .before .if2 .left))
-    (a .advance .ensures) (not-true _ (c .if3 .taken))
+    let a = c .before .before .before in
+    let o = a .before .before .before in
+    walk-bad (o .before .before .loop .inv .0) (o .before .loop-test .taken) (o .offset-is .ensures) (not-false _ (a .before .before .if1 .left))
+    (a .read-record .ensures) (not-true _ (c .if2 .taken))
+
+add-index : tie.Need-add-index Inv-loop μ-loop
+add-index c = omega arith
 
 loop-less : tie.Need-loop-less Inv-loop μ-loop
-loop-less c =
-    let a = c .before .before .before in
-    omega (arith, a .advance .ensures .next (not-false _ (c .before .if3 .left)) .index, a .before .before .before .if1 .taken)
+loop-less c = omega arith
 
 loop-again : tie.Need-loop-again Inv-loop μ-loop
 loop-again c =
     let a = c .before .before .before in
-    let o = a .before .before in
-    let l = o .before .before .before in
-    walk-turn (l .loop .inv) (o .before .if1 .taken) (o .offset-is .ensures) (not-false _ (a .before .if2 .left)) (a .advance .ensures)
-    (l .before .before .pre .0) (not-false _ (c .before .if3 .left))
+    let o = a .before .before .before in
+    let l = o .before .before in (
+      walk-turn (l .loop .inv .0) (o .before .loop-test .taken) (o .offset-is .ensures) (not-false _ (a .before .before .if1 .left))
+          (a .read-record .ensures) (l .before .before .pre .0) (not-false _ (c .if2 .left)),
+      a .read-record .kept .1 .1 .1 .0 ∙ l .loop .inv .1,
+    )
 
 returns-3 : tie.Need-returns-3 Inv-loop μ-loop
-returns-3 c = walk-end (c .before .before .loop .inv) (c .if1 .left)
+returns-3 c = walk-end (c .before .loop .inv .0) (c .loop-test .left)
 
 pub records-end-spec : {M : Type 1} → statement M
 records-end-spec =
@@ -61,8 +73,10 @@ records-end-spec =
     loop-holds
     offset-is-requires
     returns
-    advance-requires
+    slice-aggregate-read-record
+    read-record-requires
     returns-2
+    add-index
     loop-less
     loop-again
     returns-3)
