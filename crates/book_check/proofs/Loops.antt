@@ -7,38 +7,50 @@ use lib.Dec.{ltb}
 use lib.ListN.{length}
 use native.Mathlib.Numerals.{add-one}
 use native.Mathlib.Omega.{arith}
-use Rattle.octets.specs.Lists.{ceil}
-use Rattle.octets.proofs.Tests.{by-test}
+use borrow.Author.Tests.{le-ltb, lt-ltb}
+use Rattle.octets.specs.Lists.{ceil, if_then_else_}
 use Rattle.entries.specs.Entries.{maxEntries}
 use Rattle.front_coding.specs.Cursor.{Sound, Stepped, nameIn}
 use Rattle.front_coding.proofs.Steps.{next-sound, start-sound}
 use Rattle.book.specs.Book.{blockSize}
 use Rattle.book.specs.Check.{bestBetween, bestOn, offsetIs, peaksAre, recordsEnd, scoreAt}
-use Rattle.book_check.specs.Checked.{betterOf, endedAs, peakIs}
+use Rattle.book_check.specs.Checked.{endedAs, peakIs}
 use Rattle.front_coding.specs.declared.Cursor.{Cursor}
 use Rattle.front_coding.specs.declared.Step.{Step}
 use Rattle.book_check.specs.declared.Ended.{Ended}
 use Rattle.book_check.specs.declared.Ended.the-variants.{At, Damaged}
 
--- the best position: b is the best of those before i
-pub record Best (buf : List ℕ) (first end b i : ℕ) : Type 0 where
+-- the best position: b is the best of those before i, and has this score
+pub record Best (buf : List ℕ) (first end b score i : ℕ) : Type 0 where
   pub past : b < i
   pub within : i ≤ end
+  pub scored : score ≡ scoreAt buf b
   pub left : bestOn buf b i (end - i) ≡ bestBetween buf first end
 
-pub best-start : (buf : List ℕ) (first end : ℕ) → first < end → Best buf first end first (first + 1)
+pub best-start :
+    (buf : List ℕ) (first end : ℕ) {score : ℕ} → first < end → score ≡ scoreAt buf first → Best buf first end first score (first + 1)
 unfolding bestBetween
-best-start buf first end h = record { past = omega arith; within = omega arith; left = rw add-one }
+best-start buf first end h e = record { past = omega arith; within = omega arith; scored = e; left = rw add-one }
 
-pub best-turn : {buf : List ℕ} {first end b i : ℕ} → Best buf first end b i → i < end → Best buf first end (betterOf buf b i) (i + 1)
-best-turn {buf} {first} {end} {b} {i} g h =
-    let z : end - i ≡ suc (end - suc i) = omega arith in
-    record { past = one-of; within = omega arith; left = rw add-one (rw z at (g .left)) }
-  where
-    one-of : betterOf buf b i < i + 1
-    one-of = by-test (ltb (scoreAt buf b) (scoreAt buf i)) (λ t. rw t (omega arith)) (λ t. rw t (omega (arith, g .past)))
+-- a turn: s is the score of position i
+module _ {buf : List ℕ} {first end b score i s : ℕ} (g : Best buf first end b score i) (h : i < end) (e : s ≡ scoreAt buf i) where
+  on : bestOn buf (if ltb score s then i else b) (suc i) (end - suc i) ≡ bestBetween buf first end
+  on = let z : end - i ≡ suc (end - suc i) = omega arith in rw (g .scored, e) (rw z at (g .left))
 
-pub best-end : {buf : List ℕ} {first end b i : ℕ} → Best buf first end b i → end ≤ i → (b ≡ bestBetween buf first end) × (b < end)
+  pub best-taken : score < s → Best buf first end i s (i + 1)
+  best-taken l = record { past = omega arith; within = omega arith; scored = e; left = rw add-one (rw (lt-ltb score s l) at on) }
+
+  pub best-kept : s ≤ score → Best buf first end b score (i + 1)
+  best-kept l =
+      record {
+        past = omega (arith, g .past);
+        within = omega arith;
+        scored = g .scored;
+        left = rw add-one (rw (le-ltb score s l) at on);
+      }
+
+pub best-end :
+    {buf : List ℕ} {first end b score i : ℕ} → Best buf first end b score i → end ≤ i → (b ≡ bestBetween buf first end) × (b < end)
 best-end {end = end} {i = i} g h =
     let z : end - i ≡ 0 = omega (arith, g .within) in
     (rw z at (g .left), omega (arith, g .past, g .within))

@@ -63,9 +63,14 @@ pub fn best_between(buf: &[u8], first: usize, end: usize) -> usize
     ensures { λ r. ⌜ (r ≡ bestBetween (now (buf .entry)) first end) × (r < end) ⌝ }
 {
     let mut b = first;
+    let mut best = score_at(buf, first);
     let mut i = first + 1;
     while i < end {
-        b = better(buf, b, i);
+        let score = score_at(buf, i);
+        if best < score {
+            b = i;
+            best = score;
+        }
         i += 1;
     }
     b
