@@ -1,4 +1,4 @@
-// Front-coded records: a cursor by value that reads one record at a step, and a writer of one record.
+// Front-coded records: reading one, with the name before it in a lent array or in a cursor by value, and writing one.
 ghost use mathlib.Core.Path.{_≡_};
 ghost use mathlib.Core.Bool.{true};
 ghost use Prim.Native.Nat.{_≤_};
