@@ -1,4 +1,4 @@
-// Answer entries: what name-at, completion and sheets write for an entry.
+// Answer entries: what name-at, completion and sheets write for an entry. What a call that writes reports.
 ghost use mathlib.Core.Path.{_≡_};
 ghost use Prim.Native.Nat.{_+_, _≤_};
 ghost use lib.ListN.{length};
@@ -6,6 +6,13 @@ ghost use lib.Seq.{sets};
 ghost use Rattle.entries.specs.Entries.{entry};
 ghost use Rattle.entries.specs.Names.{longestName};
 ghost use Rattle.book.specs.Answers.{entryBytes};
+ghost use Rattle.answers.specs.Reports.{Answered, oneEntry};
+
+// What a call that writes a book, a sheet or an entry reports.
+pub enum Written {
+    Refused(u8),
+    Wrote { entries: usize, bytes: usize },
+}
 
 // Writes one entry, length byte, name and 4-byte score, for which there is room: where it ends.
 pub fn put_entry(dst: &mut [u8], at: usize, name: &[u8], score: u32) -> usize
@@ -17,4 +24,20 @@ pub fn put_entry(dst: &mut [u8], at: usize, name: &[u8], score: u32) -> usize
     let end = at + 1 + name.len();
     octets::write_u32(dst, end, score);
     end + 4
+}
+
+// Writes one answer entry, where the destination has room.
+pub fn write_entry(name: &[u8], score: u32, dst: &mut [u8]) -> Written
+    requires { ⌜ length (now name) ≤ longestName ⌝ }
+    ensures { λ r. ⌜ Answered (oneEntry (entry (now (name .entry)) score) (now (dst .entry))) r (now (dst .exit)) ⌝ }
+{
+    let bytes = name.len() + 5;
+    if dst.len() < bytes {
+        return Written::Refused(7);
+    }
+    put_entry(dst, 0, name, score);
+    Written::Wrote {
+        entries: 1,
+        bytes: bytes,
+    }
 }

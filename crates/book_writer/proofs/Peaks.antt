@@ -1,4 +1,4 @@
--- The loop of `put_peaks`: to put the peaks that are left gives what to put all of them at first gives.
+-- The store of `put_peak`, and the loop of `put_peaks`: to put the peaks that are left gives what to put all of them at first gives.
 use Prim.Native.Nat.{_*_, _+_, _-_, _<_, _≤_, min, suc, ℕ}
 use mathlib.Core.Path.{_≡_, refl}
 use mathlib.Core.List.{List}
@@ -10,7 +10,13 @@ use Rattle.octets.specs.Lists.{ceil}
 use Rattle.octets.specs.Octets.{be}
 use Rattle.book.specs.Book.{blockSize}
 use Rattle.book.specs.Check.{bestBetween, peaksStart}
-use Rattle.book_writer.specs.Writing.{putPeaks}
+use Rattle.book_writer.specs.Writing.{putPeak, putPeaks}
+
+-- the peak of a block, stored from what the calls give
+pub peak-stored :
+    (n j : ℕ) (d : List ℕ) {end top start : ℕ} {new : List ℕ} → end ≡ min n (blockSize * j + blockSize) → top ≡ bestBetween d (blockSize * j) end
+    → start ≡ peaksStart n → new ≡ sets d (start + 2 * j) (be 2 top) → new ≡ putPeak n j d
+peak-stored n j d e b s w = rw (w, b, e, s)
 
 pub record PeaksLeft (d₀ : List ℕ) (n : ℕ) (d : List ℕ) (j : ℕ) : Type 0 where
   pub within : j ≤ ceil n blockSize
@@ -22,17 +28,16 @@ peaks-start d₀ n =
     let z : ceil n blockSize - 0 ≡ ceil n blockSize = omega arith in
     record { within = omega arith; sameLength = refl; rest = rw z }
 
--- the peak of the next block, from the scores in the buffer
+-- the peak of the next block
 pub peaks-turn :
-    {d₀ : List ℕ} {n : ℕ} {d new : List ℕ} {j end top : ℕ} → PeaksLeft d₀ n d j → j < ceil n blockSize
-    → end ≡ min n (blockSize * j + blockSize) → top ≡ bestBetween d (blockSize * j) end
-    → new ≡ sets d (peaksStart n + 2 * j) (be 2 top) → PeaksLeft d₀ n new (j + 1)
-peaks-turn {d₀} {n} {d} {new} {j} {end} {top} p h e b w =
+    {d₀ : List ℕ} {n : ℕ} {d new : List ℕ} {j : ℕ} → PeaksLeft d₀ n d j → j < ceil n blockSize → new ≡ putPeak n j d
+    → PeaksLeft d₀ n new (j + 1)
+peaks-turn {d₀} {n} {d} {new} {j} p h w =
     let z : ceil n blockSize - j ≡ suc (ceil n blockSize - (j + 1)) = omega arith in
     record {
       within = omega arith;
-      sameLength = rw (w, length-sets d (peaksStart n + 2 * j) (be 2 top)) (p .sameLength);
-      rest = rw (w, b, e, add-one j) (rw (z, add-one j) at (p .rest));
+      sameLength = rw (w, length-sets d (peaksStart n + 2 * j) (be 2 (bestBetween d (blockSize * j) (min n (blockSize * j + blockSize))))) (p .sameLength);
+      rest = rw (w, add-one j) (rw (z, add-one j) at (p .rest));
     }
 
 pub peaks-end :

@@ -41,35 +41,37 @@ record Peaking (es : List Entry) (d₀ d : List ℕ) (j : ℕ) : Type 0 where
   peaked : (k : ℕ) → k < j → begins (be 2 (peak es k)) (drop (peaksStart (length es) + 2 * k) d) ≡ true
   recorded : begins (records bucketHead 0 [] (names es)) (drop (recordsAt layout21 (length es)) d) ≡ true
 
+pub image-long : (es : List Entry) → recordsAt layout21 (length es) ≤ length (imageIn layout21 es)
+image-long es = let l = image-length layout21 es in omega arith
+
+-- the scores stand in a buffer: the best of a block, computed from them, is its peak
+module _
+    (es : List Entry) (v : Valid es) (d : List ℕ) (fits : length (imageIn layout21 es) ≤ length d)
+    (scored : (k : ℕ) → k < length es → begins (be 4 (at es k .score)) (drop (7 + 4 * k) d) ≡ true)
+  where
+    scored-at : (i : ℕ) → i < length es → scoreAt d i ≡ at es i .score
+    unfolding scoreAt recordsAt isScore
+    scored-at i l =
+        let g = image-long es in
+        stands-number 4 d (7 + 4 * i) (at es i .score) (ltb-true (at es i .score) (2 ^ 32) (at-all (λ e. isScore (e .score)) noEntry es (v .fits) i l))
+        (scored i l) (omega arith)
+
+    pub peak-computed :
+        (j : ℕ) → blockSize * j < length es → bestBetween d (blockSize * j) (min (length es) (blockSize * j + blockSize)) ≡ peak es j
+    peak-computed j h =
+        best-between es (v .order) d scored-at (blockSize * j) (min (length es) (blockSize * j + blockSize)) (omega arith) (omega arith)
+        ∙ sym (peak-span es j h)
+
 module _ (es : List Entry) (v : Valid es) (d₀ : List ℕ) where
   abbrev n : ℕ
   n = length es
-
-  image-long : recordsAt layout21 n ≤ length (imageIn layout21 es)
-  image-long = let l = image-length layout21 es in omega arith
-
-  scored-at : (d : List ℕ) (j : ℕ) → Peaking es d₀ d j → (i : ℕ) → i < n → scoreAt d i ≡ at es i .score
-  unfolding scoreAt recordsAt isScore
-  scored-at d j p i l =
-      let f = p .fits in
-      let g = image-long in
-      stands-number 4 d (7 + 4 * i) (at es i .score) (ltb-true (at es i .score) (2 ^ 32) (at-all (λ e. isScore (e .score)) noEntry es (v .fits) i l))
-      (p .scored i l) (omega arith)
-
-  -- the best of a block, computed from the scores in the buffer, is its peak
-  peak-computed :
-      (d : List ℕ) (j : ℕ) → Peaking es d₀ d j → blockSize * j < n
-      → bestBetween d (blockSize * j) (min n (blockSize * j + blockSize)) ≡ peak es j
-  peak-computed d j p h =
-      best-between es (v .order) d (scored-at d j p) (blockSize * j) (min n (blockSize * j + blockSize)) (omega arith) (omega arith)
-      ∙ sym (peak-span es j h)
 
   -- one peak more
   peak-put : (d : List ℕ) (j : ℕ) → Peaking es d₀ d j → blockSize * j < n → Peaking es d₀ (sets d (peaksStart n + 2 * j) (be 2 (peak es j))) (suc j)
   unfolding recordsAt
   peak-put d j p h =
       let f = p .fits in
-      let g = image-long in
+      let g = image-long es in
       let there : peaksStart n + 2 * j + length (be 2 (peak es j)) ≤ length d = rw length-be (omega arith) in
       record {
         fits = rw length-sets f;
@@ -94,7 +96,7 @@ module _ (es : List Entry) (v : Valid es) (d₀ : List ℕ) where
   peaks-put : (m j : ℕ) (d : List ℕ) → j + m ≡ ceil n blockSize → Peaking es d₀ d j → Peaking es d₀ (putPeaks m n j d) (ceil n blockSize)
   peaks-put zero j d e p = subst (Peaking es d₀ d) (sym (add-zero j) ∙ e) p
   peaks-put (suc m) j d e p =
-      rw (peak-computed d j p (omega arith)) (peaks-put m (suc j) (sets d (peaksStart n + 2 * j) (be 2 (peak es j))) (omega arith) (peak-put d j p (omega arith)))
+      rw (peak-computed es v d (p .fits) (p .scored) j (omega arith)) (peaks-put m (suc j) (sets d (peaksStart n + 2 * j) (be 2 (peak es j))) (omega arith) (peak-put d j p (omega arith)))
 
   -- the frame
   abbrev T : ℕ
@@ -115,7 +117,7 @@ module _ (es : List Entry) (v : Valid es) (d₀ : List ℕ) where
 
     seven : 7 ≤ length d
     unfolding recordsAt
-    seven = let f = p .fits in let g = image-long in omega arith
+    seven = let f = p .fits in let g = image-long es in omega arith
 
     long₁ : length e₁ ≡ length d
     long₁ = length-sets d 0 version
@@ -158,7 +160,7 @@ module _ (es : List Entry) (v : Valid es) (d₀ : List ℕ) where
     framed-whole : putFrame T n d ≡ overwrite d₀ (imageIn layout21 es)
     unfolding putFrame recordsAt
     framed-whole =
-        let g = image-long in
+        let g = image-long es in
         let q = begins-split (imageIn layout21 es) e₃ (of-sections layout21 es e₃ framed-sections) in
         let r : drop T e₃ ≡ drop T d₀ =
         sets-behind e₂ (be 2 n) 5 room₃ T (rw length-be (omega arith))

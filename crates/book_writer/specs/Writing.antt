@@ -18,11 +18,14 @@ unfoldable pub putEntry : ℕ → ℕ → List ℕ → ℕ → Entry → List �
 putEntry n i prev at e d =
     sets (putOffset n i at (sets d (7 + 4 * i) (be 4 (e .score)))) at (recordOf bucketHead i prev (e .name))
 
--- the peaks of m blocks from block j on, computed from the scores that stand in the buffer
+-- the peak of block j, computed from the scores that stand in the buffer
+abbrev pub putPeak : ℕ → ℕ → List ℕ → List ℕ
+putPeak n j d = sets d (peaksStart n + 2 * j) (be 2 (bestBetween d (blockSize * j) (min n (blockSize * j + blockSize))))
+
+-- the peaks of m blocks from block j on
 abbrev pub putPeaks : ℕ → ℕ → ℕ → List ℕ → List ℕ
 putPeaks zero n j d = d
-putPeaks (suc m) n j d =
-    putPeaks m n (suc j) (sets d (peaksStart n + 2 * j) (be 2 (bestBetween d (blockSize * j) (min n (blockSize * j + blockSize)))))
+putPeaks (suc m) n j d = putPeaks m n (suc j) (putPeak n j d)
 
 -- version, total length, n
 unfoldable pub putFrame : ℕ → ℕ → List ℕ → List ℕ

@@ -4,7 +4,7 @@ ghost use Prim.Native.Nat.{_*_, _+_, _<_, _≤_, min};
 ghost use Rattle.octets.specs.Lists.{ceil};
 ghost use Rattle.entries.specs.Entries.{maxEntries};
 ghost use Rattle.book.specs.Book.{blockSize};
-ghost use Rattle.book_writer.specs.Writing.{finished, putOffset, putPeaks};
+ghost use Rattle.book_writer.specs.Writing.{finished, putOffset, putPeak, putPeaks};
 ghost use Rattle.book_writer.specs.Calls.{Put, PutRoom, Started};
 
 // The cursor at the first record of a book of n entries.
@@ -69,17 +69,24 @@ fn block_end(n: usize, j: usize) -> usize
     16 * j + 16
 }
 
+// Stores the peak of block j, computed from the scores in dst.
+pub fn put_peak(dst: &mut [u8], n: usize, j: usize)
+    requires { ⌜ (n ≤ maxEntries) × (j < ceil n blockSize) ⌝ }
+    ensures { λ _. ⌜ now (dst .exit) ≡ putPeak n j (now (dst .entry)) ⌝ }
+{
+    let best = book_check::best_between(dst, 16 * j, block_end(n, j));
+    octets::write_u16(dst, book_check::peaks_at(n) + 2 * j, best as u16);
+}
+
 // Stores the peak of each block.
 fn put_peaks(dst: &mut [u8], n: usize)
     requires { ⌜ n ≤ maxEntries ⌝ }
     ensures { λ _. ⌜ now (dst .exit) ≡ putPeaks (ceil n blockSize) n 0 (now (dst .entry)) ⌝ }
 {
     let blocks = (n + 15) / 16;
-    let start = 7 + 4 * n + 2 * ((n + 7) / 8);
     let mut j = 0;
     while j < blocks {
-        let best = book_check::best_between(dst, 16 * j, block_end(n, j));
-        octets::write_u16(dst, start + 2 * j, best as u16);
+        put_peak(dst, n, j);
         j += 1;
     }
 }

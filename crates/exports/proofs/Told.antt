@@ -12,8 +12,8 @@ use Rattle.panel.specs.Panel.{AfterKey}
 use Rattle.panel.specs.declared.Panel.{Panel}
 use Rattle.panel_keys.specs.Keys.{PressedAs, pressedOf}
 use Rattle.panel_keys.specs.declared.Pressed.{Pressed}
-use Rattle.label_book.specs.Calls.{Answered, writtenOf}
-use Rattle.label_book.specs.declared.Written.{Written}
+use Rattle.answers.specs.Reports.{Answered, writtenOf}
+use Rattle.answers.specs.declared.Written.{Written}
 use Rattle.exports.specs.Told.{Left, OfferedLeft, OfferedOver, OfferedTold, PanelLeft, RowsTold, WrittenTold}
 
 -- every call that writes

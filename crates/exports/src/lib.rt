@@ -9,7 +9,8 @@ ghost use Rattle.completion.specs.Complete.{completeBook, offeredOf};
 ghost use Rattle.trie.specs.Calls.{completeTrie, writeTrie};
 ghost use Rattle.panel.specs.Panel.{press};
 ghost use Rattle.panel_keys.specs.Keys.{pressedOf};
-ghost use Rattle.label_book.specs.Calls.{foundOf, spanOf, writtenOf};
+ghost use Rattle.answers.specs.Reports.{writtenOf};
+ghost use Rattle.lookups.specs.Finding.{foundOf, spanOf};
 ghost use Rattle.exports.specs.Told.{FoundTold, HasBucket, HeadTold, Left, OfferedLeft, OfferedOver, OfferedTold, PanelLeft, RowsTold, SpanTold, WrittenTold, headAt};
 
 // Tells what was written.

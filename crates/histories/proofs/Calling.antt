@@ -28,12 +28,12 @@ use Rattle.book.proofs.Lookups.{held-stored}
 use Rattle.book.proofs.Size.{book-length}
 use Rattle.edits.specs.Edits.{setEntry, withdraw}
 use Rattle.ledger.specs.Ledger.{Edit, reported}
-use Rattle.label_book.specs.Calls.{Answered, writtenOf}
+use Rattle.answers.specs.Reports.{Answered, writtenOf}
 use Rattle.histories.specs.Code.{Called, Performed, Small, Tells}
 use Rattle.histories.specs.Run.{bench, benchStep, buffers}
 use Rattle.histories.specs.Script.{answerBytes, callAt, callName}
-use Rattle.label_book.specs.declared.Written.{Written}
-use Rattle.label_book.specs.declared.Written.the-variants as written
+use Rattle.answers.specs.declared.Written.{Written}
+use Rattle.answers.specs.declared.Written.the-variants as written
 use Rattle.histories.specs.declared.Told.{Told}
 
 -- a book that is written has few entries and bytes

@@ -13,14 +13,14 @@ use Rattle.octets.proofs.Stores.{sets-append, sets-overwrite}
 use Rattle.octets.proofs.Tests.{by-test}
 use Rattle.book.specs.Answers.{onAnswer}
 use Rattle.ledger.specs.Ledger.{Edit}
-use Rattle.label_book.specs.Calls.{writtenOf}
+use Rattle.answers.specs.Reports.{writtenOf}
 use Rattle.histories.specs.Code.{AllPlayed, Performed, Playable, foundLength}
 use Rattle.histories.specs.Run.{Bench, bench, benchAfter, benchCall, benchStep, told}
 use Rattle.histories.specs.Script.{answerBytes, callAt, callLength, calls, callsOf, isCall, isLaid, onward}
 use Rattle.histories.proofs.Calling.{length-answer}
 use Rattle.histories.proofs.Counting.{found-length}
 use Rattle.histories.proofs.Script.{call-stands, calls-at, calls-end, calls-none}
-use Rattle.label_book.specs.declared.Written.{Written}
+use Rattle.answers.specs.declared.Written.{Written}
 
 length-told : (cs : List Edit) (b : Bench) → length (told cs b) ≡ 7 * length cs
 length-told [] b = omega arith

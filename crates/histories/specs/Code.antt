@@ -11,10 +11,10 @@ use Rattle.octets.specs.Octets.{overwrite}
 use Rattle.book.specs.Answers.{Answer, counts, given, noneWritten, number, refused}
 use Rattle.ledger.specs.History.{Buffers, call}
 use Rattle.ledger.specs.Ledger.{Edit}
-use Rattle.label_book.specs.Calls.{Answered, writtenOf}
+use Rattle.answers.specs.Reports.{Answered, writtenOf}
 use Rattle.histories.specs.Run.{Bench, Finish, benchAfter, benchCall, benchStep, told}
 use Rattle.histories.specs.Script.{callLength, calls, callsOf, isCall, isLaid}
-use Rattle.label_book.specs.declared.Written.{Written}
+use Rattle.answers.specs.declared.Written.{Written}
 use Rattle.histories.specs.declared.Counted.{Counted}
 use Rattle.histories.specs.declared.Counted.the-variants as counted
 use Rattle.histories.specs.declared.Told.{Told}

@@ -5,7 +5,7 @@ ghost use Prim.Native.Nat.{_+_, _≤_};
 ghost use lib.ListN.{length};
 ghost use lib.Seq.{sets};
 ghost use Rattle.book.specs.Answers.{onAnswer};
-ghost use Rattle.label_book.specs.Calls.{writtenOf};
+ghost use Rattle.answers.specs.Reports.{writtenOf};
 ghost use Rattle.histories.specs.Script.{answerBytes, callAt, calls, isCall};
 ghost use Rattle.histories.specs.Run.{bench, buffers, runOf};
 ghost use Rattle.histories.specs.Code.{AllPlayed, Called, Performed, Playable, Small, Tells, countedAs, finishOf, foundLength};

@@ -6,7 +6,7 @@ use mathlib.Core.List.{List, _++_}
 use Rattle.octets.specs.Text.{text}
 use Rattle.edits.specs.Edits.{setEntry, withdraw}
 use Rattle.ledger.specs.Ledger.{Edit}
-use Rattle.label_book.specs.Calls.{Answered, writtenOf}
+use Rattle.answers.specs.Reports.{Answered, writtenOf}
 use Rattle.histories.specs.Code.{Called, Performed}
 use Rattle.histories.specs.Run.{Bench, buffers}
 use Rattle.histories.proofs.Calling.{score-fits, set-small, withdraw-small}
@@ -14,8 +14,8 @@ use Rattle.histories.proofs.Playing.{performed-bench}
 use Rattle.commands.specs.Program.{decimal, edit, lineFeed, refusedLine}
 use Rattle.command_lines.specs.Printing.{Put}
 use Rattle.interpreter.specs.Step.{EditPrinted, StepDone, editOf}
-use Rattle.label_book.specs.declared.Written.{Written}
-use Rattle.label_book.specs.declared.Written.the-variants as written
+use Rattle.answers.specs.declared.Written.{Written}
+use Rattle.answers.specs.declared.Written.the-variants as written
 use Rattle.interpreter.specs.declared.Stepped.{Stepped}
 
 -- the call by its kind

@@ -12,11 +12,11 @@ use Rattle.completion.specs.Complete.{badCount}
 use Rattle.completion.specs.Machine.{machine}
 use Rattle.sheet.specs.Sheet.{sheetFrom}
 use Rattle.ledger.specs.Ledger.{Edit, setName, withdrawName}
-use Rattle.label_book.specs.Calls.{writtenOf}
+use Rattle.answers.specs.Reports.{writtenOf}
 use Rattle.histories.specs.Run.{Bench, bench, benchCall, benchStep, bookOf}
 use Rattle.commands.specs.Program.{bad, edit, editLine, offerLines, refusedLine, top, topLines}
 use Rattle.command_lines.specs.Printing.{Laid, Put, badLine}
-use Rattle.label_book.specs.declared.Written.{Written}
+use Rattle.answers.specs.declared.Written.{Written}
 use Rattle.completion.specs.declared.Completion.{Completion}
 use Rattle.completion.specs.declared.Completion.the-variants as answer
 use Rattle.interpreter.specs.declared.Stepped.{Stepped}

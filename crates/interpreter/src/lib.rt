@@ -3,7 +3,7 @@ ghost use mathlib.Core.Path.{_≡_};
 ghost use mathlib.Core.Bool.{false};
 ghost use Prim.Native.Nat.{_+_, _≤_, min};
 ghost use lib.ListN.{length, take};
-ghost use Rattle.label_book.specs.Calls.{writtenOf};
+ghost use Rattle.answers.specs.Reports.{writtenOf};
 ghost use Rattle.histories.specs.Code.{Called, Performed, Small};
 ghost use Rattle.histories.specs.Run.{bench, buffers};
 ghost use Rattle.commands.specs.Program.{commandOf, edit, top};

@@ -9,52 +9,19 @@ use Rattle.book_writer.proofs.put_peaks.Statement.{statement}
 use Rattle.book_writer.proofs.put_peaks.Tie as tie
 
 abbrev Inv-loop : tie.InvT-loop
-Inv-loop dst₀ n blocks start j₀ dst j = PeaksLeft dst₀ n dst j
+Inv-loop dst₀ n blocks j₀ dst j = PeaksLeft dst₀ n dst j
 
 abbrev μ-loop : tie.MeasureT-loop
-μ-loop dst₀ n blocks start j₀ dst j = ceil n blockSize - j
+μ-loop dst₀ n blocks j₀ dst j = ceil n blockSize - j
 
 add-blocks : tie.Need-add-blocks Inv-loop μ-loop
 add-blocks c = omega arith
 
-mul-start : tie.Need-mul-start Inv-loop μ-loop
-mul-start c = omega arith
-
-add-start : tie.Need-add-start Inv-loop μ-loop
-add-start c = omega arith
-
-add-start-2 : tie.Need-add-start-2 Inv-loop μ-loop
-add-start-2 c = omega arith
-
-mul-start-2 : tie.Need-mul-start-2 Inv-loop μ-loop
-mul-start-2 c = omega arith
-
-add-start-3 : tie.Need-add-start-3 Inv-loop μ-loop
-add-start-3 c = omega arith
-
 loop-holds : tie.Need-loop-holds Inv-loop μ-loop
 loop-holds c = let a = c .before .args in peaks-start (a .dst .now) (a .n)
 
-mul-best-between : tie.Need-mul-best-between Inv-loop μ-loop
-mul-best-between c = omega arith
-
-block-end-requires : tie.Need-block-end-requires Inv-loop μ-loop
-block-end-requires c κs = omega arith
-
-best-between-requires : tie.Need-best-between-requires Inv-loop μ-loop
-best-between-requires c κs = omega arith
-
-mul-write-u16 : tie.Need-mul-write-u16 Inv-loop μ-loop
-mul-write-u16 c = omega arith
-
-add-write-u16 : tie.Need-add-write-u16 Inv-loop μ-loop
-add-write-u16 c = omega arith
-
-cast-write-u16 : tie.Need-cast-write-u16 Inv-loop μ-loop
-cast-write-u16 c = omega arith
-
-write-u16-requires : tie.Need-write-u16-requires Inv-loop μ-loop
-write-u16-requires c κs = tt
+put-peak-requires : tie.Need-put-peak-requires Inv-loop μ-loop
+put-peak-requires c κs = omega arith
 
 add-j : tie.Need-add-j Inv-loop μ-loop
 add-j c = omega arith
@@ -65,10 +32,7 @@ loop-less c = omega arith
 loop-again : tie.Need-loop-again Inv-loop μ-loop
 loop-again c =
     let w = c .before .before in
-    let b = w .before .before in
-    let e = b .before in
-    let l = e .before .before .before in
-    peaks-turn (l .loop .inv) (omega arith) (e .block-end .ensures) (b .best-between .ensures .0) (w .write-u16 .ensures)
+    peaks-turn (w .before .before .before .loop .inv) (omega arith) (w .put-peak .ensures)
 
 same-length : tie.Need-same-length Inv-loop μ-loop
 same-length c = c .before .loop .inv .sameLength
@@ -83,19 +47,8 @@ put-peaks-spec =
     Inv-loop
     μ-loop
     add-blocks
-    mul-start
-    add-start
-    add-start-2
-    mul-start-2
-    add-start-3
     loop-holds
-    mul-best-between
-    block-end-requires
-    best-between-requires
-    mul-write-u16
-    add-write-u16
-    cast-write-u16
-    write-u16-requires
+    put-peak-requires
     add-j
     loop-less
     loop-again

@@ -1,4 +1,0 @@
-pub mod Finding
-pub mod Writing
-pub mod Converting
-pub mod Editing

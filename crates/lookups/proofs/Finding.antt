@@ -1,0 +1,153 @@
+-- What lookups by name learn of a book that was checked.
+use Rattle.lookups.proofs.Found.{the-type}
+use Prim.Native.Nat.{_-_, _<_, _≤_, ℕ}
+use mathlib.Core.Path.{_∙_, _≡_, ap, sym}
+use mathlib.Core.Logic.{inl, inr}
+use mathlib.Core.Bool.{false, true}
+use mathlib.Core.List.{List, [], _∷_}
+use mathlib.Core.Option.{Option, none, some}
+use lib.ListN.{length}
+use native.Mathlib.Omega.{arith}
+use denote.Enum.Declared.{tagOf}
+use types.Run.{OneOf}
+use Rattle.octets.specs.Octets.{same}
+use Rattle.octets.proofs.Count.{count}
+use Rattle.octets.proofs.Order.{same-eq}
+use Rattle.octets.proofs.Tests.{by-test}
+use Rattle.entries.specs.Entries.{Entry, at, entry, holds, position}
+use Rattle.entries.specs.Names.{isPrefix}
+use Rattle.entries.specs.Place.{place}
+use Rattle.entries.proofs.Place.{place-absent, place-held, position-at}
+use Rattle.entries.proofs.Same.{entry-eq}
+use Rattle.book.specs.Answers.{Answer, Place, Span, given, refused}
+use Rattle.book.specs.Book.{inBook}
+use Rattle.book.specs.Check.{scoreAt}
+use Rattle.book.specs.Held.{Held}
+use Rattle.book.specs.Lookups.{foundIn, prefixRange}
+use Rattle.book.proofs.Lookups.{held-stored, held-valid, range-none, range-some}
+use Rattle.lookups.specs.Finding.{foundOf, placeAs}
+use Rattle.lookups.specs.declared.Place.the-variants as places
+use Rattle.lookups.specs.declared.Found.{Found}
+use Rattle.lookups.specs.declared.Found.the-variants as found
+
+-- the place of a name is past the last entry, or has another name: a gap
+pub gap-past : (b w : List ℕ) (n i : ℕ) → Held b n → i ≡ place false w (inBook b) → n ≤ i → places.Gap i ≡ placeAs w (inBook b)
+gap-past b w n i h p l =
+    let c = h .count in
+    rw (place-absent w (inBook b) (held-valid h .order) (λ m. absurd (omega arith)), p)
+
+pub gap-other :
+    (b w u : List ℕ) (n i : ℕ) → Held b n → i ≡ place false w (inBook b) → u ≡ at (inBook b) i .name → same u w ≡ false
+    → places.Gap i ≡ placeAs w (inBook b)
+gap-other b w u n i h p e s = rw (place-absent w (inBook b) (held-valid h .order) (λ m. rw (← p, ← e) s), p)
+
+-- it has that name
+pub held-here :
+    (b w u : List ℕ) (n i : ℕ) → Held b n → i ≡ place false w (inBook b) → i < n → u ≡ at (inBook b) i .name → same u w ≡ true
+    → places.Held i ≡ placeAs w (inBook b)
+held-here b w u n i h p l e t =
+    let c = h .count in
+    let m : i < length (inBook b) = omega arith in
+    let q : at (inBook b) i .name ≡ w = sym e ∙ same-eq u w t in
+    let f = place-held w (inBook b) (held-valid h .order) (rw (← p) m) (rw (← p) q) in
+    rw (f .0, f .1, ← p)
+
+-- taken apart: a position is that of a name that is held, a gap the place of one that is not
+pub at-held : (w : List ℕ) (es : List Entry) {i : ℕ} → places.Held i ≡ placeAs w es → (holds w es ≡ true) × (i ≡ position w es)
+at-held w es {i} e =
+    by-test (holds w es)
+    (λ t. (t, (let z : places.Held i ≡ places.Held (position w es) = rw t at e in cc)))
+    (λ t. let z : places.Held i ≡ places.Gap (place false w es) = rw t at e in let y : _≡_ {A = ℕ} 0 1 = cc in absurd (omega arith))
+
+pub at-gap : (w : List ℕ) (es : List Entry) {i : ℕ} → places.Gap i ≡ placeAs w es → (holds w es ≡ false) × (i ≡ place false w es)
+at-gap w es {i} e =
+    by-test (holds w es)
+    (λ t. let z : places.Gap i ≡ places.Held (position w es) = rw t at e in let y : _≡_ {A = ℕ} 0 1 = cc in absurd (omega arith))
+    (λ t. (t, (let z : places.Gap i ≡ places.Gap (place false w es) = rw t at e in cc)))
+
+pub held-low : (b w : List ℕ) (n : ℕ) {i : ℕ} → Held b n → places.Held i ≡ placeAs w (inBook b) → i < n
+held-low b w n {i} h e =
+    let f = at-held w (inBook b) e in
+    omega (arith, h .count, f .1, position-at w (inBook b) (f .0) .0)
+
+-- so finding gives the position with its score, or none
+pub found-at :
+    (b w : List ℕ) (n i s : ℕ) → Held b n → places.Held i ≡ placeAs w (inBook b) → s ≡ scoreAt b i
+    → _≡_ {A = Answer (Option Place)} (given (some (record { position = i; score = s }))) (given (foundIn w (inBook b)))
+unfolding foundIn
+found-at b w n i s h e z =
+    let f = at-held w (inBook b) e in
+    let m = position-at w (inBook b) (f .0) .0 in
+    let score : s ≡ at (inBook b) (position w (inBook b)) .score = z ∙ ap (scoreAt b) (f .1) ∙ held-stored h .scoredAt (position w (inBook b)) m in
+    rw (f .0, f .1, score)
+
+pub found-gap :
+    (b w : List ℕ) (i : ℕ) → places.Gap i ≡ placeAs w (inBook b) → _≡_ {A = Answer (Option Place)} (given none) (given (foundIn w (inBook b)))
+unfolding foundIn
+found-gap b w i e = rw (at-gap w (inBook b) e .0)
+
+scoreIn : Answer (Option Place) → ℕ
+scoreIn (refused n) = 0
+scoreIn (given none) = 0
+scoreIn (given (some p)) = p .score
+
+positionIn : Answer (Option Place) → ℕ
+positionIn (refused n) = 0
+positionIn (given none) = 0
+positionIn (given (some p)) = p .position
+
+-- a name that is found is the entry at its position
+pub found-entry :
+    (w : List ℕ) (es : List Entry) (i s : ℕ) → _≡_ {A = Answer (Option Place)} (given (some (record { position = i; score = s }))) (given (foundIn w es))
+    → (holds w es ≡ true) × (entry w s ≡ at es (position w es))
+unfolding foundIn scoreIn
+found-entry w es i s h =
+    by-test (holds w es)
+    (λ t. (t, here t (rw t at h)))
+    (λ t. let y : _≡_ {A = Answer (Option Place)} (given (some (record { position = i; score = s }))) (given none) = rw t at h in let z : _≡_ {A = ℕ} 0 1 = cc in absurd (omega arith))
+  where
+    here : holds w es ≡ true → _≡_ {A = Answer (Option Place)} (given (some (record { position = i; score = s }))) (given (some (record { position = position w es; score = at es (position w es) .score }))) → entry w s ≡ at es (position w es)
+    here t e =
+        let q : s ≡ at es (position w es) .score = ap scoreIn e in
+        entry-eq (entry w s) (at es (position w es)) (sym (position-at w es t .1)) q
+
+pub found-position :
+    (w : List ℕ) (es : List Entry) (i s : ℕ) → _≡_ {A = Answer (Option Place)} (given (some (record { position = i; score = s }))) (given (foundIn w es))
+    → (holds w es ≡ true) × (i ≡ position w es)
+unfolding foundIn positionIn
+found-position w es i s h =
+    by-test (holds w es)
+    (λ t. (t, ap positionIn (rw t at h)))
+    (λ t. let y : _≡_ {A = Answer (Option Place)} (given (some (record { position = i; score = s }))) (given none) = rw t at h in let z : _≡_ {A = ℕ} 0 1 = cc in absurd (omega arith))
+
+pub found-not : (w : List ℕ) (es : List Entry) → _≡_ {A = Answer (Option Place)} (given none) (given (foundIn w es)) → holds w es ≡ false
+unfolding foundIn
+found-not w es h =
+    by-test (holds w es)
+    (λ t. let y : _≡_ {A = Answer (Option Place)} (given none) (given (some (record { position = position w es; score = at es (position w es) .score }))) = rw t at h in let z : _≡_ {A = ℕ} 0 1 = cc in absurd (omega arith))
+    (λ t. t)
+
+-- the range of a prefix, from its two places
+module _ (b p : List ℕ) (n : ℕ) (h : Held b n) (k : isPrefix p ≡ true) where
+  pub span-none :
+      {i j : ℕ} → i ≡ place false p (inBook b) → j ≡ place true p (inBook b) → j ≤ i
+      → _≡_ {A = Answer Span} (given (record { first = 0; count = 0 })) (prefixRange b p)
+  unfolding prefixRange
+  span-none {i} {j} q r l =
+      let m = range-none p (inBook b) (omega arith) in
+      rw (h .isIt, k, m .0, m .1)
+
+  pub span-some :
+      {i j : ℕ} → i ≡ place false p (inBook b) → j ≡ place true p (inBook b) → i < j
+      → _≡_ {A = Answer Span} (given (record { first = i; count = j - i })) (prefixRange b p)
+  unfolding prefixRange
+  span-some {i} {j} q r l =
+      let m = range-some p (inBook b) (held-valid h .order) (omega arith) in
+      rw (h .isIt, k, m .0, m .1, q, r)
+
+-- an answer to finding in a book that was checked, and no position: the name is absent
+pub not-found : (w : List ℕ) (es : List Entry) (f : Found) → foundOf f ≡ given (foundIn w es) → OneOf (0 ∷ 2 ∷ []) (tagOf the-type f) → holds w es ≡ false
+not-found w es (found.Refused n) e t = let z : _≡_ {A = ℕ} 0 1 = cc in absurd (omega arith)
+not-found w es (found.At i s) e (inl t) = absurd (omega arith)
+not-found w es (found.At i s) e (inr t) = absurd (omega arith)
+not-found w es found.Absent e t = found-not w es e

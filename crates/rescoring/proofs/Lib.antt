@@ -1,0 +1,2 @@
+pub mod Rescored
+pub mod Whole
