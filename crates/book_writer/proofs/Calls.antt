@@ -4,23 +4,41 @@ use Prim.Native.Nat.{_+_, _<_, _≤_, ℕ}
 use mathlib.Core.Path.{_∙_, _≡_, ap, subst, sym}
 use mathlib.Core.Bool.{true}
 use mathlib.Core.List.{List}
-use lib.ListN.{length}
+use lib.ListN.{length, take}
+use lib.Seq.{sets}
 use native.Mathlib.Omega.{arith}
 use Rattle.octets.specs.Octets.{overwrite}
 use Rattle.octets.proofs.Lists.{at-all}
 use Rattle.entries.specs.Entries.{Entry, at, noEntry, valid}
-use Rattle.entries.specs.Names.{isName}
+use Rattle.entries.specs.Names.{isName, longestName}
 use Rattle.entries.proofs.Valid.{name-length, valid-of}
 use Rattle.front_coding.specs.Cursor.{nameIn}
 use Rattle.front_coding.specs.Records.{bucketHead, recordOf}
+use Rattle.front_coding.proofs.Steps.{take-sets}
 use Rattle.book.specs.Book.{bookImage, imageIn, layout21, recordsAt}
 use Rattle.book.proofs.Size.{book-length}
-use Rattle.book_writer.specs.Calls.{Put, PutRoom, Started}
+use Rattle.book_writer.specs.Calls.{Put, PutAt, PutRoom, RoomAt, Started}
 use Rattle.book_writer.specs.Writing.{finished}
 use Rattle.book_writer.proofs.Partial.{Partial, partial-start}
 use Rattle.book_writer.proofs.Put.{partial-put, room}
 use Rattle.book_writer.proofs.Whole.{finished-whole}
 use Rattle.front_coding.specs.declared.Cursor.{Cursor}
+
+-- a name copied to the front of an array stands there
+pub name-copied : (a w : List ℕ) {new : List ℕ} → length w ≤ length a → new ≡ sets a 0 w → take (length w) new ≡ w
+name-copied a w h e = let z : 0 + length w ≡ length w = omega arith in rw e (rw z at (take-sets a 0 w (omega arith)))
+
+-- an entry put at the cursor c, by the plain values of it
+module _ {d : List ℕ} {n : ℕ} {c : Cursor} {w : List ℕ} where
+  pub room-at : PutRoom d n c w → RoomAt d n (c .index) (c .at) (nameIn c) w
+  room-at a = record { few = a .few; low = a .low; near = a .near; short = a .short; fits = a .fits }
+
+  -- r is the cursor behind it
+  pub put-cursor :
+      {new : List ℕ} {s end : ℕ} {r : Cursor} → PutAt d new n (c .index) (c .at) (nameIn c) w s end → r .index ≡ c .index + 1 → r .at ≡ end
+      → nameIn r ≡ w → r .len ≤ longestName → Put d new n c w s r
+  put-cursor p index at name small =
+      record { bytes = p .bytes; index = index; end = at ∙ p .end; name = name; small = small }
 
 pub start-partial :
     (es : List Entry) (d : List ℕ) {n : ℕ} {c : Cursor} → n ≡ length es → length (bookImage es) ≤ length d → Started n c → Partial es d c d

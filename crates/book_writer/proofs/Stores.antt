@@ -1,4 +1,4 @@
--- The stores of `put_entry` and of `finish`, one after the other: they put the entry, and leave the finished book.
+-- The stores of `put_at` and of `finish`, one after the other: they put the entry, and leave the finished book.
 use Prim.Native.Nat.{_*_, _+_, _≤_, ℕ}
 use mathlib.Core.Path.{_≡_, refl}
 use mathlib.Core.List.{List, [], _∷_}
@@ -13,26 +13,16 @@ use Rattle.front_coding.specs.Records.{bucketHead, recordOf}
 use Rattle.front_coding.specs.Written.{Wrote}
 use Rattle.front_coding.proofs.Steps.{take-sets}
 use Rattle.book.specs.Book.{blockSize, layout21}
-use Rattle.book_writer.specs.Calls.{Put}
+use Rattle.book_writer.specs.Calls.{PutAt}
 use Rattle.book_writer.specs.Writing.{finished, putEntry, putFrame, putOffset, putPeaks}
 use Rattle.front_coding.specs.declared.Cursor.{Cursor}
 
 pub entry-put :
-    (d : List ℕ) {d₁ d₂ d₃ : List ℕ} (n : ℕ) (c : Cursor) (w : List ℕ) (s : ℕ) {held : List ℕ} {end : ℕ}
-    → length (c .name) ≡ longestName → length w ≤ longestName → d₁ ≡ sets d (7 + 4 * c .index) (be 4 s)
-    → d₂ ≡ putOffset n (c .index) (c .at) d₁ → Wrote d₂ d₃ (c .at) (recordOf bucketHead (c .index) (nameIn c) w) end
-    → held ≡ sets (c .name) 0 w
-    → Put d d₃ n c w s (record { at = end; index = c .index + 1; name = held; len = length w })
+    (d : List ℕ) {d₁ d₂ d₃ : List ℕ} (n i at : ℕ) (prev w : List ℕ) (s : ℕ) {end : ℕ} → d₁ ≡ sets d (7 + 4 * i) (be 4 s)
+    → d₂ ≡ putOffset n i at d₁ → Wrote d₂ d₃ at (recordOf bucketHead i prev w) end → PutAt d d₃ n i at prev w s end
 unfolding putEntry
-entry-put d n c w s long short scored pointed recorded copied =
-    let z : 0 + length w ≡ length w = omega arith in
-    record {
-      bytes = rw (recorded .bytes, pointed, scored);
-      index = refl;
-      end = recorded .end;
-      name = rw copied (rw z at (take-sets (c .name) 0 w (omega arith)));
-      small = short;
-    }
+entry-put d n i at prev w s scored pointed recorded =
+    record { bytes = rw (recorded .bytes, pointed, scored); end = recorded .end }
 
 pub frame-put :
     (d : List ℕ) {d₁ d₂ d₃ d₄ : List ℕ} (n total : ℕ) → d₁ ≡ putPeaks (ceil n blockSize) n 0 d

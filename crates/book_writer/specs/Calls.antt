@@ -17,7 +17,20 @@ pub record Started (n : ℕ) (r : Cursor) : Type 0 where
   pub index : r .index ≡ 0
   pub len : r .len ≡ 0
 
--- an entry named w can be put at the cursor c into d, which takes a book of n entries
+-- an entry named w can be put into d, which takes a book of n entries: at position i, its record at index `at` behind the name prev
+pub record RoomAt (d : List ℕ) (n i at : ℕ) (prev w : List ℕ) : Type 0 where
+  pub few : n ≤ maxEntries
+  pub low : i < maxEntries
+  pub near : at < 65536
+  pub short : length w ≤ longestName
+  pub fits : at + length (recordOf bucketHead i prev w) ≤ length d
+
+-- the entry named w with the score s was put there: new is the buffer then, and r where the entry's record ends
+pub record PutAt (d new : List ℕ) (n i at : ℕ) (prev w : List ℕ) (s r : ℕ) : Type 0 where
+  pub bytes : new ≡ putEntry n i prev at (entry w s) d
+  pub end : r ≡ at + length (recordOf bucketHead i prev w)
+
+-- the same at a cursor: an entry named w can be put at the cursor c
 pub record PutRoom (d : List ℕ) (n : ℕ) (c : Cursor) (w : List ℕ) : Type 0 where
   pub few : n ≤ maxEntries
   pub low : c .index < maxEntries

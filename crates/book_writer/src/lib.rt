@@ -5,7 +5,7 @@ ghost use Rattle.octets.specs.Lists.{ceil};
 ghost use Rattle.entries.specs.Entries.{maxEntries};
 ghost use Rattle.book.specs.Book.{blockSize};
 ghost use Rattle.book_writer.specs.Writing.{finished, putOffset, putPeak, putPeaks};
-ghost use Rattle.book_writer.specs.Calls.{Put, PutRoom, Started};
+ghost use Rattle.book_writer.specs.Calls.{Put, PutAt, PutRoom, RoomAt, Started};
 
 // The cursor at the first record of a book of n entries.
 pub fn start(n: usize) -> front_coding::Cursor
@@ -31,7 +31,26 @@ fn put_offset(dst: &mut [u8], n: usize, index: usize, at: usize)
     octets::write_u16(dst, 7 + 4 * n + 2 * (index / 8), at as u16);
 }
 
-// Puts the next entry of n: its score, the offset if it is a bucket's head, its record. The cursor behind it.
+// Puts the entry at a position of n, its record at index `at` behind the name prev: its score, the offset if it is a bucket's head, the
+// record. Where the record ends.
+pub fn put_at(
+    dst: &mut [u8],
+    n: usize,
+    index: usize,
+    at: usize,
+    prev: &[u8],
+    name: &[u8],
+    score: u32,
+) -> usize
+    requires { ⌜ RoomAt (now dst) n index at (now prev) (now name) ⌝ }
+    ensures { λ r. ⌜ PutAt (now (dst .entry)) (now (dst .exit)) n index at (now (prev .entry)) (now (name .entry)) score r ⌝ }
+{
+    octets::write_u32(dst, 7 + 4 * index, score);
+    put_offset(dst, n, index, at);
+    front_coding::put_record(dst, at, index, prev, name)
+}
+
+// Puts the next entry of n at a cursor. The cursor behind it.
 pub fn put_entry(
     dst: &mut [u8],
     n: usize,
@@ -46,9 +65,7 @@ pub fn put_entry(
     let index = c.index;
     let len = c.len;
     let mut held = c.name;
-    octets::write_u32(dst, 7 + 4 * index, score);
-    put_offset(dst, n, index, at);
-    let end = front_coding::put_record(dst, at, index, &held[..len], name);
+    let end = put_at(dst, n, index, at, &held[..len], name, score);
     octets::copy(&mut held, 0, name);
     front_coding::Cursor {
         at: end,

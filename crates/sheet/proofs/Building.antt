@@ -1,10 +1,10 @@
 -- The loops that build a book from a sheet: its size, and its bytes.
-use Prim.Native.Nat.{_+_, _<_, _≤_, suc, ℕ}
-use mathlib.Core.Path.{_∙_, _≡_, sym}
+use Prim.Native.Nat.{_+_, _-_, _<_, _≤_, suc, ℕ}
+use mathlib.Core.Path.{_∙_, _≡_, ap, refl, sym}
 use mathlib.Core.Bool.{true}
 use mathlib.Core.List.{List, [], _∷_}
-use lib.ListN.{drop, drop-of-length-le, getD, length, length-append}
-use lib.Seq.{drop-cons}
+use lib.ListN.{drop, drop-of-length-le, getD, length, length-append, length-drop}
+use lib.Seq.{drop-cons, length-take-le}
 use native.Mathlib.Numerals.{add-one}
 use native.Mathlib.Omega.{arith}
 use Rattle.octets.specs.Octets.{begins, numberAt, overwrite}
@@ -17,9 +17,9 @@ use Rattle.book.specs.Book.{bookImage, layout21, recordsAt}
 use Rattle.book.proofs.Ahead.{names-at}
 use Rattle.book.proofs.Reading.{image-length}
 use Rattle.book.proofs.Size.{book-length}
-use Rattle.book_writer.specs.Calls.{Put, PutRoom, Started}
+use Rattle.book_writer.specs.Calls.{PutAt, RoomAt}
 use Rattle.book_writer.specs.Writing.{finished}
-use Rattle.book_writer.proofs.Calls.{finish-whole, partial-room, put-partial, start-partial}
+use Rattle.book_writer.proofs.Calls.{finish-whole, partial-room, put-cursor, put-partial, room-at, start-partial}
 use Rattle.book_writer.proofs.Partial.{Partial}
 use Rattle.sheet.specs.Held.{HeldSheet}
 use Rattle.sheet.specs.Sheet.{inSheet}
@@ -81,39 +81,57 @@ module _ {sheet : List ℕ} {n : ℕ} (s : HeldSheet sheet n) {total k a b i : �
           left = rw (size-here .name, add-one) (omega arith);
         }
 
--- The bytes: the cursor c stands behind the entries that are put, and the next entry of the sheet at index k.
-pub record Filling (sheet d₀ : List ℕ) (c : Cursor) (k : ℕ) (d : List ℕ) : Type 0 where
-  pub stands : begins (entriesBytes (drop (c .index) (inSheet sheet))) (drop k sheet) ≡ true
-  pub put : Partial (inSheet sheet) d₀ c d
+-- The bytes: the entries before position i are put, and the next record goes to index m; the next entry of the sheet stands at index k, and the
+-- name before it from a to before b.
+abbrev cursor : List ℕ → ℕ → ℕ → ℕ → ℕ → Cursor
+cursor sheet m a b i = record { at = m; index = i; name = drop a sheet; len = b - a }
+
+pub record Filling (sheet d₀ : List ℕ) (m k a b i : ℕ) (d : List ℕ) : Type 0 where
+  pub ordered : a ≤ b
+  pub behind : b ≤ k
+  pub stands : begins (entriesBytes (drop i (inSheet sheet))) (drop k sheet) ≡ true
+  pub put : Partial (inSheet sheet) d₀ (cursor sheet m a b i) d
 
 pub fill-start :
-    {sheet : List ℕ} {n : ℕ} {d : List ℕ} {c : Cursor} → HeldSheet sheet n → length (bookImage (inSheet sheet)) ≤ length d → Started n c
-    → Filling sheet d c 7 d
-fill-start {sheet} {d = d} s room t =
-    record { stands = rw (t .index) (sheet-stands s); put = start-partial (inSheet sheet) d (s .count) room t }
+    {sheet : List ℕ} {n m : ℕ} {d : List ℕ} → HeldSheet sheet n → length (bookImage (inSheet sheet)) ≤ length d → m ≡ recordsAt layout21 n
+    → Filling sheet d m 7 7 7 0 d
+fill-start {sheet} {d = d} s room e =
+    record {
+      ordered = omega arith;
+      behind = omega arith;
+      stands = sheet-stands s;
+      put = start-partial (inSheet sheet) d (s .count) room (record { at = e; index = refl; len = refl });
+    }
 
 module _
-    {sheet : List ℕ} {n : ℕ} (s : HeldSheet sheet n) {d₀ : List ℕ} {c : Cursor} {k : ℕ} {d : List ℕ} (g : Filling sheet d₀ c k d)
+    {sheet : List ℕ} {n : ℕ} (s : HeldSheet sheet n) {d₀ : List ℕ} {m k a b i : ℕ} {d : List ℕ} (g : Filling sheet d₀ m k a b i d)
   where
     pub fill-end :
-        {total : ℕ} → n ≤ c .index → total ≡ length (bookImage (inSheet sheet)) → finished total n d ≡ overwrite d₀ (bookImage (inSheet sheet))
+        {total : ℕ} → n ≤ i → total ≡ length (bookImage (inSheet sheet)) → finished total n d ≡ overwrite d₀ (bookImage (inSheet sheet))
     fill-end h e = finish-whole (g .put) (s .count) (sheet-ok s) (omega (arith, s .count, g .put .index)) e
 
-    module _ (h : c .index < n) where
-      before : c .index < length (inSheet sheet)
+    module _ (h : i < n) where
+      before : i < length (inSheet sheet)
       before = omega (arith, s .count)
 
-      pub fill-here : Here sheet (inSheet sheet) (c .index) k
-      fill-here = here sheet (inSheet sheet) (valid-all (inSheet sheet) (sheet-ok s)) (c .index) k before (g .stands)
+      pub fill-here : Here sheet (inSheet sheet) i k
+      fill-here = here sheet (inSheet sheet) (valid-all (inSheet sheet) (sheet-ok s)) i k before (g .stands)
 
-      pub fill-room : PutRoom d n c (between (k + 1) (k + 1 + getD sheet k 0) sheet)
-      fill-room = partial-room (g .put) (s .count) before (fill-here .name) (sheet-ok s)
+      pub fill-room : RoomAt d n i m (between a b sheet) (between (k + 1) (k + 1 + getD sheet k 0) sheet)
+      fill-room = room-at (partial-room (g .put) (s .count) before (fill-here .name) (sheet-ok s))
 
       pub fill-turn :
-          {v : ℕ} {new : List ℕ} {r : Cursor} → v ≡ numberAt 4 sheet (k + 1 + getD sheet k 0)
-          → Put d new n c (between (k + 1) (k + 1 + getD sheet k 0) sheet) v r → Filling sheet d₀ r (k + 1 + getD sheet k 0 + 4) new
-      fill-turn e p =
+          {v r : ℕ} {new : List ℕ} → v ≡ numberAt 4 sheet (k + 1 + getD sheet k 0)
+          → PutAt d new n i m (between a b sheet) (between (k + 1) (k + 1 + getD sheet k 0) sheet) v r
+          → Filling sheet d₀ r (k + 1 + getD sheet k 0 + 4) (k + 1) (k + 1 + getD sheet k 0) (i + 1) new
+      fill-turn {r = r} e p =
+          let l = length-take-le (k + 1 + getD sheet k 0 - (k + 1)) (drop (k + 1) sheet) (omega (arith, length-drop (k + 1) sheet, fill-here .room)) in
           record {
-            stands = rw (p .index) (fill-here .next);
-            put = put-partial (g .put) (s .count) before (fill-here .name) (e ∙ fill-here .score) p;
+            ordered = omega arith;
+            behind = omega arith;
+            stands = fill-here .next;
+            put =
+                put-partial (g .put) (s .count) before (fill-here .name) (e ∙ fill-here .score)
+                (put-cursor {r = cursor sheet r (k + 1) (k + 1 + getD sheet k 0) (i + 1)} p refl refl refl
+                (omega (arith, l, ap length (fill-here .name), fill-here .short)));
           }

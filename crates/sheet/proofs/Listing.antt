@@ -2,8 +2,8 @@
 use Prim.Native.Nat.{_*_, _+_, _<_, _≤_, ℕ}
 use mathlib.Core.Path.{_∙_, _≡_, ap, refl, sym}
 use mathlib.Core.List.{List, _++_, _∷_}
-use lib.ListN.{drop, drop-of-length-le, length, length-append, set}
-use lib.Seq.{drop-cons, length-sets, length-take-le, sets}
+use lib.ListN.{drop, drop-of-length-le, length, length-append, replicate, set, take}
+use lib.Seq.{drop-cons, length-sets, sets}
 use native.Mathlib.Numerals.{add-one}
 use native.Mathlib.Omega.{arith}
 use Rattle.octets.specs.Octets.{be, overwrite}
@@ -11,21 +11,18 @@ use Rattle.octets.proofs.Coding.{length-be}
 use Rattle.octets.proofs.Stores.{sets-append, sets-overwrite}
 use Rattle.entries.specs.Entries.{Entry, at, entry, maxEntries, noEntry}
 use Rattle.entries.specs.Names.{longestName}
-use Rattle.front_coding.specs.Cursor.{Sound, Stepped, nameIn}
 use Rattle.book.specs.Answers.{entriesBytes, entryBytes}
-use Rattle.book.specs.Book.{inBook}
+use Rattle.book.specs.Book.{inBook, layout21, recordsAt}
 use Rattle.book.specs.Check.{scoreAt}
 use Rattle.book.specs.Frame.{framed}
 use Rattle.book.specs.Held.{Held}
-use Rattle.book.specs.Ahead.{Ahead}
-use Rattle.book.proofs.Ahead.{ahead-first, ahead-sound, step-ahead, step-index, step-name}
 use Rattle.book.proofs.Frame.{framed-length}
 use Rattle.book.proofs.Lookups.{held-stored, held-valid}
 use Rattle.book.proofs.Size.{entriesBytes-most, length-entryBytes}
-use Rattle.book_writer.specs.Calls.{Started}
+use Rattle.book_records.specs.Parts.{ownBytes, partsAt}
+use Rattle.book_records.proofs.Reading.{Given, Reading, read-inside, read-start, read-turn}
 use Rattle.sheet.specs.Sheet.{sheetImage}
-use Rattle.front_coding.specs.declared.Cursor.{Cursor}
-use Rattle.front_coding.specs.declared.Step.{Step}
+use Rattle.book_records.specs.declared.Parts.{Parts}
 
 -- the sheet of a book that was checked is the frame, and at most 53 bytes for each entry
 pub sheet-length :
@@ -36,24 +33,6 @@ sheet-length {book} b =
     let v = held-valid b in
     let l = framed-length 0x11 (length (inBook book)) (entriesBytes (inBook book)) in
     (omega arith, omega (arith, entriesBytes-most (inBook book) (v .allowed), v .few))
-
--- Reading: the cursor stands at the record of the entry at its index.
-abbrev pub Reading : List ℕ → Cursor → Type 0
-Reading book c = Ahead (inBook book) book c
-
-pub read-start : {book : List ℕ} {n : ℕ} {c : Cursor} → Held book n → Started n c → Reading book c
-read-start {book} {c = c} b t = ahead-first book (inBook book) (held-stored b) c (rw (← b .count) (t .at)) (t .index) (t .len)
-
--- A step from c to d gave the name of the entry at c.
-pub record Listed (book : List ℕ) (c d : Cursor) : Type 0 where
-  pub index : d .index ≡ c .index + 1
-  pub name : nameIn d ≡ at (inBook book) (c .index) .name
-  pub small : d .len ≤ longestName
-  pub reading : Reading book d
-
-name-bytes :
-    {book : List ℕ} {c d : Cursor} → Listed book c d → length (d .name) ≡ longestName → length (at (inBook book) (c .index) .name) ≡ d .len
-name-bytes {d = d} s l = ap length (sym (s .name)) ∙ length-take-le (d .len) (d .name) (omega (arith, s .small))
 
 -- the bytes of the entries from a position on: the entry there, and those behind it
 module _ {book : List ℕ} {n : ℕ} (b : Held book n) (i : ℕ) (h : i < n) where
@@ -70,62 +49,68 @@ module _ {book : List ℕ} {n : ℕ} (b : Held book n) (i : ℕ) (h : i < n) whe
   rest-length : length (entriesBytes (drop i es)) ≡ 5 + length (at es i .name) + length (entriesBytes (drop (i + 1) es))
   rest-length = rw (rest-bytes, length-append, length-entryBytes)
 
-module _ {book : List ℕ} {n : ℕ} (b : Held book n) {c : Cursor} (g : Reading book c) (h : c .index < n) where
-  pub list-sound : Sound book c
-  list-sound = ahead-sound (inBook book) (held-valid b) book c g (low b (c .index) h)
+-- The size: what is counted, with the entries from position i on, is the whole sheet; the next record starts at index k.
+pub record Measuring (book : List ℕ) (total k i : ℕ) : Type 0 where
+  pub name : List ℕ
+  pub reading : Reading book k i name
+  pub left : total + length (entriesBytes (drop i (inBook book))) ≡ length (sheetImage (inBook book))
 
-  pub list-step : {r : Step} → Stepped book c r → Listed book c (r .next)
-  list-step {r} t =
-      let l = low b (c .index) h in
-      let a = step-ahead (inBook book) (held-valid b) book c g l r t in
-      record {
-        index = step-index (inBook book) (held-valid b) book c g l r t;
-        name = step-name (inBook book) (held-valid b) book c g l r t;
-        small = a .small;
-        reading = a;
-      }
-
--- The size: what is counted, with the entries left, is the whole sheet.
-pub record Measuring (book : List ℕ) (c : Cursor) (total : ℕ) : Type 0 where
-  pub reading : Reading book c
-  pub left : total + length (entriesBytes (drop (c .index) (inBook book))) ≡ length (sheetImage (inBook book))
-
-pub measure-start : {book : List ℕ} {n : ℕ} {c : Cursor} → Held book n → Started n c → Measuring book c 7
+pub measure-start : {book : List ℕ} {n k : ℕ} → Held book n → k ≡ recordsAt layout21 n → Measuring book 7 k 0
 unfolding sheetImage
-measure-start {book} b t =
-    record { reading = read-start b t; left = rw (t .index) (sym (framed-length 0x11 (length (inBook book)) (entriesBytes (inBook book)))) }
+measure-start {book} b e =
+    record {
+      name = replicate longestName 0;
+      reading = read-start (replicate longestName 0) b e refl;
+      left = sym (framed-length 0x11 (length (inBook book)) (entriesBytes (inBook book)));
+    }
 
-module _ {book : List ℕ} {n : ℕ} (b : Held book n) {c : Cursor} {total : ℕ} (g : Measuring book c total) where
+module _ {book : List ℕ} {n : ℕ} (b : Held book n) {total k i : ℕ} (g : Measuring book total k i) where
   pub measure-small : total ≤ 7 + 53 * maxEntries
   measure-small = omega (arith, g .left, sheet-length b .1)
 
-  pub measure-turn : c .index < n → {d : Cursor} → Listed book c d → length (d .name) ≡ longestName → Measuring book d (total + (5 + d .len))
-  measure-turn h s l =
-      record { reading = s .reading; left = rw (s .index) (omega (arith, g .left, rest-length b (c .index) h, name-bytes s l)) }
-
-  pub measure-end : n ≤ c .index → total ≡ length (sheetImage (inBook book))
+  pub measure-end : n ≤ i → total ≡ length (sheetImage (inBook book))
   unfolding entriesBytes
   measure-end h =
-      let z = rw (drop-of-length-le (inBook book) {i = c .index} (omega (arith, b .count))) at (g .left) in
+      let z = rw (drop-of-length-le (inBook book) {i = i} (omega (arith, b .count))) at (g .left) in
       omega arith
 
--- The bytes: what is written, with the entries left written from index k on, is d₀ with all entries behind the frame.
-pub record Writing (book d₀ : List ℕ) (c : Cursor) (k : ℕ) (d : List ℕ) : Type 0 where
-  pub reading : Reading book c
+  module _ (h : i < n) where
+    pub measure-two : 2 ≤ length (drop k book)
+    measure-two = read-inside b (g .reading) h .two
+
+    module _ {p : Parts} (e : p ≡ partsAt i (drop k book)) where
+      measured : Given book k i (sets (g .name) (p .kept) (ownBytes (drop k book) p)) p
+      measured = read-turn b (g .reading) h (record { parts = e; bytes = refl })
+
+      pub measure-room : (p .kept + p .own ≤ longestName) × (k + (p .start + p .own) ≤ length book)
+      measure-room = (measured .small, measured .inside)
+
+      pub measure-turn : Measuring book (total + (5 + p .kept + p .own)) (k + (p .start + p .own)) (i + 1)
+      measure-turn =
+          record {
+            name = sets (g .name) (p .kept) (ownBytes (drop k book) p);
+            reading = measured .next;
+            left = omega (arith, g .left, rest-length b i h, measured .long);
+          }
+
+-- The bytes: what is written, with the entries from position i on written from index m on, is d₀ with all entries behind the frame; the next
+-- record starts at index k, behind the name in name.
+pub record Writing (book d₀ name : List ℕ) (k m i : ℕ) (d : List ℕ) : Type 0 where
+  pub reading : Reading book k i name
   pub sameLength : length d ≡ length d₀
-  pub room : k + length (entriesBytes (drop (c .index) (inBook book))) ≤ length d₀
-  pub left : sets d k (entriesBytes (drop (c .index) (inBook book))) ≡ sets d₀ 7 (entriesBytes (inBook book))
+  pub room : m + length (entriesBytes (drop i (inBook book))) ≤ length d₀
+  pub left : sets d m (entriesBytes (drop i (inBook book))) ≡ sets d₀ 7 (entriesBytes (inBook book))
 
 pub write-start :
-    {book : List ℕ} {n : ℕ} {c : Cursor} {d : List ℕ} → Held book n → Started n c → length (sheetImage (inBook book)) ≤ length d
-    → Writing book d c 7 d
+    {book : List ℕ} {n k : ℕ} (name : List ℕ) {d : List ℕ} → Held book n → k ≡ recordsAt layout21 n → length name ≡ longestName
+    → length (sheetImage (inBook book)) ≤ length d → Writing book d name k 7 0 d
 unfolding sheetImage
-write-start {book} b t room =
+write-start {book} name b e l room =
     record {
-      reading = read-start b t;
+      reading = read-start name b e l;
       sameLength = refl;
-      room = rw (t .index) (omega (arith, framed-length 0x11 (length (inBook book)) (entriesBytes (inBook book))));
-      left = rw (t .index);
+      room = omega (arith, framed-length 0x11 (length (inBook book)) (entriesBytes (inBook book)));
+      left = refl;
     }
 
 -- the frame's stores, and what stands behind it
@@ -140,13 +125,13 @@ frame-stores version d body total n e =
     ∙ (rw y at (sets-append d (version ∷ be 4 total) (be 2 n ++ body) 0))
     ∙ rw e
 
-module _ {book : List ℕ} {n : ℕ} (b : Held book n) {d₀ : List ℕ} {c : Cursor} {k : ℕ} {d : List ℕ} (g : Writing book d₀ c k d) where
-  all-written : n ≤ c .index → d ≡ sets d₀ 7 (entriesBytes (inBook book))
+module _ {book : List ℕ} {n : ℕ} (b : Held book n) {d₀ name : List ℕ} {k m i : ℕ} {d : List ℕ} (g : Writing book d₀ name k m i d) where
+  all-written : n ≤ i → d ≡ sets d₀ 7 (entriesBytes (inBook book))
   unfolding entriesBytes
-  all-written h = rw (drop-of-length-le (inBook book) {i = c .index} (omega (arith, b .count))) at (g .left)
+  all-written h = rw (drop-of-length-le (inBook book) {i = i} (omega (arith, b .count))) at (g .left)
 
   pub write-end :
-      n ≤ c .index → (d₁ : List ℕ) {total : ℕ} {d₂ : List ℕ} → total ≡ length (sheetImage (inBook book)) → total ≤ length d₁
+      n ≤ i → (d₁ : List ℕ) {total : ℕ} {d₂ : List ℕ} → total ≡ length (sheetImage (inBook book)) → total ≤ length d₁
       → d₂ ≡ sets (set d₁ 0 0x11) 1 (be 4 total) → d₀ ≡ sets d₂ 5 (be 2 n) → d ≡ overwrite d₁ (sheetImage (inBook book))
   unfolding sheetImage
   write-end h d₁ {total} e room p q =
@@ -156,21 +141,21 @@ module _ {book : List ℕ} {n : ℕ} (b : Held book n) {d₀ : List ℕ} {c : Cu
       ∙ rw (q, p, b .count) (frame-stores 0x11 d₁ body total (length (inBook book)) (omega arith))
       ∙ sets-overwrite d₁ (framed 0x11 (length (inBook book)) body) (omega arith)
 
-  module _ (h : c .index < n) {e : Cursor} (s : Listed book c e) where
-    pub write-room : length (e .name) ≡ longestName → k + 5 + e .len ≤ length d
-    write-room l = omega (arith, g .room, g .sameLength, rest-length b (c .index) h, name-bytes s l)
+  module _ (h : i < n) {new : List ℕ} {p : Parts} (s : Given book k i new p) where
+    pub write-room : m + 5 + (p .kept + p .own) ≤ length d
+    write-room = omega (arith, g .room, g .sameLength, rest-length b i h, s .long)
 
     pub write-turn :
-        {v : ℕ} {new : List ℕ} → v ≡ scoreAt book (c .index) → new ≡ sets d k (entryBytes (entry (nameIn e) v))
-        → Writing book d₀ e (k + 5 + length (nameIn e)) new
+        {v : ℕ} {d′ : List ℕ} → v ≡ scoreAt book i → d′ ≡ sets d m (entryBytes (entry (take (p .kept + p .own) new) v))
+        → Writing book d₀ new (k + (p .start + p .own)) (m + 5 + length (take (p .kept + p .own) new)) (i + 1) d′
     write-turn {v} q w =
-        let f = at (inBook book) (c .index) in
-        let rest = entriesBytes (drop (c .index + 1) (inBook book)) in
-        let x : entry (nameIn e) v ≡ f = rw (s .name, q, held-stored b .scoredAt (c .index) (low b (c .index) h)) in
-        let z : k + 5 + length (nameIn e) ≡ k + length (entryBytes f) = omega (arith, length-entryBytes f, ap length (s .name)) in
+        let f = at (inBook book) i in
+        let rest = entriesBytes (drop (i + 1) (inBook book)) in
+        let x : entry (take (p .kept + p .own) new) v ≡ f = rw (s .name, q, held-stored b .scoredAt i (low b i h)) in
+        let z : m + 5 + length (take (p .kept + p .own) new) ≡ m + length (entryBytes f) = omega (arith, length-entryBytes f, ap length (s .name)) in
         record {
-          reading = s .reading;
+          reading = s .next;
           sameLength = rw w (simp length-sets (g .sameLength));
-          room = rw (s .index) (omega (arith, g .room, rest-length b (c .index) h, ap length (s .name)));
-          left = rw (s .index, w, x, z, sets-append d (entryBytes f) rest k, ← rest-bytes b (c .index) h) (g .left);
+          room = omega (arith, g .room, rest-length b i h, ap length (s .name));
+          left = rw (w, x, z, sets-append d (entryBytes f) rest m, ← rest-bytes b i h) (g .left);
         }

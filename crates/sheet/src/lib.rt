@@ -107,14 +107,21 @@ pub fn fill_book(sheet: &[u8], n: usize, total: usize, dst: &mut [u8])
     requires { ⌜ HeldSheet (now sheet) n × (total ≡ length (bookImage (entriesOf (readSheet (now sheet))))) × (total ≤ length (now dst)) ⌝ }
     ensures { λ _. ⌜ now (dst .exit) ≡ overwrite (now (dst .entry)) (bookImage (entriesOf (readSheet (now (sheet .entry))))) ⌝ }
 {
-    let mut c = book_writer::start(n);
-    let mut at = 7;
-    while c.index < n {
-        let start = at + 1;
-        let end = start + sheet[at] as usize;
+    let mut at = book_check::records_at(n);
+    let mut from = 7;
+    let mut prev = 7;
+    let mut prev_end = 7;
+    let mut i = 0;
+    while i < n {
+        let start = from + 1;
+        let end = start + sheet[from] as usize;
         let score = octets::read_u32(sheet, end);
-        c = book_writer::put_entry(dst, n, c, &sheet[start..end], score);
-        at = end + 4;
+        let prior = &sheet[prev..prev_end];
+        at = book_writer::put_at(dst, n, i, at, prior, &sheet[start..end], score);
+        prev = start;
+        prev_end = end;
+        from = end + 4;
+        i += 1;
     }
     book_writer::finish(dst, n, total);
 }
@@ -124,12 +131,14 @@ pub fn sheet_size(book: &[u8], n: usize) -> usize
     requires { ⌜ Held (now book) n ⌝ }
     ensures { λ r. ⌜ r ≡ length (sheetImage (inBook (now (book .entry)))) ⌝ }
 {
-    let mut c = book_writer::start(n);
     let mut total = 7;
-    while c.index < n {
-        let t = front_coding::advance(book, c);
-        c = t.next;
-        total += 5 + c.len;
+    let mut at = book_check::records_at(n);
+    let mut i = 0;
+    while i < n {
+        let p = book_records::parts_at(i, &book[at..]);
+        total += 5 + p.kept + p.own;
+        at += p.start + p.own;
+        i += 1;
     }
     total
 }
@@ -142,14 +151,16 @@ pub fn fill_sheet(book: &[u8], n: usize, total: usize, dst: &mut [u8])
     dst[0] = 0x11;
     octets::write_u32(dst, 1, total as u32);
     octets::write_u16(dst, 5, n as u16);
-    let mut c = book_writer::start(n);
+    let mut name = [0; 48];
+    let mut from = book_check::records_at(n);
     let mut at = 7;
-    while c.index < n {
-        let score = book_check::score_at(book, c.index);
-        let t = front_coding::advance(book, c);
-        c = t.next;
-        let len = c.len;
-        let name = c.name;
+    let mut i = 0;
+    while i < n {
+        let p = book_records::read_name(book, from, i, &mut name);
+        let len = p.kept + p.own;
+        let score = book_check::score_at(book, i);
         at = answers::put_entry(dst, at, &name[..len], score);
+        from += p.start + p.own;
+        i += 1;
     }
 }

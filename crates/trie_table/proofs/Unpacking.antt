@@ -1,4 +1,4 @@
--- The loop that unpacks a book: the rows before the cursor hold its entries.
+-- The loop that unpacks a book: the rows before a position hold its entries.
 use Prim.Native.Nat.{_*_, _+_, _<_, _≤_, suc, ℕ}
 use mathlib.Core.Path.{_∙_, _≡_, ap, refl}
 use mathlib.Core.Logic.{inl}
@@ -19,17 +19,14 @@ use Rattle.entries.specs.Entries.{Entry, at, entry, noEntry}
 use Rattle.entries.specs.Names.{isName, longestName}
 use Rattle.entries.proofs.Same.{entry-eq}
 use Rattle.entries.proofs.Valid.{name-length}
-use Rattle.front_coding.specs.Cursor.{nameIn}
-use Rattle.book.specs.Ahead.{Ahead}
-use Rattle.book.specs.Book.{inBook}
+use Rattle.book.specs.Book.{inBook, layout21, recordsAt}
 use Rattle.book.specs.Check.{scoreAt}
 use Rattle.book.specs.Held.{Held}
 use Rattle.book.proofs.Lookups.{held-few, held-stored, held-valid}
-use Rattle.book_writer.specs.Calls.{Started}
-use Rattle.sheet.proofs.Listing.{Listed, read-start}
+use Rattle.book_records.proofs.Reading.{Given, Reading, read-start}
 use Rattle.trie_table.specs.Table.{Room, Unpacked, entries, rowAt}
 use Rattle.trie_table.proofs.Rows.{map-count}
-use Rattle.front_coding.specs.declared.Cursor.{Cursor}
+use Rattle.book_records.specs.declared.Parts.{Parts}
 
 -- row p holds the entry at position p
 pub record Row (es : List Entry) (u m sc : List ℕ) (p : ℕ) : Type 0 where
@@ -37,18 +34,27 @@ pub record Row (es : List Entry) (u m sc : List ℕ) (p : ℕ) : Type 0 where
   pub stands : begins (at es p .name) (drop (p * longestName) u) ≡ true
   pub score : getD sc p 0 ≡ at es p .score
 
-pub record Unpacking (book : List ℕ) (n : ℕ) (u₀ m₀ sc₀ : List ℕ) (c : Cursor) (u m sc : List ℕ) : Type 0 where
-  pub reading : Ahead (inBook book) book c
+-- the rows before position i hold their entries; the next record starts at index k, behind the name in name
+pub record Unpacking (book : List ℕ) (n : ℕ) (u₀ m₀ sc₀ u m sc name : List ℕ) (k i : ℕ) : Type 0 where
+  pub reading : Reading book k i name
   pub room : Room n (length u) (length m) (length sc)
   pub sameNames : length u ≡ length u₀
   pub sameLens : length m ≡ length m₀
   pub sameScores : length sc ≡ length sc₀
-  pub rows : (p : ℕ) → p < c .index → Row (inBook book) u m sc p
+  pub rows : (p : ℕ) → p < i → Row (inBook book) u m sc p
 
 pub unpack-start :
-    {book : List ℕ} {n : ℕ} {c : Cursor} {u m sc : List ℕ} → Held book n → Room n (length u) (length m) (length sc) → Started n c
-    → Unpacking book n u m sc c u m sc
-unpack-start b r t = record { reading = read-start b t; room = r; sameNames = refl; sameLens = refl; sameScores = refl; rows = λ p l. absurd (omega (arith, t .index)) }
+    {book : List ℕ} {n k : ℕ} {u m sc : List ℕ} (name : List ℕ) → Held book n → Room n (length u) (length m) (length sc)
+    → k ≡ recordsAt layout21 n → length name ≡ longestName → Unpacking book n u m sc u m sc name k 0
+unpack-start name b r e l =
+    record {
+      reading = read-start name b e l;
+      room = r;
+      sameNames = refl;
+      sameLens = refl;
+      sameScores = refl;
+      rows = λ p h. absurd (omega arith);
+    }
 
 module _ {book : List ℕ} {n : ℕ} (b : Held book n) where
   abbrev es : List Entry
@@ -57,49 +63,53 @@ module _ {book : List ℕ} {n : ℕ} (b : Held book n) where
   short : (p : ℕ) → p < n → length (at es p .name) ≤ longestName
   short p h = name-length (at es p .name) (at-all (λ e. isName (e .name)) noEntry es (held-valid b .allowed) p (omega (arith, b .count)))
 
-  module _ {u₀ m₀ sc₀ : List ℕ} {c : Cursor} {u m sc : List ℕ} (g : Unpacking book n u₀ m₀ sc₀ c u m sc) where
-    -- a turn: the row of the cursor's entry is stored, those before it stay
+  module _ {u₀ m₀ sc₀ u m sc name : List ℕ} {k i : ℕ} (g : Unpacking book n u₀ m₀ sc₀ u m sc name k i) where
+    -- a turn: the row of the next entry is stored, those before it stay
     pub unpack-turn :
-        c .index < n → {d : Cursor} → Listed book c d → {v : ℕ} → v ≡ scoreAt book (c .index) → d .len ≡ length (nameIn d)
-        → {u′ : List ℕ} → u′ ≡ sets u (c .index * longestName) (nameIn d) → Unpacking book n u₀ m₀ sc₀ d u′ (set m (c .index) (d .len)) (set sc (c .index) v)
-    unpack-turn h {d} s {v} q l {u′} w =
-        let e = ap length w ∙ length-sets u (c .index * longestName) (nameIn d) in
+        i < n → {new : List ℕ} {q : Parts} → Given book k i new q → {v : ℕ} → v ≡ scoreAt book i
+        → {u′ : List ℕ} → u′ ≡ sets u (i * longestName) (take (q .kept + q .own) new)
+        → Unpacking book n u₀ m₀ sc₀ u′ (set m i (q .kept + q .own)) (set sc i v) new (k + (q .start + q .own)) (i + 1)
+    unpack-turn h {new} {q} s {v} r {u′} w =
+        let e = ap length w ∙ length-sets u (i * longestName) (take (q .kept + q .own) new) in
         record {
-          reading = s .reading;
+          reading = s .next;
           room = record { rows = omega (arith, e, g .room .rows); counted = rw length-set (g .room .counted); scored = rw length-set (g .room .scored) };
           sameNames = e ∙ g .sameNames;
           sameLens = rw length-set (g .sameLens);
           sameScores = rw length-set (g .sameScores);
-          rows = λ p k. which p (omega (arith, s .index));
+          rows = λ p z. which p (omega arith);
         }
       where
-        fits : c .index * longestName + length (nameIn d) ≤ length u
-        fits = omega (arith, g .room .rows, ap length (s .name), short (c .index) h)
+        stored : u′ ≡ sets u (i * longestName) (at es i .name)
+        stored = w ∙ rw (s .name)
 
-        new : Row es u′ (set m (c .index) (d .len)) (set sc (c .index) v) (c .index)
-        new =
+        fits : i * longestName + length (at es i .name) ≤ length u
+        fits = omega (arith, g .room .rows, short i h)
+
+        there : Row es u′ (set m i (q .kept + q .own)) (set sc i v) i
+        there =
             record {
-              long = getD-set-same m (c .index) (d .len) 0 (omega (arith, g .room .counted)) ∙ l ∙ ap length (s .name);
-              stands = rw (w, ← (s .name)) (sets-stands u (nameIn d) (c .index * longestName) fits);
-              score = getD-set-same sc (c .index) v 0 (omega (arith, g .room .scored)) ∙ q ∙ held-stored b .scoredAt (c .index) (omega (arith, b .count));
+              long = getD-set-same m i (q .kept + q .own) 0 (omega (arith, g .room .counted)) ∙ s .long;
+              stands = rw stored (sets-stands u (at es i .name) (i * longestName) fits);
+              score = getD-set-same sc i v 0 (omega (arith, g .room .scored)) ∙ r ∙ held-stored b .scoredAt i (omega (arith, b .count));
             }
 
-        old : (p : ℕ) → p < c .index → Row es u′ (set m (c .index) (d .len)) (set sc (c .index) v) p
-        old p k =
-            let r = g .rows p k in
+        old : (p : ℕ) → p < i → Row es u′ (set m i (q .kept + q .own)) (set sc i v) p
+        old p z =
+            let o = g .rows p z in
             record {
-              long = getD-set-other m (c .index) p (d .len) 0 (λ e. omega arith) ∙ r .long;
-              stands = rw w (stays u (nameIn d) (c .index * longestName) fits (at es p .name) (p * longestName) (inl (omega (arith, short p (omega arith)))) (r .stands));
-              score = getD-set-other sc (c .index) p v 0 (λ e. omega arith) ∙ r .score;
+              long = getD-set-other m i p (q .kept + q .own) 0 (λ e. omega arith) ∙ o .long;
+              stands = rw stored (stays u (at es i .name) (i * longestName) fits (at es p .name) (p * longestName) (inl (omega (arith, short p (omega arith)))) (o .stands));
+              score = getD-set-other sc i p v 0 (λ e. omega arith) ∙ o .score;
             }
 
-        which : (p : ℕ) → p < suc (c .index) → Row es u′ (set m (c .index) (d .len)) (set sc (c .index) v) p
-        which p k =
-            by-test (ltb p (c .index)) (λ t. old p (ltb-true p (c .index) t))
-            (λ t. let a = ltb-false p (c .index) t in let z : p ≡ c .index = omega (arith, a) in rw z new)
+        which : (p : ℕ) → p < suc i → Row es u′ (set m i (q .kept + q .own)) (set sc i v) p
+        which p z =
+            by-test (ltb p i) (λ t. old p (ltb-true p i t))
+            (λ t. let a = ltb-false p i t in let e : p ≡ i = omega (arith, a) in rw e there)
 
     -- the end: the first n rows are the entries
-    pub unpack-end : n ≤ c .index → Unpacked es n u m sc
+    pub unpack-end : n ≤ i → Unpacked es n u m sc
     unfolding entries
     unpack-end h =
         let l : length (take n m) ≡ n = length-take-le n m (g .room .counted) in

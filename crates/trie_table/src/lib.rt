@@ -10,15 +10,16 @@ pub fn unpack(book: &[u8], n: usize, names: &mut [u8], lens: &mut [u8], scores: 
     requires { ⌜ Held (now book) n × Room n (length (now names)) (length (now lens)) (length (now scores)) ⌝ }
     ensures { λ _. ⌜ Unpacked (inBook (now (book .entry))) n (now (names .exit)) (now (lens .exit)) (now (scores .exit)) ⌝ }
 {
-    let mut c = book_writer::start(n);
-    while c.index < n {
-        let i = c.index;
-        let t = front_coding::advance(book, c);
-        c = t.next;
-        let len = c.len;
-        let name = c.name;
+    let mut name = [0; 48];
+    let mut at = book_check::records_at(n);
+    let mut i = 0;
+    while i < n {
+        let p = book_records::read_name(book, at, i, &mut name);
+        let len = p.kept + p.own;
         octets::copy(names, i * 48, &name[..len]);
         lens[i] = len as u8;
         scores[i] = book_check::score_at(book, i);
+        at += p.start + p.own;
+        i += 1;
     }
 }
