@@ -83,14 +83,18 @@ module _
     pub step-index : (r : Step) → Stepped s c r → r .next .index ≡ c .index + 1
     step-index r t = t .next (step-ok r t) .index
 
+    pub step-at : (r : Step) → Stepped s c r → r .next .at ≡ c .at + length (recordOf bucketHead i (nameIn c) w)
+    step-at r t =
+        t .next (step-ok r t) .at
+        ∙ ap (λ z. c .at + z) (standing-length bucketHead i (nameIn c) w (drop (c .at) s) here-begins)
+
     -- and the cursor stands at the next record
     pub step-ahead : (r : Step) → Stepped s c r → Ahead es s (r .next)
     step-ahead r t =
         let k = t .next (step-ok r t) in
-        let l = standing-length bucketHead i (nameIn c) w (drop (c .at) s) here-begins in
         let x : r .next .index ≡ suc i = k .index ∙ add-one i in
         let y : drop (r .next .at) s ≡ behind =
-        ap (λ z. drop z s) (k .at ∙ ap (λ z. c .at + z) l)
+        ap (λ z. drop z s) (step-at r t)
         ∙ sym (drop-drop (length (recordOf bucketHead i (nameIn c) w)) (c .at) s)
         ∙ ap (drop (length (recordOf bucketHead i (nameIn c) w))) here-stands
         ∙ drop-append-seam (recordOf bucketHead i (nameIn c) w) behind

@@ -10,4 +10,5 @@ pub mod Scores
 pub mod Stored
 pub mod Check
 pub mod Ahead
+pub mod Front
 pub mod Lookups

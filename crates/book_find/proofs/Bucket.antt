@@ -1,21 +1,26 @@
 -- A walk over the records of one bucket: the cursor holds the name of the record behind which it stands.
-use Prim.Native.Nat.{_*_, _+_, _-_, _<_, _≤_, min, ℕ}
+use Prim.Native.Nat.{_%_, _*_, _+_, _-_, _<_, _≤_, min, suc, ℕ}
 use mathlib.Core.Path.{_∙_, _≡_, sym}
+use mathlib.Core.Logic.{_⊎_, inl, inr}
 use mathlib.Core.Bool.{Bool, false, false≢true, true}
 use mathlib.Core.List.{List}
 use lib.Dec.{ltb}
 use lib.ListN.{length}
+use native.Mathlib.Numerals.{add-one}
 use native.Mathlib.Omega.{arith}
-use borrow.Author.Tests.{ltb-false, ltb-true}
+use borrow.Author.Tests.{eq-eqb, ltb-false, ltb-true}
 use Rattle.octets.proofs.Tests.{by-test}
 use Rattle.entries.specs.Entries.{Entry, at, entry}
 use Rattle.entries.specs.Place.{isBefore, place}
 use Rattle.entries.proofs.Place.{place-unique}
 use Rattle.entries.proofs.Valid.{Valid}
 use Rattle.front_coding.specs.Cursor.{Sound, Stepped, nameIn}
-use Rattle.front_coding.specs.Records.{bucketSize}
-use Rattle.book.specs.Ahead.{Ahead}
-use Rattle.book.proofs.Ahead.{ahead-bucket, ahead-sound, step-ahead, step-index, step-name}
+use Rattle.front_coding.specs.Records.{bucketHead, bucketSize}
+use Rattle.front_coding.proofs.Writing.{same-record}
+use Rattle.book.specs.Ahead.{Ahead, InFront, nameBefore, recordAt}
+use Rattle.book.specs.Book.{offset}
+use Rattle.book.proofs.Ahead.{ahead-bucket, ahead-sound, step-ahead, step-at, step-index, step-name}
+use Rattle.book.proofs.Front.{last-next, record-next}
 use Rattle.book.proofs.Stored.{Stored}
 use Rattle.book_find.specs.Find.{AtBucket, HeadsBefore}
 use Rattle.front_coding.specs.declared.Cursor.{Cursor}
@@ -26,18 +31,23 @@ pub record Reached (es : List Entry) (buf : List ℕ) (first end : ℕ) (c : Cur
   pub ahead : Ahead es buf c
   pub from : first ≤ c .index
   pub upto : c .index ≤ end
+  pub head : bucketHead first ≡ true
+  pub place : c .at ≡ recordAt es (c .index)
   pub name : first < c .index → nameIn c ≡ at es (c .index - 1) .name
 
 module _ {buf : List ℕ} {es : List Entry} where
   pub reach-start :
       {bucket end : ℕ} {c : Cursor} → Stored buf es → AtBucket es bucket c → bucketSize * bucket ≤ end → end ≤ length es
       → Reached es buf (bucketSize * bucket) end c
+  unfolding offset
   reach-start {bucket} {end} {c} s a h k =
       let q = a .index in
       record {
         ahead = ahead-bucket buf es s c bucket (omega arith) (a .stands) (a .index) (a .empty);
         from = omega arith;
         upto = omega arith;
+        head = eq-eqb (bucketSize * bucket % bucketSize) 0 (omega arith);
+        place = a .stands ∙ rw (a .index);
         name = λ l. absurd (omega arith);
       }
 
@@ -52,6 +62,25 @@ module _ {buf : List ℕ} {es : List Entry} where
     reach-name : {r : Step} → Stepped buf c r → nameIn (r .next) ≡ at es (c .index) .name
     reach-name {r} t = step-name es v buf c (w .ahead) (omega arith) r t
 
+    -- the name before, where the record depends on it
+    reach-before : nameIn c ≡ nameBefore es (c .index) ⊎ (bucketHead (c .index) ≡ true)
+    reach-before =
+        by-test (ltb first (c .index))
+        (λ t.
+        let m = ltb-true first (c .index) t in
+        let z : suc (c .index - 1) ≡ c .index = omega arith in
+        inl (w .name m ∙ sym (rw z at (last-next es (c .index - 1) (omega arith)))))
+        (λ t.
+        let m = ltb-false first (c .index) t in
+        let z : c .index ≡ first = omega (arith, w .from) in
+        inr (rw z (w .head)))
+
+    reach-place : {r : Step} → Stepped buf c r → r .next .at ≡ recordAt es (suc (c .index))
+    reach-place {r} t =
+        step-at es v buf c (w .ahead) (omega arith) r t
+        ∙ rw (w .place, same-record bucketHead (c .index) (nameIn c) (nameBefore es (c .index)) (at es (c .index) .name) reach-before)
+        (sym (record-next es (c .index) (omega arith)))
+
     pub reach-on : {r : Step} → Stepped buf c r → Reached es buf first end (r .next)
     reach-on {r} t =
         let x = reach-index t in
@@ -60,12 +89,24 @@ module _ {buf : List ℕ} {es : List Entry} where
           ahead = step-ahead es v buf c (w .ahead) (omega arith) r t;
           from = omega (arith, w .from);
           upto = omega arith;
+          head = w .head;
+          place = rw (x, add-one (c .index)) (reach-place t);
           name = λ m. rw z (reach-name t);
         }
 
   -- behind the record at position i
   pub reach-end : {first i : ℕ} {c : Cursor} → Reached es buf first (i + 1) c → first ≤ i → i < c .index → nameIn c ≡ at es i .name
   reach-end {first} {i} {c} w h l = let z : c .index - 1 ≡ i = omega (arith, w .upto) in rw z at (w .name (omega arith))
+
+  pub reach-front : {first i : ℕ} {c : Cursor} → Reached es buf first (i + 1) c → first ≤ i → i < c .index → i < length es → InFront es buf (i + 1) c
+  reach-front {first} {i} {c} w h l k =
+      let z : c .index ≡ i + 1 = omega (arith, w .upto) in
+      record {
+        ahead = w .ahead;
+        index = z;
+        place = rw z at (w .place);
+        name = reach-end w h l ∙ sym (rw (← add-one i) at (last-next es i k));
+      }
 
 -- the walk that looks for the place of a key: the name held, as all before it, is before the key
 pub record Passed (past : Bool) (key : List ℕ) (es : List Entry) (buf : List ℕ) (first end : ℕ) (c : Cursor) : Type 0 where

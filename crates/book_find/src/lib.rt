@@ -7,6 +7,7 @@ ghost use Rattle.entries.specs.Place.{isBefore, place};
 ghost use Rattle.front_coding.specs.Cursor.{nameIn};
 ghost use Rattle.front_coding.specs.Records.{bucketSize};
 ghost use Rattle.book.specs.Book.{inBook, layout21, offset};
+ghost use Rattle.book.specs.Ahead.{InFront};
 ghost use Rattle.book.specs.Held.{Held};
 ghost use Rattle.book_find.specs.Find.{AtBucket, HeadsBefore};
 
@@ -54,10 +55,11 @@ fn bucket_end(n: usize, bucket: usize) -> usize
     first + 8
 }
 
-// The cursor behind the record at a position: it holds the name there.
+// The cursor behind the record at a position, in front of the next one: it holds the name there.
 pub fn cursor_at(buf: &[u8], n: usize, i: usize) -> front_coding::Cursor
     requires { ⌜ Held (now buf) n × (i < n) ⌝ }
-    ensures { λ r. ⌜ (nameIn r ≡ at (inBook (now (buf .entry))) i .name) × (r .len ≤ longestName) ⌝ }
+    ensures { λ r. ⌜ (nameIn r ≡ at (inBook (now (buf .entry))) i .name) × (r .len ≤ longestName)
+        × InFront (inBook (now (buf .entry))) (now (buf .entry)) (i + 1) r ⌝ }
 {
     let mut c = bucket_start(buf, n, i / 8);
     while c.index <= i {

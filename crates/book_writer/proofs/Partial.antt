@@ -2,20 +2,19 @@
 use Prim.Native.Nat.{_*_, _+_, _<_, _≤_, suc, ℕ}
 use mathlib.Core.Path.{_∙_, _≡_, ap, refl, sym}
 use mathlib.Core.Bool.{true}
-use mathlib.Core.List.{List, [], _++_, _∷_, append-nil}
+use mathlib.Core.List.{List, []}
 use lib.ListN.{drop, length, length-append, take, take-append-drop}
-use lib.Seq.{length-take-le, take-suc}
 use native.Mathlib.Nat.{add-zero}
 use native.Mathlib.Omega.{arith}
 use Rattle.octets.specs.Octets.{be, begins}
 use Rattle.entries.specs.Entries.{Entry, at, names}
 use Rattle.entries.specs.Names.{longestName}
-use Rattle.entries.proofs.Valid.{length-names}
 use Rattle.front_coding.specs.Cursor.{nameIn}
 use Rattle.front_coding.specs.Records.{bucketHead, bucketSize, lastOr, recordOf, records}
 use Rattle.front_coding.proofs.Records.{records-append}
 use Rattle.book.specs.Book.{imageIn, layout21, offset, recordsAt}
-use Rattle.book.proofs.Ahead.{names-at}
+use Rattle.book.specs.Ahead.{nameBefore, recordAt}
+use Rattle.book.proofs.Front.{record-next}
 use Rattle.book.proofs.Reading.{image-length}
 use Rattle.front_coding.specs.declared.Cursor.{Cursor}
 
@@ -24,8 +23,8 @@ pub record Partial (es : List Entry) (d₀ : List ℕ) (c : Cursor) (d : List �
   pub sameLength : length d ≡ length d₀
   pub untouched : drop (length (imageIn layout21 es)) d ≡ drop (length (imageIn layout21 es)) d₀
   pub index : c .index ≤ length es
-  pub place : c .at ≡ recordsAt layout21 (length es) + length (records bucketHead 0 [] (take (c .index) (names es)))
-  pub name : nameIn c ≡ lastOr [] (take (c .index) (names es))
+  pub place : c .at ≡ recordAt es (c .index)
+  pub name : nameIn c ≡ nameBefore es (c .index)
   pub small : c .len ≤ longestName
   pub scored : (k : ℕ) → k < c .index → begins (be 4 (at es k .score)) (drop (7 + 4 * k) d) ≡ true
   pub bucketed :
@@ -50,39 +49,18 @@ partial-start es d c h p q z =
       recorded = rw q;
     }
 
--- records up to a position, and one more
-module _ (es : List Entry) (i : ℕ) (h : i < length es) where
-  abbrev w : List ℕ
-  w = at es i .name
-
-  abbrev prev : List ℕ
-  prev = lastOr [] (take i (names es))
-
-  names-next : take (suc i) (names es) ≡ take i (names es) ++ (w ∷ [])
-  names-next = let n = length-names es in take-suc (names es) i [] (omega arith) ∙ ap (λ v. take i (names es) ++ (v ∷ [])) (names-at es i h)
-
-  pub records-next : records bucketHead 0 [] (take (suc i) (names es)) ≡ records bucketHead 0 [] (take i (names es)) ++ recordOf bucketHead i prev w
-  records-next =
-      let n = length-names es in
-      let k : 0 + length (take i (names es)) ≡ i = rw (length-take-le i (names es) (omega arith)) (omega arith) in
-      ap (records bucketHead 0 []) names-next
-      ∙ records-append bucketHead (take i (names es)) (w ∷ []) 0 []
-      ∙ rw (k, append-nil (recordOf bucketHead i prev w))
-
-  pub last-next : lastOr [] (take (suc i) (names es)) ≡ w
-  last-next = ap (lastOr []) names-next ∙ last-of (take i (names es)) [] w
-    where
-      last-of : (ws : List (List ℕ)) (p v : List ℕ) → lastOr p (ws ++ (v ∷ [])) ≡ v
-      last-of [] p v = refl
-      last-of (x ∷ ws) p v = last-of ws x v
-
-  -- the record lies within the image
-  pub record-within :
-      recordsAt layout21 (length es) + length (records bucketHead 0 [] (take i (names es))) + length (recordOf bucketHead i prev w)
-      ≤ length (imageIn layout21 es)
-  record-within =
-      let a = ap length records-next ∙ length-append (records bucketHead 0 [] (take i (names es))) (recordOf bucketHead i prev w) in
-      let b = records-append bucketHead (take (suc i) (names es)) (drop (suc i) (names es)) 0 [] in
-      let c = ap length (ap (records bucketHead 0 []) (sym (take-append-drop (suc i) (names es))) ∙ b) ∙ length-append (records bucketHead 0 [] (take (suc i) (names es))) (records bucketHead (0 + length (take (suc i) (names es))) (lastOr [] (take (suc i) (names es))) (drop (suc i) (names es))) in
-      let e = image-length layout21 es in
-      omega arith
+-- the record of an entry lies within the image
+pub record-within :
+    (es : List Entry) (i : ℕ) → i < length es
+    → recordAt es i + length (recordOf bucketHead i (nameBefore es i) (at es i .name)) ≤ length (imageIn layout21 es)
+record-within es i h =
+    let a = record-next es i h in
+    let front = take (suc i) (names es) in
+    let back = drop (suc i) (names es) in
+    let b = records-append bucketHead front back 0 [] in
+    let c =
+    ap length (ap (records bucketHead 0 []) (sym (take-append-drop (suc i) (names es))) ∙ b)
+    ∙ length-append (records bucketHead 0 [] front) (records bucketHead (0 + length front) (lastOr [] front) back)
+    in
+    let e = image-length layout21 es in
+    omega arith

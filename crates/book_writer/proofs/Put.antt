@@ -5,7 +5,7 @@ use mathlib.Core.Logic.{_⊎_, inl, inr}
 use mathlib.Core.Bool.{true}
 use mathlib.Core.List.{List, []}
 use lib.Dec.{eqb, ltb}
-use lib.ListN.{drop, length, length-append, take}
+use lib.ListN.{drop, length, take}
 use lib.Seq.{length-sets, sets}
 use native.Mathlib.Numerals.{add-one}
 use native.Mathlib.Omega.{arith}
@@ -20,9 +20,10 @@ use Rattle.entries.specs.Names.{longestName}
 use Rattle.front_coding.specs.Cursor.{nameIn}
 use Rattle.front_coding.specs.Records.{bucketHead, bucketSize, lastOr, recordOf, records}
 use Rattle.book.specs.Book.{imageIn, layout21, offset, recordsAt}
+use Rattle.book.proofs.Front.{last-next, record-next, records-next}
 use Rattle.book.proofs.Walk.{other}
 use Rattle.book_writer.specs.Writing.{putEntry, putOffset}
-use Rattle.book_writer.proofs.Partial.{Partial, last-next, record-within, records-next}
+use Rattle.book_writer.proofs.Partial.{Partial, record-within}
 use Rattle.front_coding.specs.declared.Cursor.{Cursor}
 
 module _
@@ -165,7 +166,7 @@ module _
         (c′ : Cursor) → c′ .index ≡ i + 1 → c′ .at ≡ c .at + length record-bytes → nameIn c′ ≡ w → c′ .len ≤ longestName → Partial es d₀ c′ d₃
     partial-put c′ x y z l =
         let e : c′ .index ≡ suc i = x ∙ add-one i in
-        let m = ap length (records-next es i h) ∙ length-append (records bucketHead 0 [] (take i (names es))) (recordOf bucketHead i (lastOr [] (take i (names es))) w) in
+        let m = record-next es i h in
         let o : length record-bytes ≡ length (recordOf bucketHead i (lastOr [] (take i (names es))) w) = ap (λ u. length (recordOf bucketHead i u w)) (p .name) in
         let q = p .place in
         record {

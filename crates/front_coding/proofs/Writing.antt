@@ -1,6 +1,7 @@
 -- The bytes of a record, in its two forms, and the stores that leave them.
 use Prim.Native.Nat.{_+_, _-_, ℕ}
-use mathlib.Core.Path.{_≡_}
+use mathlib.Core.Path.{_∙_, _≡_, sym}
+use mathlib.Core.Logic.{_⊎_, inl, inr}
 use mathlib.Core.Bool.{Bool, false, true}
 use mathlib.Core.List.{List}
 use lib.ListN.{drop, length, length-drop, set, take}
@@ -20,6 +21,12 @@ module _ (isHead : ℕ → Bool) (i : ℕ) (prev w : List ℕ) where
   pub record-tail : isHead i ≡ false → recordOf isHead i prev w ≡ tailRecord prev w
   unfolding recordOf
   record-tail e = rw e
+
+-- a head does not depend on the name before
+pub same-record :
+    (isHead : ℕ → Bool) (i : ℕ) (prev other w : List ℕ) → (prev ≡ other) ⊎ (isHead i ≡ true) → recordOf isHead i prev w ≡ recordOf isHead i other w
+same-record isHead i prev other w (inl e) = rw e
+same-record isHead i prev other w (inr e) = record-head isHead i prev w e ∙ sym (record-head isHead i other w e)
 
 pub tail-length : (prev w : List ℕ) → length (tailRecord prev w) ≡ 2 + (length w - common prev w)
 tail-length prev w = omega (arith, length-drop (common prev w) w)

@@ -5,7 +5,7 @@ use lib.ListN.{length}
 use native.Mathlib.Omega.{arith}
 use Rattle.front_coding.specs.Records.{bucketSize}
 use Rattle.book.specs.Book.{inBook}
-use Rattle.book_find.proofs.Bucket.{Reached, reach-end, reach-index, reach-on, reach-sound, reach-start}
+use Rattle.book_find.proofs.Bucket.{Reached, reach-end, reach-front, reach-index, reach-on, reach-sound, reach-start}
 use Rattle.book.proofs.Lookups.{held-stored, held-valid}
 use Rattle.book_find.proofs.cursor_at.Statement.{statement}
 use Rattle.book_find.proofs.cursor_at.Tie as tie
@@ -51,7 +51,8 @@ loop-again c =
 returns : tie.Need-returns Inv-loop μ-loop
 returns c =
     let l = c .before .before in
-    (reach-end (l .loop .inv) (omega arith) (omega arith), l .loop .inv .ahead .small)
+    let v = l .loop .inv in
+    (reach-end v (omega arith) (omega arith), v .ahead .small, reach-front v (omega arith) (omega arith) (omega (arith, within (start l))))
 
 pub cursor-at-spec : {M : Type 1} → statement M
 cursor-at-spec =
