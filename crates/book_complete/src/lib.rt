@@ -147,17 +147,17 @@ pub fn offers(book: &[u8], n: usize, prefix: &[u8], k: usize) -> range_machine::
     requires { ⌜ Held (now book) n × (k ≤ maxCount) ⌝ }
     ensures { λ s. ⌜ Offers (inBook (now (book .entry))) (now (prefix .entry)) k s ⌝ }
 {
-    range_machine::run(book, begin(book, n, prefix, k), range_machine::no_ranges())
+    array_queue::run(book, begin(book, n, prefix, k), array_queue::no_ranges())
 }
 
 // Completion for callers who lend no ranges.
 pub fn complete_in(book: &[u8], prefix: &[u8], k: usize, dst: &mut [u8]) -> completion::Completion
     ensures { λ r. ⌜ Completed (completeBook (now (book .entry)) (now (prefix .entry)) k (now (dst .entry)) k) r (now (dst .exit)) ⌝ }
 {
-    let s = range_machine::run(
+    let s = array_queue::run(
         book,
         start(book, prefix, k, dst.len(), k),
-        range_machine::no_ranges(),
+        array_queue::no_ranges(),
     );
     finish(book, s, dst)
 }

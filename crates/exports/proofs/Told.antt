@@ -14,7 +14,8 @@ use Rattle.panel_keys.specs.Keys.{PressedAs, pressedOf}
 use Rattle.panel_keys.specs.declared.Pressed.{Pressed}
 use Rattle.answers.specs.Reports.{Answered, writtenOf}
 use Rattle.answers.specs.declared.Written.{Written}
-use Rattle.exports.specs.Told.{Left, OfferedLeft, OfferedOver, OfferedTold, PanelLeft, RowsTold, WrittenTold}
+use Rattle.out_values.specs.Told.{OfferedTold, RowsTold, WrittenTold}
+use Rattle.exports.specs.Told.{Left, OfferedLeft, OfferedOver, PanelLeft}
 
 -- every call that writes
 pub left :

@@ -5,118 +5,18 @@ ghost use lib.ListN.{length};
 ghost use Rattle.book.specs.Lookups.{find, nameAt, nameAtByName, prefixRange};
 ghost use Rattle.edits.specs.Edits.{emptyBook, setEntry, withdraw};
 ghost use Rattle.sheet.specs.Sheet.{buildBook, listBook};
-ghost use Rattle.completion.specs.Complete.{completeBook, offeredOf};
+ghost use Rattle.completion.specs.Complete.{completeBook};
 ghost use Rattle.trie.specs.Calls.{completeTrie, writeTrie};
 ghost use Rattle.panel.specs.Panel.{press};
-ghost use Rattle.panel_keys.specs.Keys.{pressedOf};
-ghost use Rattle.answers.specs.Reports.{writtenOf};
-ghost use Rattle.lookups.specs.Finding.{foundOf, spanOf};
-ghost use Rattle.exports.specs.Told.{FoundTold, HasBucket, HeadTold, Left, OfferedLeft, OfferedOver, OfferedTold, PanelLeft, RowsTold, SpanTold, WrittenTold, headAt};
-
-// Tells what was written.
-fn tell_written(w: label_book::Written, entries: &mut usize, bytes: &mut usize) -> u8
-    ensures { λ r. ⌜ WrittenTold (writtenOf w) r (now (entries .exit)) (now (bytes .exit)) ⌝ }
-{
-    *entries = 0;
-    *bytes = 0;
-    match w {
-        label_book::Written::Refused(n) => n,
-        label_book::Written::Wrote {
-            entries: e,
-            bytes: b,
-        } => {
-            *entries = e;
-            *bytes = b;
-            0
-        }
-    }
-}
-
-// Tells what was offered.
-fn tell_offered(
-    w: completion::Completion,
-    offered: &mut usize,
-    bytes: &mut usize,
-    looks: &mut usize,
-) -> u8
-    ensures { λ r. ⌜ OfferedTold (offeredOf w) r (now (offered .exit)) (now (bytes .exit)) (now (looks .exit)) ⌝ }
-{
-    *offered = 0;
-    *bytes = 0;
-    *looks = 0;
-    match w {
-        completion::Completion::Refused(n) => n,
-        completion::Completion::Offered {
-            offered: k,
-            bytes: b,
-            looks: l,
-        } => {
-            *offered = k;
-            *bytes = b;
-            *looks = l;
-            0
-        }
-    }
-}
-
-// Tells the rows.
-fn tell_rows(w: panel_keys::Pressed, rows: &mut usize) -> u8
-    ensures { λ r. ⌜ RowsTold (pressedOf w) r (now (rows .exit)) ⌝ }
-{
-    *rows = 0;
-    match w {
-        panel_keys::Pressed::Refused(n) => n,
-        panel_keys::Pressed::Rows(k) => {
-            *rows = k;
-            0
-        }
-    }
-}
-
-// Tells a place that was found, or that there is none.
-fn tell_found(w: label_book::Found, found: &mut usize, position: &mut usize, score: &mut u32) -> u8
-    ensures { λ r. ⌜ FoundTold (foundOf w) r (now (found .exit)) (now (position .exit)) (now (score .exit)) ⌝ }
-{
-    *found = 0;
-    *position = 0;
-    *score = 0;
-    match w {
-        label_book::Found::Refused(n) => n,
-        label_book::Found::At {
-            position: i,
-            score: s,
-        } => {
-            *found = 1;
-            *position = i;
-            *score = s;
-            0
-        }
-        label_book::Found::Absent => 0,
-    }
-}
-
-// Tells a range of positions.
-fn tell_span(w: label_book::Span, first: &mut usize, count: &mut usize) -> u8
-    ensures { λ r. ⌜ SpanTold (spanOf w) r (now (first .exit)) (now (count .exit)) ⌝ }
-{
-    *first = 0;
-    *count = 0;
-    match w {
-        label_book::Span::Refused(n) => n,
-        label_book::Span::Range { first: i, count: k } => {
-            *first = i;
-            *count = k;
-            0
-        }
-    }
-}
+ghost use Rattle.out_values.specs.Told.{FoundTold, SpanTold};
+ghost use Rattle.exports.specs.Told.{HasBucket, HeadTold, Left, OfferedLeft, OfferedOver, PanelLeft, headAt};
 
 // Writes the book of no entries.
 #[no_mangle]
 pub extern "C" fn label_book_empty(dst: &mut [u8], entries: &mut usize, bytes: &mut usize) -> u8
     ensures { λ r. ⌜ Left (emptyBook (now (dst .entry))) r (now (entries .exit)) (now (bytes .exit)) (now (dst .exit)) ⌝ }
 {
-    tell_written(label_book::empty(dst), entries, bytes)
+    out_values::tell_written(label_book::empty(dst), entries, bytes)
 }
 
 // Adds a name, or gives it a new score: the result stands at the front of another buffer.
@@ -131,7 +31,7 @@ pub extern "C" fn label_book_set(
 ) -> u8
     ensures { λ r. ⌜ Left (setEntry (now (book .entry)) (now (name .entry)) score (now (dst .entry))) r (now (entries .exit)) (now (bytes .exit)) (now (dst .exit)) ⌝ }
 {
-    tell_written(label_book::set(book, name, score, dst), entries, bytes)
+    out_values::tell_written(label_book::set(book, name, score, dst), entries, bytes)
 }
 
 // Removes a name: the result stands at the front of another buffer.
@@ -145,7 +45,7 @@ pub extern "C" fn label_book_withdraw(
 ) -> u8
     ensures { λ r. ⌜ Left (withdraw (now (book .entry)) (now (name .entry)) (now (dst .entry))) r (now (entries .exit)) (now (bytes .exit)) (now (dst .exit)) ⌝ }
 {
-    tell_written(label_book::withdraw(book, name, dst), entries, bytes)
+    out_values::tell_written(label_book::withdraw(book, name, dst), entries, bytes)
 }
 
 // Writes the entry at a position as one answer entry.
@@ -159,7 +59,7 @@ pub extern "C" fn label_book_name_at(
 ) -> u8
     ensures { λ r. ⌜ Left (nameAt (now (book .entry)) position (now (dst .entry))) r (now (entries .exit)) (now (bytes .exit)) (now (dst .exit)) ⌝ }
 {
-    tell_written(label_book::name_at(book, position, dst), entries, bytes)
+    out_values::tell_written(label_book::name_at(book, position, dst), entries, bytes)
 }
 
 // Writes the given name with its score as one answer entry.
@@ -173,7 +73,7 @@ pub extern "C" fn label_book_name_of(
 ) -> u8
     ensures { λ r. ⌜ Left (nameAtByName (now (book .entry)) (now (name .entry)) (now (dst .entry))) r (now (entries .exit)) (now (bytes .exit)) (now (dst .exit)) ⌝ }
 {
-    tell_written(label_book::name_of(book, name, dst), entries, bytes)
+    out_values::tell_written(label_book::name_of(book, name, dst), entries, bytes)
 }
 
 // Builds a book from a sheet.
@@ -186,7 +86,7 @@ pub extern "C" fn label_book_build(
 ) -> u8
     ensures { λ r. ⌜ Left (buildBook (now (sheet .entry)) (now (dst .entry))) r (now (entries .exit)) (now (bytes .exit)) (now (dst .exit)) ⌝ }
 {
-    tell_written(label_book::build(sheet, dst), entries, bytes)
+    out_values::tell_written(label_book::build(sheet, dst), entries, bytes)
 }
 
 // Lists a book into a sheet.
@@ -199,7 +99,7 @@ pub extern "C" fn label_book_list(
 ) -> u8
     ensures { λ r. ⌜ Left (listBook (now (book .entry)) (now (dst .entry))) r (now (entries .exit)) (now (bytes .exit)) (now (dst .exit)) ⌝ }
 {
-    tell_written(label_book::list(book, dst), entries, bytes)
+    out_values::tell_written(label_book::list(book, dst), entries, bytes)
 }
 
 // Writes the trie of a book.
@@ -212,7 +112,7 @@ pub extern "C" fn label_book_write_trie(
 ) -> u8
     ensures { λ r. ⌜ Left (writeTrie (now (book .entry)) (now (dst .entry))) r (now (entries .exit)) (now (bytes .exit)) (now (dst .exit)) ⌝ }
 {
-    tell_written(label_book::write_trie(book, dst), entries, bytes)
+    out_values::tell_written(label_book::write_trie(book, dst), entries, bytes)
 }
 
 // The position and score of a name, or that it is absent.
@@ -226,7 +126,7 @@ pub extern "C" fn label_book_find(
 ) -> u8
     ensures { λ r. ⌜ FoundTold (find (now (book .entry)) (now (name .entry))) r (now (found .exit)) (now (position .exit)) (now (score .exit)) ⌝ }
 {
-    tell_found(label_book::find(book, name), found, position, score)
+    out_values::tell_found(label_book::find(book, name), found, position, score)
 }
 
 // The first position that a prefix begins, 0 if there is none, and how many it begins.
@@ -239,7 +139,7 @@ pub extern "C" fn label_book_prefix_range(
 ) -> u8
     ensures { λ r. ⌜ SpanTold (prefixRange (now (book .entry)) (now (prefix .entry))) r (now (first .exit)) (now (count .exit)) ⌝ }
 {
-    tell_span(label_book::prefix_range(book, prefix), first, count)
+    out_values::tell_span(label_book::prefix_range(book, prefix), first, count)
 }
 
 // Where the head name of a bucket begins: behind the length byte at the bucket's offset.
@@ -288,7 +188,7 @@ pub extern "C" fn label_book_complete(
     ensures { λ r. ⌜ OfferedOver (completeBook (now (book .entry)) (now (prefix .entry)) k (now (dst .entry)) (length (now (ranges .entry)))) r (now (offered .exit)) (now (bytes .exit)) (now (looks .exit)) (now (dst .exit)) (now (ranges .entry)) (now (ranges .exit)) ⌝ }
 {
     let answer = label_book::complete(book, prefix, k, dst, ranges);
-    tell_offered(answer, offered, bytes, looks)
+    out_values::tell_offered(answer, offered, bytes, looks)
 }
 
 // Completion from a trie.
@@ -304,7 +204,7 @@ pub extern "C" fn label_book_complete_trie(
 ) -> u8
     ensures { λ r. ⌜ OfferedLeft (completeTrie (now (trie .entry)) (now (prefix .entry)) k (now (dst .entry))) r (now (offered .exit)) (now (bytes .exit)) (now (looks .exit)) (now (dst .exit)) ⌝ }
 {
-    tell_offered(
+    out_values::tell_offered(
         label_book::complete_trie(trie, prefix, k, dst),
         offered,
         bytes,
@@ -323,5 +223,5 @@ pub extern "C" fn label_book_press(
     ensures { λ r. ⌜ PanelLeft (press (now (book .entry)) (now (panel .entry)) key) r (now (rows .exit)) (now (panel .exit)) ⌝ }
 {
     let answer = label_book::press(book, panel, key);
-    tell_rows(answer, rows)
+    out_values::tell_rows(answer, rows)
 }

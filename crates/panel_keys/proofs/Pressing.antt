@@ -14,9 +14,10 @@ use Rattle.book.specs.Book.{inBook, isBook}
 use Rattle.panel.specs.declared.Panel.{Panel}
 use Rattle.panel.specs.Panel.{acts, appends, isListed, isTyped, lowered, panelOf, press, typedIn, typingIn}
 use Rattle.panel.proofs.Refused.{press-refused}
+use Rattle.panel_typing.specs.Typing.{Typed, isFull}
 use Rattle.panel_keys.specs.declared.Done.{Done}
 use Rattle.panel_keys.specs.declared.Pressed.the-variants as pressed
-use Rattle.panel_keys.specs.Keys.{Counted, PressedAs, Typed, isFull, pressedOf, refusal}
+use Rattle.panel_keys.specs.Keys.{Counted, PressedAs, pressedOf, refusal}
 use Rattle.panel_keys.proofs.Typing.{holds-shown, shown-counted}
 
 -- an allowed text is not over 48 bytes

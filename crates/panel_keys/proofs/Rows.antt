@@ -18,8 +18,9 @@ use Rattle.range_machine.specs.declared.Progress.{Progress}
 use Rattle.range_machine.specs.Turns.{soFar}
 use Rattle.book_complete.specs.Offers.{Offers}
 use Rattle.panel.specs.declared.Panel.{Panel}
-use Rattle.panel.specs.Panel.{movedDown, nameTaken, offeredFor, panelCount, raised, typedIn, typingIn}
-use Rattle.panel_keys.specs.Keys.{Counted, Typed}
+use Rattle.panel.specs.Panel.{movedDown, nameTaken, offeredFor, panelCount, typedIn, typingIn}
+use Rattle.panel_typing.specs.Typing.{Typed}
+use Rattle.panel_keys.specs.Keys.{Counted}
 
 -- all that match are offered, or k of them
 pub length-completion : (es : List Entry) (w : List ℕ) (k : ℕ) → length (completion es w k) ≡ min k (length (matches w es))
@@ -35,15 +36,7 @@ at-mapped es [] i h = absurd (omega arith)
 at-mapped es (j ∷ is) zero h = refl
 at-mapped es (j ∷ is) (suc i) h = at-mapped es is i (omega arith)
 
--- the acts on the highlight
-module _ (p : Panel) (short : p .len ≤ longestName) where
-  pub raises-none : p .highlight ≡ 0 → Typed (raised (typingIn p)) p
-  raises-none h = let z : p .highlight - 1 ≡ p .highlight = omega arith in record { holds = rw z; short = short }
-
-  pub raises-one :
-      (rows : ℕ) → Typed (raised (typingIn p)) (record { text = p .text; len = p .len; highlight = p .highlight - 1; rows = rows })
-  raises-one rows = record { holds = refl; short = short }
-
+-- the acts on the highlight and by it
 module _ (es : List Entry) (p : Panel) (c : Counted es p) where
   pub lowers-none : p .rows ≤ p .highlight + 1 → Typed (movedDown es (typingIn p)) p
   lowers-none h =

@@ -1,18 +1,18 @@
--- The typed text of a panel: what each key's act and the clearing behind it make of the 48 bytes.
-use Prim.Native.Nat.{_+_, _-_, _<_, _≤_, min, suc, ℕ}
+-- The text of a panel that is settled: zeros behind it, its rows counted.
+use Prim.Native.Nat.{_+_, _-_, _≤_, min, ℕ}
 use mathlib.Core.Path.{_∙_, _≡_, ap, sym}
-use mathlib.Core.List.{List, [], _++_, _∷_, append-nil}
-use lib.ListN.{drop, drop-of-length-le, length, length-replicate, replicate, replicate-append-replicate, set, take}
-use lib.Seq.{length-sets, length-take-le, sets, sets-eq, take-append-seam, take-suc-set, take-take}
+use mathlib.Core.List.{List, [], _++_, append-nil}
+use lib.ListN.{drop, drop-of-length-le, length, length-replicate, replicate, replicate-append-replicate, take}
+use lib.Seq.{length-sets, sets, sets-eq, take-append-seam}
 use native.Mathlib.Omega.{arith}
-use borrow.Author.Tests.{eq-eqb, ne-eqb}
 use Rattle.octets.proofs.Loops.{sets-out}
 use Rattle.octets.proofs.Stores.{sets-append}
 use Rattle.entries.specs.Entries.{Entry}
 use Rattle.entries.specs.Names.{longestName}
 use Rattle.panel.specs.declared.Panel.{Panel}
-use Rattle.panel.specs.Panel.{Typing, appended, erased, lowered, offeredFor, panelOf, typedIn, typingIn}
-use Rattle.panel_keys.specs.Keys.{Counted, Typed}
+use Rattle.panel.specs.Panel.{Typing, lowered, offeredFor, panelOf, typedIn, typingIn}
+use Rattle.panel_typing.proofs.Acts.{typed-length}
+use Rattle.panel_keys.specs.Keys.{Counted}
 
 -- 48 zeros stored behind a text of 48 bytes or fewer: those past the end are left out
 module _ (text : List ℕ) (n : ℕ) (long : length text ≡ longestName) (h : n ≤ longestName) where
@@ -32,9 +32,6 @@ module _ (text : List ℕ) (n : ℕ) (long : length text ≡ longestName) (h : n
 
 -- a panel of 48 bytes of which at most 48 are typed
 module _ (p : Panel) (long : length (p .text) ≡ longestName) where
-  pub typed-length : p .len ≤ longestName → length (typedIn p) ≡ p .len
-  typed-length h = length-take-le (p .len) (p .text) (omega (arith, long))
-
   -- with its rows counted, its highlight lowered and zeros behind its text
   pub settled :
       (es : List Entry) {text : List ℕ} {rows row : ℕ} → p .len ≤ longestName → rows ≡ length (offeredFor es (typedIn p))
@@ -42,31 +39,9 @@ module _ (p : Panel) (long : length (p .text) ≡ longestName) where
       → record { text = text; len = p .len; highlight = row; rows = rows } ≡ panelOf es (lowered es (typingIn p))
   unfolding panelOf lowered
   settled es h r t l =
-      let n = typed-length h in
+      let n = typed-length p long h in
       let e = cleared (p .text) (p .len) long h in
       rw (l, t, e, r, n)
-
-  -- the acts on the text
-  pub appends-to :
-      (key rows : ℕ) → p .len < longestName
-      → Typed (appended key (typingIn p)) (record { text = set (p .text) (p .len) key; len = p .len + 1; highlight = 0; rows = rows })
-  appends-to key rows h =
-      let z : p .len + 1 ≡ suc (p .len) = omega arith in
-      let e : take (p .len + 1) (set (p .text) (p .len) key) ≡ typedIn p ++ (key ∷ []) = rw z (take-suc-set (p .text) (p .len) key (omega (arith, long))) in
-      record { holds = rw e; short = omega arith }
-
-  pub erases-none : p .len ≡ 0 → Typed (erased (typingIn p)) p
-  erases-none h =
-      let n = typed-length (omega arith) in
-      record { holds = rw (eq-eqb (length (typedIn p)) 0 (n ∙ h)); short = omega arith }
-
-  pub erases-last :
-      (rows : ℕ) → p .len ≤ longestName → (p .len ≡ 0 → ⊥)
-      → Typed (erased (typingIn p)) (record { text = p .text; len = p .len - 1; highlight = 0; rows = rows })
-  erases-last rows h some =
-      let n = typed-length h in
-      let e : take (p .len - 1) (typedIn p) ≡ take (p .len - 1) (p .text) = take-take (p .len - 1) (p .len) (p .text) (omega arith) in
-      record { holds = rw (ne-eqb (length (typedIn p)) 0 (λ q. some (sym n ∙ q)), n, e); short = omega arith }
 
 -- a state that is shown as a panel is what the panel holds
 pub holds-shown : (es : List Entry) (t : Typing) → typingIn (panelOf es t) ≡ t

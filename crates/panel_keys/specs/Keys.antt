@@ -1,15 +1,13 @@
 -- A key's answer as document 01's, and what the steps of a key ask and give.
 use Prim.Native.Nat.{_-_, _≤_, ℕ}
 use mathlib.Core.Path.{_≡_}
-use mathlib.Core.Bool.{Bool, _&&_}
 use mathlib.Core.List.{List}
-use lib.Dec.{leb}
 use lib.ListN.{length}
 use Rattle.entries.specs.Entries.{Entry}
 use Rattle.entries.specs.Names.{longestName}
 use Rattle.book.specs.Answers.{Answer, given, refused}
 use Rattle.panel.specs.declared.Panel.{Panel}
-use Rattle.panel.specs.Panel.{AfterKey, Typing, appends, offeredFor, typedIn, typingIn}
+use Rattle.panel.specs.Panel.{AfterKey, offeredFor, typedIn}
 use Rattle.panel_keys.specs.declared.Done.{Done}
 use Rattle.panel_keys.specs.declared.Pressed.{Pressed}
 use Rattle.panel_keys.specs.declared.Pressed.the-variants as pressed
@@ -28,17 +26,8 @@ pub record PressedAs (o : AfterKey) (r : Pressed) (left : Panel) : Type 0 where
 abbrev pub refusal : Panel → ℕ → Done
 refusal p n = record { panel = p; answer = pressed.Refused n }
 
--- append at 48 bytes
-abbrev pub isFull : Panel → ℕ → Bool
-isFull p key = appends key && leb longestName (p .len)
-
 -- a panel whose rows are counted and whose highlight is one of them, 0 without rows
 pub record Counted (es : List Entry) (p : Panel) : Type 0 where
   pub short : p .len ≤ longestName
   pub counted : p .rows ≡ length (offeredFor es (typedIn p))
   pub onRow : p .highlight ≤ p .rows - 1
-
--- a panel that holds this text and row, with any bytes behind the text and any rows
-pub record Typed (t : Typing) (p : Panel) : Type 0 where
-  pub holds : typingIn p ≡ t
-  pub short : p .len ≤ longestName

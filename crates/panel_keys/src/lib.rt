@@ -1,13 +1,14 @@
 // The panel's keys, over a panel by value.
 ghost use mathlib.Core.Path.{_≡_};
 ghost use mathlib.Core.Bool.{true};
-ghost use Prim.Native.Nat.{_<_, _≤_, _-_, min};
+ghost use Prim.Native.Nat.{_<_, _≤_};
 ghost use lib.ListN.{length};
 ghost use Rattle.entries.specs.Names.{longestName};
 ghost use Rattle.book.specs.Book.{inBook};
 ghost use Rattle.book.specs.Held.{Held};
-ghost use Rattle.panel.specs.Panel.{acts, appended, appends, erased, isListed, isTyped, lowered, movedDown, nameTaken, offeredFor, panelOf, press, raised, typingIn};
-ghost use Rattle.panel_keys.specs.Keys.{Counted, PressedAs, Typed, isFull, refusal};
+ghost use Rattle.panel.specs.Panel.{acts, appends, lowered, movedDown, nameTaken, offeredFor, panelOf, press, typingIn};
+ghost use Rattle.panel_typing.specs.Typing.{Typed};
+ghost use Rattle.panel_keys.specs.Keys.{Counted, PressedAs, refusal};
 
 // What a key reports: the refusal's number, or the rows.
 pub enum Pressed {
@@ -19,54 +20,6 @@ pub enum Pressed {
 pub struct Done {
     pub panel: panel::Panel,
     pub answer: Pressed,
-}
-
-// Whether the length is not over 48 and every byte within it is allowed.
-fn is_typed(p: panel::Panel) -> bool
-    ensures { λ r. ⌜ r ≡ isTyped p ⌝ }
-{
-    let len = p.len;
-    if 48 < len {
-        return false;
-    }
-    let text = p.text;
-    entries::is_prefix(&text[..len])
-}
-
-// Whether a key appends: 20 to 7E.
-fn appends(key: u8) -> bool
-    ensures { λ r. ⌜ r ≡ appends key ⌝ }
-{
-    if key < 0x20 {
-        return false;
-    }
-    key <= 0x7E
-}
-
-// Whether a key is listed.
-fn is_listed(key: u8) -> bool
-    ensures { λ r. ⌜ r ≡ isListed key ⌝ }
-{
-    if appends(key) {
-        return true;
-    }
-    if key == 0x08 {
-        return true;
-    }
-    if key == 0x0D {
-        return true;
-    }
-    key <= 0x02
-}
-
-// Whether a key appends at 48 bytes.
-fn is_full(p: panel::Panel, key: u8) -> bool
-    ensures { λ r. ⌜ r ≡ isFull p key ⌝ }
-{
-    if !appends(key) {
-        return false;
-    }
-    48 <= p.len
 }
 
 // How many rows are offered for a text.
@@ -86,19 +39,6 @@ fn count_rows(book: &[u8], n: usize, text: &[u8]) -> usize
     matches
 }
 
-// A row past the last, lowered to it.
-fn lower(row: usize, rows: usize) -> usize
-    ensures { λ r. ⌜ r ≡ min row (rows - 1) ⌝ }
-{
-    if row < rows {
-        return row;
-    }
-    if rows == 0 {
-        return 0;
-    }
-    rows - 1
-}
-
 // The panel with its rows counted, its highlight lowered, and zeros behind its text.
 fn settle(book: &[u8], n: usize, p: panel::Panel) -> panel::Panel
     requires { ⌜ Held (now book) n × (p .len ≤ longestName) ⌝ }
@@ -112,51 +52,9 @@ fn settle(book: &[u8], n: usize, p: panel::Panel) -> panel::Panel
     panel::Panel {
         text: text,
         len: len,
-        highlight: lower(p.highlight, rows),
+        highlight: panel_typing::lower(p.highlight, rows),
         rows: rows,
     }
-}
-
-// Appends a byte to the text.
-fn append(p: panel::Panel, key: u8) -> panel::Panel
-    requires { ⌜ p .len < longestName ⌝ }
-    ensures { λ r. ⌜ Typed (appended key (typingIn p)) r ⌝ }
-{
-    let len = p.len;
-    let mut q = p;
-    q.text[len] = key;
-    q.len = len + 1;
-    q.highlight = 0;
-    q
-}
-
-// Erases the last byte of the text, if there is one.
-fn erase(p: panel::Panel) -> panel::Panel
-    requires { ⌜ p .len ≤ longestName ⌝ }
-    ensures { λ r. ⌜ Typed (erased (typingIn p)) r ⌝ }
-{
-    let len = p.len;
-    if len == 0 {
-        return p;
-    }
-    let mut q = p;
-    q.len = len - 1;
-    q.highlight = 0;
-    q
-}
-
-// Moves the highlight up, stopping at the first row.
-fn up(p: panel::Panel) -> panel::Panel
-    requires { ⌜ p .len ≤ longestName ⌝ }
-    ensures { λ r. ⌜ Typed (raised (typingIn p)) r ⌝ }
-{
-    let row = p.highlight;
-    if row == 0 {
-        return p;
-    }
-    let mut q = p;
-    q.highlight = row - 1;
-    q
 }
 
 // Moves the highlight down, stopping at the last row.
@@ -201,14 +99,14 @@ fn act(book: &[u8], n: usize, p: panel::Panel, key: u8) -> panel::Panel
     requires { ⌜ Held (now book) n × Counted (inBook (now book)) p × (appends key ≡ true → p .len < longestName) ⌝ }
     ensures { λ r. ⌜ Typed (acts (inBook (now (book .entry))) key (typingIn p)) r ⌝ }
 {
-    if appends(key) {
-        return append(p, key);
+    if panel_typing::appends(key) {
+        return panel_typing::append(p, key);
     }
     if key == 0x08 {
-        return erase(p);
+        return panel_typing::erase(p);
     }
     if key == 0x01 {
-        return up(p);
+        return panel_typing::up(p);
     }
     if key == 0x02 {
         return down(book, p);
@@ -236,14 +134,14 @@ pub fn step_in(book: &[u8], p: panel::Panel, key: u8) -> Done
     let book_check::Checked::Book(n) = book_check::check(book) else {
         return refuse(p, 1);
     };
-    if !is_typed(p) {
+    if !panel_typing::is_typed(p) {
         return refuse(p, 2);
     }
-    if !is_listed(key) {
+    if !panel_typing::is_listed(key) {
         return refuse(p, 8);
     }
     let before = settle(book, n, p);
-    if is_full(p, key) {
+    if panel_typing::is_full(p, key) {
         return refuse(p, 9);
     }
     let after = settle(book, n, act(book, n, before, key));

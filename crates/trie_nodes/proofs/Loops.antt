@@ -11,12 +11,14 @@ use borrow.Author.Tests.{eqb-false, eqb-true, ltb-false, ltb-true}
 use Rattle.octets.proofs.Stores.{sets-append}
 use Rattle.octets.proofs.Tests.{by-test}
 use Rattle.trie.specs.Trie.{longestLabel}
-use Rattle.trie_nodes.specs.Nodes.{AllFit, Finished, Finishing, OneFits, Sized, Sound, Writable, after, firstOf, nodeLength, nodesBytes, nodesLength, oneNode, ownBytes, plain, putAt}
-use Rattle.trie_nodes.specs.Runs.{Each, Kept, endsHere, firstHigh, held, noRun, runsIn}
-use Rattle.trie_nodes.proofs.Fields.{after-size, length-oneNode, ownSize-le}
-use Rattle.trie_nodes.proofs.Runs.{each-drop, each-map, falls-drop, held-end, held-length, held-next}
-use Rattle.trie_nodes.specs.declared.Next.{Next}
-use Rattle.trie_nodes.specs.declared.Run.{Run}
+use Rattle.trie_runs.specs.declared.Next.{Next}
+use Rattle.trie_runs.specs.declared.Run.{Run}
+use Rattle.trie_runs.specs.Runs.{Each, Kept, endsHere, firstHigh, held, noRun, runsIn}
+use Rattle.trie_runs.specs.Fields.{after, firstOf, nodeLength, plain}
+use Rattle.trie_runs.proofs.Fields.{after-size, ownSize-le}
+use Rattle.trie_runs.proofs.Runs.{each-drop, each-map, falls-drop, held-end, held-length, held-next}
+use Rattle.trie_nodes.specs.Nodes.{AllFit, Finished, Finishing, OneFits, Sized, Sound, Writable, nodesBytes, nodesLength, oneNode, ownBytes, putAt}
+use Rattle.trie_nodes.proofs.Bytes.{length-oneNode}
 
 -- measured so far, with the nodes left measured now, is the whole
 pub record Sizing (ws : List ℕ) (n : ℕ) (first f : Next) (sum i : ℕ) : Type 0 where

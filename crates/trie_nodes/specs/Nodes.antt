@@ -3,36 +3,18 @@ use Prim.Native.Nat.{_*_, _+_, _-_, _<_, _≤_, ℕ}
 use mathlib.Core.Path.{_≡_}
 use mathlib.Core.Bool.{Bool, true}
 use mathlib.Core.List.{List, [], _++_, _∷_}
-use lib.Dec.{eqb}
 use lib.ListN.{drop, length, take}
 use lib.Seq.{sets}
 use Rattle.octets.specs.Lists.{if_then_else_}
 use Rattle.octets.specs.Octets.{be}
 use Rattle.entries.specs.Names.{longestName}
-use Rattle.trie.specs.Trie.{headerByte, longestLabel, ownSize, sizeOf}
-use Rattle.trie_nodes.specs.Runs.{Each, Falls, endsHere, firstHigh}
-use Rattle.trie_nodes.specs.declared.Next.{Next}
-use Rattle.trie_nodes.specs.declared.Run.{Run}
+use Rattle.trie.specs.Trie.{headerByte, longestLabel, sizeOf}
+use Rattle.trie_runs.specs.declared.Next.{Next}
+use Rattle.trie_runs.specs.declared.Run.{Run}
+use Rattle.trie_runs.specs.Runs.{Each, Falls, endsHere, firstHigh}
+use Rattle.trie_runs.specs.Fields.{after, childSize, childValue, firstOf, nodeLength, plain}
 
--- the child field of a node whose fields are f: none and 0 for a leaf
-abbrev pub childSize : Run → Next → ℕ
-childSize r f = if eqb (r .under) 0 then 0 else f .size
-
-abbrev pub childValue : Run → Next → ℕ
-childValue r f = if eqb (r .under) 0 then 0 else f .child
-
--- the fields of the sibling after r, whose score is given
-unfoldable pub after : Run → Next → ℕ → Next
-after r f score =
-    record {
-      score = r .high - score;
-      child = if eqb (r .under) 0 then f .child else r .under;
-      size = if eqb (r .under) 0 then f .size else sizeOf (r .under);
-    }
-
-unfoldable pub nodeLength : Run → Next → ℕ
-nodeLength r f = 1 + sizeOf (f .score) + childSize r f + r .len
-
+-- the length of nodes, of which the first has the fields f
 abbrev pub nodesLength : Next → List Run → ℕ
 nodesLength f [] = 0
 nodesLength f (r ∷ rs) = nodeLength r f + nodesLength (after r f (firstHigh rs)) rs
@@ -50,13 +32,6 @@ oneNode names d r f last =
 abbrev pub nodesBytes : List ℕ → ℕ → Next → List Run → List ℕ
 nodesBytes names d f [] = []
 nodesBytes names d f (r ∷ rs) = oneNode names d r f (endsHere rs) ++ nodesBytes names d (after r f (firstHigh rs)) rs
-
--- the fields of a group's first sibling: without a child field, and with `other` bytes besides the child field that counts its own
-abbrev pub plain : ℕ → Next
-plain s = record { score = s; child = 0; size = 0 }
-
-abbrev pub firstOf : ℕ → ℕ → Next
-firstOf s other = record { score = s; child = other + ownSize other; size = ownSize other }
 
 -- the group's own bytes
 unfoldable pub ownBytes : List ℕ → ℕ → ℕ → List Run → List ℕ

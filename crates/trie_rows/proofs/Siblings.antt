@@ -19,7 +19,7 @@ use Rattle.entries.proofs.Valid.{rising-tail}
 use Rattle.trie.specs.Trie.{byFirst, commonPrefix, highest, labelOf, sameFirst}
 use Rattle.trie.proofs.Keys.{Ordered, first-head, join-apart, join-same, key, label-key, setKey}
 use Rattle.trie.proofs.Sets.{OneFirst}
-use Rattle.trie_nodes.specs.Runs.{mostRuns}
+use Rattle.trie_runs.specs.Runs.{mostRuns}
 use Rattle.trie_rows.specs.Rows.{Chain, higher}
 
 -- a chain of suffixes in front of others that begin otherwise is a set of its own

@@ -12,8 +12,8 @@ use Rattle.entries.specs.Entries.{Entry, at}
 use Rattle.entries.specs.Names.{allowedBytes}
 use Rattle.trie.specs.Trie.{byFirst, highest, labelOf, remains, sameFirst}
 use Rattle.trie_table.specs.Table.{Table, entries}
-use Rattle.trie_nodes.specs.Runs.{Each, Falls}
-use Rattle.trie_nodes.specs.declared.Run.{Run}
+use Rattle.trie_runs.specs.Runs.{Each, Falls}
+use Rattle.trie_runs.specs.declared.Run.{Run}
 
 -- what is left of the names of rows lo to hi behind their first d bytes
 abbrev pub setAt : List Entry → ℕ → ℕ → ℕ → List Entry

@@ -16,7 +16,7 @@ use Rattle.trie_rows.specs.Rows.{Split, restAt, setAt}
 use Rattle.trie_rows.proofs.Laws.{set-cons, set-empty, used-one}
 use Rattle.trie_writer.specs.Writing.{Groupable, Grouped}
 use Rattle.trie_writer.proofs.Going.{Going, child-ready, filled-low, finish-ready, going-start, going-turn, group-none, grouped}
-use Rattle.trie_nodes.specs.declared.Run.{Run}
+use Rattle.trie_runs.specs.declared.Run.{Run}
 
 module _ {u m sc : List ℕ} {row d s size total back : ℕ} {put : Bool} (ready : Groupable u m sc row (row + 1) d s size total back put) where
   abbrev es : List Entry

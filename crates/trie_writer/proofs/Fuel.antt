@@ -18,7 +18,7 @@ use Rattle.entries.specs.Entries.{Entry}
 use Rattle.trie.specs.Trie.{Node, byFirst, firstScore, groupBytes, groupOf, highest, isLast, isLeaf, joinFirst, labelOf, nodeBytes, nodeOf, otherBytes, ownSize, remains, sameFirst, siblings, sizeOf, standsBefore, usedUp}
 use Rattle.trie.proofs.Sets.{byFirst-flat, byFirst-run, different-remains, flat, label-progress, label-short, label-split, length-remains, stripped}
 use Rattle.trie.proofs.Trie.{node-inner, node-label, node-leaf, run-some, set-different, set-in}
-use Rattle.trie_nodes.proofs.Fields.{ownSize-le, sizeOf-le}
+use Rattle.trie_runs.proofs.Fields.{ownSize-le, sizeOf-le}
 
 -- what a set must have so that d levels are enough
 pub record Enough (d : ℕ) (es : List Entry) : Type 0 where

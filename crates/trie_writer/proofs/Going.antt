@@ -16,11 +16,11 @@ use Rattle.trie.specs.Trie.{byFirst, usedUp}
 use Rattle.trie_table.specs.Table.{Table, entries}
 use Rattle.trie_table.proofs.Rows.{entries-length}
 use Rattle.trie_nodes.specs.Nodes.{Finished, Finishing, ownBytes, putAt}
-use Rattle.trie_nodes.specs.Runs.{Each, noRun}
+use Rattle.trie_runs.specs.Runs.{Each, noRun}
 use Rattle.trie_rows.specs.Rows.{Good, Shared, Split, setAt, setOf}
 use Rattle.trie_writer.specs.Writing.{Groupable, Grouped, underAt}
 use Rattle.trie_writer.proofs.Shown.{fill, filled-falls, filled-sound, group-runs, in-group, run-deep, run-falls, run-shared, underRun}
-use Rattle.trie_nodes.specs.declared.Run.{Run}
+use Rattle.trie_runs.specs.declared.Run.{Run}
 
 -- stores behind and before
 set-sets : (l : List ℕ) (i j x : ℕ) (b : List ℕ) → i < j → set (sets l j b) i x ≡ sets (set l i x) j b

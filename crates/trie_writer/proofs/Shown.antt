@@ -21,8 +21,9 @@ use Rattle.trie.proofs.Sets.{byFirst-run, label-progress, label-short, label-sp
 use Rattle.trie.proofs.Trie.{node-inner, node-label, node-leaf, node-score, set-different}
 use Rattle.trie_table.specs.Table.{Table, entries, rowAt}
 use Rattle.trie_table.proofs.Rows.{entries-length, row-length}
-use Rattle.trie_nodes.specs.Nodes.{Sound, after, firstOf, labelIn, nodesBytes, nodesLength, oneNode, ownBytes, plain}
-use Rattle.trie_nodes.specs.Runs.{Each, Falls, endsHere, firstHigh}
+use Rattle.trie_runs.specs.Fields.{after, firstOf, plain}
+use Rattle.trie_nodes.specs.Nodes.{Sound, labelIn, nodesBytes, nodesLength, oneNode, ownBytes}
+use Rattle.trie_runs.specs.Runs.{Each, Falls, endsHere, firstHigh}
 use Rattle.trie_nodes.proofs.Loops.{length-nodesBytes}
 use Rattle.trie_rows.specs.Rows.{Good, Shared, Split, higher, restAt, setAt, setOf}
 use Rattle.trie_rows.proofs.Laws.{rest-part, row-facts, set-cons, shared-rising}
@@ -31,8 +32,8 @@ use Rattle.trie_rows.proofs.Siblings.{sort-higher}
 use Rattle.trie_rows.proofs.Splitting.{set-member}
 use Rattle.trie_writer.specs.Writing.{underAt}
 use Rattle.trie_writer.proofs.Fuel.{Enough, enough-more, group-fuel, remains-some, set-enough}
-use Rattle.trie_nodes.specs.declared.Next.{Next}
-use Rattle.trie_nodes.specs.declared.Run.{Run}
+use Rattle.trie_runs.specs.declared.Next.{Next}
+use Rattle.trie_runs.specs.declared.Run.{Run}
 
 -- a node and the run that shows it
 pub record Shows (names : List ℕ) (d : ℕ) (x : Node) (r : Run) : Type 0 where

@@ -11,13 +11,13 @@ use Rattle.entries.specs.Names.{longestName}
 use Rattle.trie.specs.Trie.{usedUp}
 use Rattle.trie_table.specs.Table.{entries}
 use Rattle.trie_nodes.specs.Nodes.{Finished, Finishing}
-use Rattle.trie_nodes.specs.Runs.{Kept, Within, held, noRun, runsIn, wordsOf}
-use Rattle.trie_nodes.proofs.Runs.{held-length, run-put, within}
+use Rattle.trie_runs.specs.Runs.{Kept, Within, held, noRun, runsIn, wordsOf}
+use Rattle.trie_runs.proofs.Runs.{held-length, run-put, within}
 use Rattle.trie_rows.specs.Rows.{Split, setAt}
 use Rattle.trie_rows.proofs.Laws.{used-not}
 use Rattle.trie_writer.specs.Writing.{Groupable, Grouped}
 use Rattle.trie_writer.proofs.Going.{Going, child-falls, child-ready, deep-low, filled-low, finish-ready, going-start, going-turn, grouped}
-use Rattle.trie_nodes.specs.declared.Run.{Run}
+use Rattle.trie_runs.specs.declared.Run.{Run}
 
 -- one row, or not
 module _ {u m sc : List ℕ} {lo hi d s size total back : ℕ} {put : Bool} (ready : Groupable u m sc lo hi d s size total back put) where

@@ -1,5 +1,5 @@
 // The trie of a book that was checked: its names unpacked into rows, the groups measured, then written from the last to the first.
-use trie_nodes::Run;
+use trie_runs::Run;
 ghost use mathlib.Core.Path.{_≡_};
 ghost use mathlib.Core.Bool.{true};
 ghost use Prim.Native.Nat.{_+_, min};
@@ -95,7 +95,7 @@ fn group(
     let mut i = count;
     while 0 < i {
         i -= 1;
-        let r = trie_nodes::run_at(&runs, i);
+        let r = trie_runs::run_at(&runs, i);
         let n = group(
             names,
             lens,
@@ -110,7 +110,7 @@ fn group(
             put,
         );
         let filled = with_under(r, (n - b) as u32);
-        trie_nodes::put_run(&mut runs, i, filled);
+        trie_runs::put_run(&mut runs, i, filled);
         b = n;
     }
     trie_nodes::finish(names, d, &runs, count, s, dst, total, b, put)

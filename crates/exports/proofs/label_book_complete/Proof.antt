@@ -49,12 +49,12 @@ use Rattle.lent_queue.proofs.complete as complete
 use Rattle.lent_queue.proofs.complete.Symbol as complete-def
 use Rattle.lent_queue.proofs.complete.Symbol.{name as #lent-queue·complete}
 use Rattle.lent_queue.proofs.complete.Met as complete-thm
-use Rattle.exports.specs.Told.{OfferedTold}
+use Rattle.out_values.specs.Told.{OfferedTold}
 use Rattle.exports.proofs.Told.{offered-over}
-use Rattle.exports.proofs.tell_offered as tell
-use Rattle.exports.proofs.tell_offered.Symbol as tell-def
-use Rattle.exports.proofs.tell_offered.Symbol.{name as #exports·tell-offered}
-use Rattle.exports.proofs.tell_offered.Met as tell-thm
+use Rattle.out_values.proofs.tell_offered as tell
+use Rattle.out_values.proofs.tell_offered.Symbol as tell-def
+use Rattle.out_values.proofs.tell_offered.Symbol.{name as #out-values·tell-offered}
+use Rattle.out_values.proofs.tell_offered.Met as tell-thm
 use Rattle.exports.proofs.label_book_complete.Key.{name as #exports·label-book-complete}
 use Rattle.exports.proofs.label_book_complete as self
 use Rattle.exports.proofs.label_book_complete.Statement as stated
@@ -180,7 +180,7 @@ module _ {M : Type 1} (𝓤 : URA M) (H : Heap 𝓤) (A : Atoms 𝓤) (W : Given
       move ! (6 ∷ 0 ∷ []) $ fjoin ! $ move ! (5 ∷ 0 ∷ []) $ fjoin ! $ move ! (4 ∷ 0 ∷ []) $ fjoin ! $ move ! (3 ∷ 0 ∷ []) $ fjoin ! $ move ! (2 ∷ 0 ∷ []) $ fjoin ! $
       owned ! usize (Is usize) (uint-makes 𝓤 H A W w64) k _ (refl, k-fits) $ fjoin ! $ move ! (2 ∷ 0 ∷ []) $ fjoin ! $ move ! (2 ∷ 0 ∷ []) $ fjoin ! $ done !
 
-  module _ (C : Calls 𝓤 H) (Λ : Loops 𝓤 H) (fm : FmC 𝓤 H (W .laws) C) (known : Triple 𝓤 (C #lent-queue·complete) (Whole 𝓤 H A mem run)) (known-tell : Triple 𝓤 (C #exports·tell-offered) (Tell 𝓤 H A mem run)) where
+  module _ (C : Calls 𝓤 H) (Λ : Loops 𝓤 H) (fm : FmC 𝓤 H (W .laws) C) (known : Triple 𝓤 (C #lent-queue·complete) (Whole 𝓤 H A mem run)) (known-tell : Triple 𝓤 (C #out-values·tell-offered) (Tell 𝓤 H A mem run)) where
     walk : Is (ShrSlice (named 0) κ₀ u8) bk (sb bk ∷ []) → Is (ShrSlice (named 1) κ₁ u8) px (sb px ∷ [])
         → ent 𝓤 (onEntry 𝓤 H A self.signature (κ₀, (κ₁, (κ₂, (κ₃, (κ₄, (κ₅, (κ₆, tt))))))) (q₀, (q₁, (q₂, (q₃, (q₄, (q₅, (q₆, tt))))))) a vals) (WpFn 𝓤 H C Λ code.function (sb bk ∷ sb px ∷ vint w64 k ∷ sb ds ∷ sr ∷ vp fo ∷ vp fb ∷ vp fl ∷ []) Post)
     walk isb isp =
@@ -231,7 +231,7 @@ module _ {M : Type 1} (𝓤 : URA M) (H : Heap 𝓤) (A : Atoms 𝓤) (W : Given
         keep ! (0 ∷ 7 ∷ 1 ∷ 10 ∷ 8 ∷ 5 ∷ 4 ∷ 2 ∷ 14 ∷ 15 ∷ []) $ by ! (exits r (ws .1 .1 .1 .0) (ws .1 .1 .1 .1 .0) y (zs .1 .0) (zs .1 .1 .0) (zs .1 .1 .1 .0) u e lenD lenR e′))))))))))))))))))))))))))))))
 
 module _ {M : Type 1} (𝓤 : URA M) (H : Heap 𝓤) (A : Atoms 𝓤) (W : Given 𝓤 H A) (mem : Memory → SProp 𝓤) (run : Routine → Fun 𝓤) where
-  walks : (C : Calls 𝓤 H) (Λ : Loops 𝓤 H) → FmC 𝓤 H (W .laws) C → Triple 𝓤 (C #lent-queue·complete) (Whole 𝓤 H A mem run) → Triple 𝓤 (C #exports·tell-offered) (Tell 𝓤 H A mem run)
+  walks : (C : Calls 𝓤 H) (Λ : Loops 𝓤 H) → FmC 𝓤 H (W .laws) C → Triple 𝓤 (C #lent-queue·complete) (Whole 𝓤 H A mem run) → Triple 𝓤 (C #out-values·tell-offered) (Tell 𝓤 H A mem run)
       → Walks 𝓤 H A self.ended stayed (WpFn 𝓤 H C Λ code.function) (self.clauses 𝓤 H A mem run)
   walks C Λ fm known known-tell = walked 𝓤 H A self.ended stayed (self.clauses 𝓤 H A mem run) (WpFn 𝓤 H C Λ code.function)
       (λ κs. (slice-vals, (slice-vals, (uint-vals w64, (slice-vals, (slice-vals, (ptr-vals, (ptr-vals, (ptr-vals, tt)))))))))
@@ -274,7 +274,7 @@ module _ {M : Type 1} (𝓤 : URA M) (H : Heap 𝓤) (A : Atoms 𝓤) (W : Given
     ),
   )
 
-meets : {M : Type 1} (𝓤 : URA M) (H : Heap 𝓤) (A : Atoms 𝓤) (W : Given 𝓤 H A) (mem : Memory → SProp 𝓤) (run : Routine → Fun 𝓤) (𝓣 : Tables 𝓤 H) → Triple 𝓤 (𝓣 .C #lent-queue·complete) (Whole 𝓤 H A mem run) → Triple 𝓤 (𝓣 .C #exports·tell-offered) (Tell 𝓤 H A mem run)
+meets : {M : Type 1} (𝓤 : URA M) (H : Heap 𝓤) (A : Atoms 𝓤) (W : Given 𝓤 H A) (mem : Memory → SProp 𝓤) (run : Routine → Fun 𝓤) (𝓣 : Tables 𝓤 H) → Triple 𝓤 (𝓣 .C #lent-queue·complete) (Whole 𝓤 H A mem run) → Triple 𝓤 (𝓣 .C #out-values·tell-offered) (Tell 𝓤 H A mem run)
     → Meets 𝓤 H A self.signature (WpFn 𝓤 H (𝓣 .C) (𝓣 .Λ) code.function) (self.spec 𝓤 H A mem run)
 meets 𝓤 H A W mem run 𝓣 known known-tell =
     walk-meets 𝓤 H A self.ended stayed W (goes 𝓤 H A W mem run) (self.clauses 𝓤 H A mem run) (WpFn 𝓤 H (𝓣 .C) (𝓣 .Λ) code.function) (WpFn-mono 𝓤 H (W .laws) 𝓣 code.function)
@@ -287,4 +287,4 @@ label-book-complete-spec 𝓤 H 𝓜 𝓖 𝓡 =
     (tables 𝓤 H 𝓜 𝓡 code.env .C) (tables 𝓤 H 𝓜 𝓡 code.env .Λ) #exports·label-book-complete code.function (code.unfolded 𝓤 H 𝓜 𝓡)
     (meets 𝓤 H (𝓖 .A) (givenOf 𝓤 H 𝓜 𝓖) (𝓜 .mem) (𝓡 .run) (tablesOf 𝓤 H 𝓜 (tables 𝓤 H 𝓜 𝓡 code.env))
     (cited 𝓤 H (Whole 𝓤 H (𝓖 .A) (𝓜 .mem) (𝓡 .run)) 𝓜 𝓡 code.env #lent-queue·complete complete-def.routine code.calls-lent-queue·complete (complete-thm.met 𝓤 H 𝓜 𝓖 𝓡))
-    (cited 𝓤 H (Tell 𝓤 H (𝓖 .A) (𝓜 .mem) (𝓡 .run)) 𝓜 𝓡 code.env #exports·tell-offered tell-def.routine code.calls-exports·tell-offered (tell-thm.met 𝓤 H 𝓜 𝓖 𝓡)))
+    (cited 𝓤 H (Tell 𝓤 H (𝓖 .A) (𝓜 .mem) (𝓡 .run)) 𝓜 𝓡 code.env #out-values·tell-offered tell-def.routine code.calls-out-values·tell-offered (tell-thm.met 𝓤 H 𝓜 𝓖 𝓡)))

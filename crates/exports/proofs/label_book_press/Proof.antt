@@ -47,12 +47,12 @@ use Rattle.lent_panel.proofs.press as call
 use Rattle.lent_panel.proofs.press.Symbol as press-def
 use Rattle.lent_panel.proofs.press.Symbol.{name as #lent-panel·press}
 use Rattle.lent_panel.proofs.press.Met as press-thm
-use Rattle.exports.specs.Told.{RowsTold}
+use Rattle.out_values.specs.Told.{RowsTold}
 use Rattle.exports.proofs.Told.{rows-left}
-use Rattle.exports.proofs.tell_rows as tell
-use Rattle.exports.proofs.tell_rows.Symbol as tell-def
-use Rattle.exports.proofs.tell_rows.Symbol.{name as #exports·tell-rows}
-use Rattle.exports.proofs.tell_rows.Met as tell-thm
+use Rattle.out_values.proofs.tell_rows as tell
+use Rattle.out_values.proofs.tell_rows.Symbol as tell-def
+use Rattle.out_values.proofs.tell_rows.Symbol.{name as #out-values·tell-rows}
+use Rattle.out_values.proofs.tell_rows.Met as tell-thm
 use Rattle.exports.proofs.label_book_press.Key.{name as #exports·label-book-press}
 use Rattle.exports.proofs.label_book_press as self
 use Rattle.exports.proofs.label_book_press.Statement as stated
@@ -135,7 +135,7 @@ module _ {M : Type 1} (𝓤 : URA M) (H : Heap 𝓤) (A : Atoms 𝓤) (W : Given
       -- [the result; the last panel; the last rows; book]
       nothing ! $ move ! (3 ∷ 0 ∷ []) $ fjoin ! $ owned ! u8 (Is u8) (uint-makes 𝓤 H A W w8) n _ (refl, fits) $ fjoin ! $ move ! (2 ∷ 0 ∷ []) $ fjoin ! $ move ! (2 ∷ 0 ∷ []) $ fjoin ! $ done !
 
-  module _ (C : Calls 𝓤 H) (Λ : Loops 𝓤 H) (fm : FmC 𝓤 H (W .laws) C) (known-press : Triple 𝓤 (C #lent-panel·press) (Press 𝓤 H A mem run)) (known-tell : Triple 𝓤 (C #exports·tell-rows) (Tell 𝓤 H A mem run)) where
+  module _ (C : Calls 𝓤 H) (Λ : Loops 𝓤 H) (fm : FmC 𝓤 H (W .laws) C) (known-press : Triple 𝓤 (C #lent-panel·press) (Press 𝓤 H A mem run)) (known-tell : Triple 𝓤 (C #out-values·tell-rows) (Tell 𝓤 H A mem run)) where
     walk : Is (ShrSlice (named 0) κ₀ u8) bk (bv ∷ [])
         → ent 𝓤 (onEntry 𝓤 H A self.signature (κ₀, (κ₁, (κ₂, tt))) (q₀, (q₁, (q₂, tt))) a vals) (WpFn 𝓤 H C Λ code.function (bv ∷ pv ∷ vint w8 n ∷ wv ∷ []) Post)
     walk isb =
@@ -169,7 +169,7 @@ module _ {M : Type 1} (𝓤 : URA M) (H : Heap 𝓤) (A : Atoms 𝓤) (W : Given
         keep ! (0 ∷ 5 ∷ 7 ∷ 1 ∷ 8 ∷ 2 ∷ 10 ∷ []) $ by ! (exits r (ws .1 .0) y (zs .1 .0) u e e′)))))))))))))))))))
 
 module _ {M : Type 1} (𝓤 : URA M) (H : Heap 𝓤) (A : Atoms 𝓤) (W : Given 𝓤 H A) (mem : Memory → SProp 𝓤) (run : Routine → Fun 𝓤) where
-  walks : (C : Calls 𝓤 H) (Λ : Loops 𝓤 H) → FmC 𝓤 H (W .laws) C → Triple 𝓤 (C #lent-panel·press) (Press 𝓤 H A mem run) → Triple 𝓤 (C #exports·tell-rows) (Tell 𝓤 H A mem run)
+  walks : (C : Calls 𝓤 H) (Λ : Loops 𝓤 H) → FmC 𝓤 H (W .laws) C → Triple 𝓤 (C #lent-panel·press) (Press 𝓤 H A mem run) → Triple 𝓤 (C #out-values·tell-rows) (Tell 𝓤 H A mem run)
       → Walks 𝓤 H A self.ended stayed (WpFn 𝓤 H C Λ code.function) (self.clauses 𝓤 H A mem run)
   walks C Λ fm known-press known-tell = walked 𝓤 H A self.ended stayed (self.clauses 𝓤 H A mem run) (WpFn 𝓤 H C Λ code.function)
       (λ κs. (slice-vals, (ptr-vals, (uint-vals w8, (ptr-vals, tt)))))
@@ -180,7 +180,7 @@ module _ {M : Type 1} (𝓤 : URA M) (H : Heap 𝓤) (A : Atoms 𝓤) (W : Given
   goes : AllGo 𝓤 H A W 3 (self.signature .params) (self.ended .kept) stayed
   goes = (goes-none-slice 𝓤 H A W 3 (0 ∷ []) tt (plain (λ _. u8)) yes, (goes-gave-ref 𝓤 H A W 3 1 tt (plain (λ _. P.the-row)), (goes-none 𝓤 H A W 3 (λ _. u8) yes (λ κs x f. refl), (goes-gave-ref 𝓤 H A W 3 2 tt (plain (λ _. usize)), tt))))
 
-meets : {M : Type 1} (𝓤 : URA M) (H : Heap 𝓤) (A : Atoms 𝓤) (W : Given 𝓤 H A) (mem : Memory → SProp 𝓤) (run : Routine → Fun 𝓤) (𝓣 : Tables 𝓤 H) → Triple 𝓤 (𝓣 .C #lent-panel·press) (Press 𝓤 H A mem run) → Triple 𝓤 (𝓣 .C #exports·tell-rows) (Tell 𝓤 H A mem run)
+meets : {M : Type 1} (𝓤 : URA M) (H : Heap 𝓤) (A : Atoms 𝓤) (W : Given 𝓤 H A) (mem : Memory → SProp 𝓤) (run : Routine → Fun 𝓤) (𝓣 : Tables 𝓤 H) → Triple 𝓤 (𝓣 .C #lent-panel·press) (Press 𝓤 H A mem run) → Triple 𝓤 (𝓣 .C #out-values·tell-rows) (Tell 𝓤 H A mem run)
     → Meets 𝓤 H A self.signature (WpFn 𝓤 H (𝓣 .C) (𝓣 .Λ) code.function) (self.spec 𝓤 H A mem run)
 meets 𝓤 H A W mem run 𝓣 known-press known-tell =
     walk-meets 𝓤 H A self.ended stayed W (goes 𝓤 H A W mem run) (self.clauses 𝓤 H A mem run) (WpFn 𝓤 H (𝓣 .C) (𝓣 .Λ) code.function) (WpFn-mono 𝓤 H (W .laws) 𝓣 code.function)
@@ -193,4 +193,4 @@ label-book-press-spec 𝓤 H 𝓜 𝓖 𝓡 =
     (tables 𝓤 H 𝓜 𝓡 code.env .C) (tables 𝓤 H 𝓜 𝓡 code.env .Λ) #exports·label-book-press code.function (code.unfolded 𝓤 H 𝓜 𝓡)
     (meets 𝓤 H (𝓖 .A) (givenOf 𝓤 H 𝓜 𝓖) (𝓜 .mem) (𝓡 .run) (tablesOf 𝓤 H 𝓜 (tables 𝓤 H 𝓜 𝓡 code.env))
     (cited 𝓤 H (Press 𝓤 H (𝓖 .A) (𝓜 .mem) (𝓡 .run)) 𝓜 𝓡 code.env #lent-panel·press press-def.routine code.calls-lent-panel·press (press-thm.met 𝓤 H 𝓜 𝓖 𝓡))
-    (cited 𝓤 H (Tell 𝓤 H (𝓖 .A) (𝓜 .mem) (𝓡 .run)) 𝓜 𝓡 code.env #exports·tell-rows tell-def.routine code.calls-exports·tell-rows (tell-thm.met 𝓤 H 𝓜 𝓖 𝓡)))
+    (cited 𝓤 H (Tell 𝓤 H (𝓖 .A) (𝓜 .mem) (𝓡 .run)) 𝓜 𝓡 code.env #out-values·tell-rows tell-def.routine code.calls-out-values·tell-rows (tell-thm.met 𝓤 H 𝓜 𝓖 𝓡)))

@@ -6,7 +6,8 @@ use native.Mathlib.Omega.{arith}
 use borrow.Author.Needs.{needs}
 use Rattle.entries.specs.Names.{longestName}
 use Rattle.book.specs.Book.{inBook}
-use Rattle.panel_keys.proofs.Typing.{settled, typed-length}
+use Rattle.panel_typing.proofs.Acts.{typed-length}
+use Rattle.panel_keys.proofs.Typing.{settled}
 use Rattle.panel_keys.proofs.settle.Statement.{statement}
 use Rattle.panel_keys.proofs.settle.Tie as tie
 

@@ -8,7 +8,7 @@ use Rattle.book.specs.Book.{inBook}
 use Rattle.book.specs.Held.{Held}
 use Rattle.book_check.proofs.Held.{checked-damaged, checked-held}
 use Rattle.panel.specs.Panel.{isListed, isTyped, press}
-use Rattle.panel_keys.specs.Keys.{isFull}
+use Rattle.panel_typing.specs.Typing.{isFull}
 use Rattle.panel_keys.proofs.Pressing.{accepted, act-ready, refused-as, typed-short}
 use Rattle.panel_keys.proofs.step_in.Statement.{statement}
 use Rattle.panel_keys.proofs.step_in.Tie as tie

@@ -11,7 +11,7 @@ use Rattle.entries.specs.Names.{longestName}
 use Rattle.book.specs.Book.{inBook}
 use Rattle.book.proofs.Lookups.{held-valid}
 use Rattle.panel_keys.proofs.Rows.{row-inside, row-offered, takes-name, takes-none}
-use Rattle.panel_keys.proofs.Typing.{typed-length}
+use Rattle.panel_typing.proofs.Acts.{typed-length}
 use Rattle.panel_keys.proofs.take_name.Statement.{statement}
 use Rattle.panel_keys.proofs.take_name.Tie as tie
 

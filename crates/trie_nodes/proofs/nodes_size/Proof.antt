@@ -4,7 +4,7 @@ use Prim.Native.Nat.{_-_}
 use native.Mathlib.Omega.{arith}
 use borrow.Author.Needs.{needs}
 use Rattle.trie_nodes.proofs.Loops.{Sizing, here-falls, here-short, sizing-end, sizing-start, sizing-turn}
-use Rattle.trie_nodes.proofs.Runs.{within}
+use Rattle.trie_runs.proofs.Runs.{within}
 use Rattle.trie_nodes.proofs.nodes_size.Statement.{statement}
 use Rattle.trie_nodes.proofs.nodes_size.Tie as tie
 

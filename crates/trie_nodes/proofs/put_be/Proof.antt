@@ -4,7 +4,7 @@ use mathlib.Core.Path.{_∙_, ap}
 use lib.Seq.{sets}
 use native.Mathlib.Omega.{arith}
 use borrow.Author.Needs.{needs}
-use Rattle.trie_nodes.proofs.Fields.{be-part}
+use Rattle.trie_nodes.proofs.Bytes.{be-part}
 use Rattle.trie_nodes.proofs.put_be.Statement.{statement}
 use Rattle.trie_nodes.proofs.put_be.Tie as tie
 

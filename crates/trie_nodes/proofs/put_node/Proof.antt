@@ -6,7 +6,8 @@ use lib.ListN.{length, length-set}
 use lib.Seq.{sets}
 use native.Mathlib.Omega.{arith}
 use borrow.Author.Needs.{needs}
-use Rattle.trie_nodes.proofs.Fields.{childSize-le, label-part, node-length, node-put, sizeOf-le}
+use Rattle.trie_runs.proofs.Fields.{childSize-le, node-length, sizeOf-le}
+use Rattle.trie_nodes.proofs.Bytes.{label-part, node-put}
 use Rattle.trie_nodes.proofs.put_node.Statement.{statement}
 use Rattle.trie_nodes.proofs.put_node.Tie as tie
 

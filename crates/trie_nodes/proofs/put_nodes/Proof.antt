@@ -5,7 +5,7 @@ use mathlib.Core.Path.{refl}
 use native.Mathlib.Omega.{arith}
 use borrow.Author.Needs.{needs}
 use Rattle.trie_nodes.proofs.Loops.{Putting, node-falls, node-fits, node-room, node-sound, putting-end, putting-start, putting-turn}
-use Rattle.trie_nodes.proofs.Runs.{within}
+use Rattle.trie_runs.proofs.Runs.{within}
 use Rattle.trie_nodes.proofs.put_nodes.Statement.{statement}
 use Rattle.trie_nodes.proofs.put_nodes.Tie as tie
 

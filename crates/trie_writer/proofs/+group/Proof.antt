@@ -12,8 +12,8 @@ use Rattle.trie_table.specs.Table.{entries}
 use Rattle.trie_writer.proofs.Going.{length-put}
 use Rattle.trie_writer.proofs.Turning.{Turning, deep, kept, not-one, one-grouped, one-ready, place, turn, turn-end, turn-ready, turn-start, under-falls, under-low, under-ready}
 use Rattle.trie_nodes.proofs.finish.Reads as finish-reads
-use Rattle.trie_nodes.proofs.put_run.Reads as put-run-reads
-use Rattle.trie_nodes.proofs.run_at.Reads as run-at-reads
+use Rattle.trie_runs.proofs.put_run.Reads as put-run-reads
+use Rattle.trie_runs.proofs.run_at.Reads as run-at-reads
 use Rattle.trie_rows.proofs.split.Reads as split-reads
 use Rattle.trie_writer.proofs.+group.{statement}
 use Rattle.trie_writer.proofs.+group.Lts-group as group-lts
