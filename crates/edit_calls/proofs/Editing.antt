@@ -14,7 +14,6 @@ use Rattle.book.specs.Book.{bookImage, inBook}
 use Rattle.book.specs.Held.{Held}
 use Rattle.book.specs.Lookups.{foundIn}
 use Rattle.book.proofs.Lookups.{held-valid}
-use Rattle.book_writer.proofs.Put.{room}
 use Rattle.edits.specs.Edits.{setEntry, withdraw}
 use Rattle.edits.specs.Splice.{Spliced, result}
 use Rattle.edits.proofs.Splice.{gone-result, gone-spliced, new-result, new-spliced}

@@ -16,7 +16,7 @@ use Rattle.entries.specs.Names.{isName, isScore}
 use Rattle.entries.specs.Place.{place}
 use Rattle.entries.proofs.Edits.{valid-with, valid-without}
 use Rattle.entries.proofs.Place.{place-most, position-at}
-use Rattle.entries.proofs.Splice.{with-absent, with-held, without-spliced}
+use Rattle.entries.proofs.Splice.{with-absent, without-spliced}
 use Rattle.book.specs.Book.{inBook}
 use Rattle.book.specs.Held.{Held}
 use Rattle.book.proofs.Lookups.{held-stored, held-valid}
@@ -57,21 +57,10 @@ module _ {book : List ℕ} {n : ℕ} (h : Held book n) (w : List ℕ) where
           ok = rw new-result (valid-with (entry w s) es (held-stored h .ok) allowed (score-fits s fits) (rw (absent, free)));
         }
 
-  -- a set and a withdraw of a name that is held
+  -- a withdraw of a name that is held
   module _ (present : holds w es ≡ true) where
     within : position w es + 1 ≤ n
     within = omega (arith, position-at w es present .0, h .count)
-
-    pub held-result : (s : ℕ) → result book (position w es) true true w s ≡ with (entry w s) es
-    held-result s = sym (with-held w s es order present)
-
-    pub held-spliced : (s : ℕ) → isName w ≡ true → s < 4294967296 → Spliced book n (position w es) true true w s
-    held-spliced s allowed fits =
-        record {
-          held = h;
-          inside = within;
-          ok = rw held-result (valid-with (entry w s) es (held-stored h .ok) allowed (score-fits s fits) (rw present));
-        }
 
     pub gone-result : (s : ℕ) → result book (position w es) true false w s ≡ without w es
     gone-result s = sym (without-spliced w es order present)

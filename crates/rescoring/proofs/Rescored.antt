@@ -2,7 +2,7 @@
 use Prim.Native.Nat.{_*_, _+_, _-_, _/_, _<_, _^_, _≤_, ℕ}
 use mathlib.Core.Path.{_∙_, _≡_, ap, refl, sym}
 use mathlib.Core.Logic.{_⊎_, _≢_, inl, inr}
-use mathlib.Core.Bool.{_&&_, true}
+use mathlib.Core.Bool.{true}
 use mathlib.Core.List.{List, [], _++_, _∷_}
 use lib.Dec.{eqb, ltb}
 use lib.ListN.{drop, length, length-set, take, set}
@@ -10,34 +10,19 @@ use lib.Seq.{drop-set-lt, drop-set-add, getD-set-other, getD-set-same, map-set-s
 use native.Mathlib.Numerals.{add-one}
 use native.Mathlib.Omega.{arith}
 use borrow.Author.Tests.{eqb-false, eqb-true, lt-ltb, ltb-false, ltb-true}
-use Rattle.octets.specs.Lists.{all, ceil, concatMap, countFrom}
-use Rattle.octets.specs.Octets.{be, below}
+use Rattle.octets.specs.Lists.{ceil, concatMap, countFrom}
+use Rattle.octets.specs.Octets.{be}
 use Rattle.octets.proofs.Lists.{all-at, at-all}
-use Rattle.octets.proofs.Tests.{and-intro, and-true, by-test}
-use Rattle.entries.specs.Entries.{Entry, at, best, entry, holds, isEntry, nameBelow, names, noEntry, position, rising, valid, with}
+use Rattle.octets.proofs.Tests.{and-intro, by-test}
+use Rattle.entries.specs.Entries.{Entry, at, best, entry, holds, isEntry, names, noEntry, position, rising, valid, with}
 use Rattle.entries.specs.Names.{isName, isScore}
 use Rattle.entries.proofs.Place.{position-at}
 use Rattle.entries.proofs.Splice.{with-held}
-use Rattle.entries.proofs.Valid.{Valid, valid-all, valid-intro, valid-of}
+use Rattle.entries.proofs.Valid.{rising-names, valid-all, valid-intro, valid-of}
 use Rattle.front_coding.specs.Records.{bucketHead, bucketSize, records}
-use Rattle.book.specs.Book.{blockSize, bookImage, imageIn, layout21, offset, offsets, peak, recordsAt}
+use Rattle.book.specs.Book.{blockSize, bookImage, layout21, offset, offsets, peak, recordsAt}
 use Rattle.book.proofs.Reading.{image-length}
 use Rattle.rescoring.specs.Rescored.{rescored}
-
--- the same names rise alike
-rising-names : (es fs : List Entry) → names es ≡ names fs → rising es ≡ rising fs
-rising-names [] [] e = refl
-rising-names [] (f ∷ fs) e = cc
-rising-names (e ∷ es) [] q = cc
-rising-names (e ∷ []) (f ∷ []) q = refl
-rising-names (e ∷ []) (f ∷ g ∷ fs) q = cc
-rising-names (e ∷ c ∷ es) (f ∷ []) q = cc
-rising-names (e ∷ c ∷ es) (f ∷ g ∷ fs) q =
-    let a : e .name ≡ f .name = cc in
-    let b : c .name ≡ g .name = cc in
-    let t : names (c ∷ es) ≡ names (g ∷ fs) = cc in
-    ap (λ r. nameBelow e c && r) (rising-names (c ∷ es) (g ∷ fs) t)
-    ∙ ap (λ r. r && rising (g ∷ fs)) (ap (λ w. below w (c .name)) a ∙ ap (below (f .name)) b)
 
 -- offsets, from the number of entries and their names
 abbrev offsetsBy : ℕ → List (List ℕ) → List ℕ

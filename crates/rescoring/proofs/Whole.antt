@@ -1,54 +1,35 @@
 -- The image of a book, a score stored in it and the peak of that score's block put again: the image of the entries with that score.
-use Prim.Native.Nat.{_*_, _+_, _/_, _<_, _≤_, min, suc, zero, ℕ}
-use mathlib.Core.Path.{_∙_, _≡_, ap, sym}
+use Prim.Native.Nat.{_*_, _+_, _/_, _<_, _≤_, min, ℕ}
+use mathlib.Core.Path.{_∙_, _≡_, ap}
 use mathlib.Core.Logic.{_⊎_, inl, inr}
 use mathlib.Core.Bool.{true}
 use mathlib.Core.List.{List, [], _++_, _∷_}
 use lib.Dec.{eqb, ltb}
-use lib.ListN.{drop, getD, length, take}
+use lib.ListN.{drop, length, take}
 use lib.Seq.{drop-append-seam, getD-set-other, length-sets, sets}
-use native.Mathlib.Nat.{add-zero, mul-suc, mul-zero}
 use native.Mathlib.Omega.{arith}
 use borrow.Author.Tests.{eqb-false, eqb-true, ltb-false, ltb-true}
 use Rattle.octets.specs.Lists.{ceil, countFrom}
 use Rattle.octets.specs.Octets.{be, begins, overwrite}
 use Rattle.octets.proofs.Coding.{length-be}
 use Rattle.octets.proofs.Lists.{counted-at, length-countFrom}
-use Rattle.octets.proofs.Numbers.{fields-join, fieldsOf}
-use Rattle.octets.proofs.Order.{begins-append, begins-at, begins-length, begins-split, front-of}
+use Rattle.octets.proofs.Numbers.{fields-each, fields-join}
+use Rattle.octets.proofs.Order.{begins-append, begins-length, begins-split, front-of}
 use Rattle.octets.proofs.Stores.{sets-behind, sets-overwrite, sets-stands, stays}
-use Rattle.octets.proofs.Tests.{and-true, by-test}
+use Rattle.octets.proofs.Tests.{by-test}
 use Rattle.entries.specs.Entries.{Entry, at, entry, names, noEntry, valid}
 use Rattle.entries.proofs.Valid.{valid-of}
-use Rattle.front_coding.specs.Records.{bucketHead, bucketSize, records}
+use Rattle.front_coding.specs.Records.{bucketHead, records}
 use Rattle.book.specs.Book.{blockSize, bookImage, imageIn, inBook, layout21, offsets, peak, peaks, recordsAt, scores}
 use Rattle.book.specs.Check.{bestBetween, peaksStart}
 use Rattle.book.specs.Held.{Held}
 use Rattle.book.proofs.Lookups.{held-stored}
-use Rattle.book.proofs.Reading.{image-length, length-offsets}
-use Rattle.book.proofs.Sections.{Sections, of-sections, peaksAt, sections-of}
+use Rattle.book.proofs.Reading.{length-offsets}
+use Rattle.book.proofs.Sections.{Sections, of-sections, sections-of}
 use Rattle.book_writer.specs.Writing.{putPeak}
 use Rattle.book_writer.proofs.Whole.{image-long, peak-computed}
 use Rattle.rescoring.specs.Rescored.{rescored}
 use Rattle.rescoring.proofs.Rescored.{rescored-image, rescored-length, rescored-names, rescored-offsets, rescored-peak, rescored-there, rescored-valid}
-
--- fields that stand one behind the other stand each in its place
-module _ {A : Type 0} (k : ℕ) (f : A → ℕ) (d : A) where
-  first-field :
-      (x : A) (xs : List A) (bs : List ℕ) (i : ℕ) → begins (fieldsOf k f d (x ∷ xs)) (drop i bs) ≡ true
-      → (begins (be k (f x)) (drop i bs) ≡ true) × (begins (fieldsOf k f d xs) (drop (i + k) bs) ≡ true)
-  first-field x xs bs i s =
-      let q = and-true _ _ (sym (begins-at (be k (f x)) (fieldsOf k f d xs) bs i) ∙ s) in
-      (q .0, (rw length-be at (q .1)))
-
-  fields-each :
-      (xs : List A) (bs : List ℕ) (i : ℕ) → begins (fieldsOf k f d xs) (drop i bs) ≡ true → (j : ℕ) → j < length xs
-      → begins (be k (f (getD xs j d))) (drop (i + k * j) bs) ≡ true
-  fields-each [] bs i s j l = absurd (omega arith)
-  fields-each (x ∷ xs) bs i s zero l = rw (mul-zero, add-zero) (first-field x xs bs i s .0)
-  fields-each (x ∷ xs) bs i s (suc j) l =
-      let z : i + k * suc j ≡ i + k + k * j = omega (arith, mul-suc k j) in
-      rw z (fields-each xs bs (i + k) (first-field x xs bs i s .1) j (omega arith))
 
 module _
     (es : List Entry) (ok : valid es ≡ true) (i s : ℕ) (h : i < length es) (small : s < 4294967296) (d : List ℕ)

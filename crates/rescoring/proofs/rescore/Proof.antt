@@ -1,7 +1,7 @@
 -- `rescoring::rescore` meets its contract: what the copy and the two stores leave is the image (proofs/Whole).
 -- No loop. Assumes nothing.
 use Prim.Native.Nat.{_<_, _≤_}
-use mathlib.Core.Path.{_∙_, sym}
+use mathlib.Core.Path.{sym}
 use lib.ListN.{length}
 use lib.Seq.{length-take-le}
 use native.Mathlib.Omega.{arith}
