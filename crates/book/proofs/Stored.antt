@@ -24,19 +24,24 @@ use Rattle.book.proofs.Reading.{book-exact, image-length}
 use Rattle.book.proofs.Sections.{peaksAt, sections-of}
 use Rattle.book.proofs.Size.{book-length}
 
--- an offset lies within the image
-pub offset-within : (l : Layout) (es : List Entry) (j : ℕ) → offset l es j ≤ length (imageIn l es)
-unfolding offset
-offset-within l es j =
-    let front = take (bucketSize * j) (names es) in
-    let back = drop (bucketSize * j) (names es) in
+-- the records of the first k names, and an offset, lie within the image
+pub front-within :
+    (l : Layout) (es : List Entry) (k : ℕ)
+    → recordsAt l (length es) + length (records (l .isHead) 0 [] (take k (names es))) ≤ length (imageIn l es)
+front-within l es k =
+    let front = take k (names es) in
+    let back = drop k (names es) in
     let a = records-append (l .isHead) front back 0 [] in
     let b = length-append (records (l .isHead) 0 [] front) (records (l .isHead) (0 + length front) (lastOr [] front) back) in
     let c : length (records (l .isHead) 0 [] (names es)) ≡ length (records (l .isHead) 0 [] front) + length (records (l .isHead) (0 + length front) (lastOr [] front) back) =
-    ap (λ ws. length (records (l .isHead) 0 [] ws)) (sym (take-append-drop (bucketSize * j) (names es))) ∙ ap length a ∙ b
+    ap (λ ws. length (records (l .isHead) 0 [] ws)) (sym (take-append-drop k (names es))) ∙ ap length a ∙ b
     in
     let i = image-length l es in
     omega arith
+
+pub offset-within : (l : Layout) (es : List Entry) (j : ℕ) → offset l es j ≤ length (imageIn l es)
+unfolding offset
+offset-within l es j = front-within l es (bucketSize * j)
 
 -- what the places of the image hold
 pub record Stored (buf : List ℕ) (es : List Entry) : Type 0 where

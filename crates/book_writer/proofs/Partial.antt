@@ -1,21 +1,20 @@
 -- A book half written: what stands in the buffer once the entries below a position are put.
 use Prim.Native.Nat.{_*_, _+_, _<_, _≤_, suc, ℕ}
-use mathlib.Core.Path.{_∙_, _≡_, ap, refl, sym}
+use mathlib.Core.Path.{_∙_, _≡_, refl, sym}
 use mathlib.Core.Bool.{true}
 use mathlib.Core.List.{List, []}
-use lib.ListN.{drop, length, length-append, take, take-append-drop}
+use lib.ListN.{drop, length, take}
 use native.Mathlib.Nat.{add-zero}
 use native.Mathlib.Omega.{arith}
 use Rattle.octets.specs.Octets.{be, begins}
 use Rattle.entries.specs.Entries.{Entry, at, names}
 use Rattle.entries.specs.Names.{longestName}
 use Rattle.front_coding.specs.Cursor.{nameIn}
-use Rattle.front_coding.specs.Records.{bucketHead, bucketSize, lastOr, recordOf, records}
-use Rattle.front_coding.proofs.Records.{records-append}
+use Rattle.front_coding.specs.Records.{bucketHead, bucketSize, recordOf, records}
 use Rattle.book.specs.Book.{imageIn, layout21, offset, recordsAt}
 use Rattle.book.specs.Ahead.{nameBefore, recordAt}
 use Rattle.book.proofs.Front.{record-next}
-use Rattle.book.proofs.Reading.{image-length}
+use Rattle.book.proofs.Stored.{front-within}
 use Rattle.front_coding.specs.declared.Cursor.{Cursor}
 
 pub record Partial (es : List Entry) (d₀ : List ℕ) (c : Cursor) (d : List ℕ) : Type 0 where
@@ -53,14 +52,4 @@ partial-start es d c h p q z =
 pub record-within :
     (es : List Entry) (i : ℕ) → i < length es
     → recordAt es i + length (recordOf bucketHead i (nameBefore es i) (at es i .name)) ≤ length (imageIn layout21 es)
-record-within es i h =
-    let a = record-next es i h in
-    let front = take (suc i) (names es) in
-    let back = drop (suc i) (names es) in
-    let b = records-append bucketHead front back 0 [] in
-    let c =
-    ap length (ap (records bucketHead 0 []) (sym (take-append-drop (suc i) (names es))) ∙ b)
-    ∙ length-append (records bucketHead 0 [] front) (records bucketHead (0 + length front) (lastOr [] front) back)
-    in
-    let e = image-length layout21 es in
-    omega arith
+record-within es i h = omega (arith, record-next es i h, front-within layout21 es (suc i))

@@ -1,6 +1,7 @@
--- A pass over all entries of a book: it fits where the image does, it ends where the image ends, and what it puts is finished to the image.
-use Prim.Native.Nat.{_+_, _<_, _≤_, suc, zero, ℕ}
-use mathlib.Core.Path.{_∙_, _≡_, refl, sym}
+-- A pass over the entries of a book: it fits where the image does, it ends where the image ends, and once the entries that are left are put,
+-- what stands there is finished to the image.
+use Prim.Native.Nat.{_+_, _-_, _<_, _≤_, suc, zero, ℕ}
+use mathlib.Core.Path.{_≡_, refl, sym}
 use mathlib.Core.Bool.{Bool, true}
 use mathlib.Core.List.{List, []}
 use lib.ListN.{drop, length}
@@ -17,16 +18,15 @@ use Rattle.front_coding.specs.Records.{bucketHead, recordOf}
 use Rattle.book.specs.Book.{bookImage, layout21, recordsAt}
 use Rattle.book.proofs.Reading.{image-length}
 use Rattle.book.proofs.Size.{book-length}
-use Rattle.book_writer.specs.Calls.{Started}
 use Rattle.book_writer.specs.Writing.{finished, putEntry}
-use Rattle.book_writer.proofs.Calls.{finish-whole, start-partial}
+use Rattle.book_writer.proofs.Calls.{finish-whole}
 use Rattle.book_writer.proofs.Partial.{Partial}
 use Rattle.book_writer.proofs.Put.{partial-put}
-use Rattle.edits.specs.Passing.{BookDone, Fits, Passed, endOf, putAll, putBook}
+use Rattle.edits.specs.Passing.{Fits, endOf, putAll}
 use Rattle.front_coding.specs.declared.Cursor.{Cursor}
 
 -- the cursor at the first record, and the one behind the next entry, named w
-abbrev first : List Entry → Cursor
+abbrev pub first : List Entry → Cursor
 first es = record { at = recordsAt layout21 (length es); index = 0; name = []; len = 0 }
 
 abbrev behind : Cursor → List ℕ → Cursor
@@ -51,37 +51,30 @@ module _ (es : List Entry) (ok : valid es ≡ true) where
       let ih = rest-put d₀ m next (putEntry (length es) i (nameIn c) (c .at) (at es i) d) q (omega arith) in
       rw (drop-cons es i noEntry h) (rw kept at ih)
 
-  pub book-whole :
-      (d : List ℕ) {new : List ℕ} {n total : ℕ} → length (bookImage es) ≤ length d → n ≡ length es → total ≡ length (bookImage es)
-      → new ≡ putBook es d → finished total n new ≡ overwrite d (bookImage es)
-  unfolding putBook
-  book-whole d h many t e =
-      let none-put = start-partial es d refl h (record { at = refl; index = refl; len = refl }) in
-      let p = rest-put d (length es) (first es) d none-put (omega arith) in
-      rw e (finish-whole (p .2) many ok (p .1 ∙ sym many) t)
+  pub rest-whole :
+      {d₀ : List ℕ} {c : Cursor} {d new : List ℕ} → Partial es d₀ c d
+      → new ≡ putAll (length es) (c .index) (nameIn c) (c .at) (drop (c .index) es) d
+      → finished (length (bookImage es)) (length es) new ≡ overwrite d₀ (bookImage es)
+  rest-whole {d₀} {c} {d} {new} half e =
+      let i = half .index in
+      let p = rest-put d₀ (length es - c .index) c d half (omega arith) in
+      rw e (finish-whole (p .2) refl ok (p .1) refl)
 
-  -- a pass that starts at the first record
-  module _ {n : ℕ} {c : Cursor} (many : n ≡ length es) (s : Started n c) where
-    start-end : endOf c es ≡ length (bookImage es)
-    unfolding bookImage
-    start-end = rw (s .at, s .index, s .len, many) (sym (image-length layout21 es))
+  -- from the first record on
+  pub whole-end : endOf (first es) es ≡ length (bookImage es)
+  unfolding bookImage
+  whole-end = sym (image-length layout21 es)
 
-    pub book-fits : {store : Bool} (d : List ℕ) → (store ≡ true → length (bookImage es) ≤ length d) → Fits store n c es d
-    book-fits d h =
-        let v = valid-of es ok in
-        let few = v .few in
-        let l = book-length es ok in
-        let i = s .index in
-        let z = s .len in
-        record {
-          few = omega arith;
-          low = omega arith;
-          small = omega arith;
-          allowed = v .allowed;
-          near = rw start-end (omega arith);
-          enough = rw start-end h;
-        }
-
-    pub passed-book : {store : Bool} {d : List ℕ} {r : Cursor} {new : List ℕ} → Passed store n c es d r new → BookDone store es d new (r .at)
-    unfolding putBook
-    passed-book p = record { bytes = p .bytes ∙ rw (s .at, s .index, s .len, many); end = p .end ∙ start-end }
+  pub whole-fits : {store : Bool} {n : ℕ} (d : List ℕ) → n ≡ length es → (store ≡ true → length (bookImage es) ≤ length d) → Fits store n (first es) es d
+  whole-fits d many h =
+      let v = valid-of es ok in
+      let few = v .few in
+      let l = book-length es ok in
+      record {
+        few = omega arith;
+        low = omega arith;
+        small = omega arith;
+        allowed = v .allowed;
+        near = rw whole-end (omega arith);
+        enough = rw whole-end h;
+      }

@@ -3,10 +3,10 @@ use Prim.Native.Nat.{_+_, _≤_, suc, ℕ}
 use mathlib.Core.Path.{_∙_, _≡_, ap, refl, sym}
 use mathlib.Core.Bool.{Bool, false, true}
 use mathlib.Core.List.{List, [], _++_, _∷_, append-nil}
-use lib.ListN.{length, length-append}
-use lib.Seq.{length-sets, sets}
+use lib.ListN.{length, length-append, length-take}
+use lib.Seq.{length-sets, take-length}
 use native.Mathlib.Omega.{arith}
-use Rattle.octets.specs.Lists.{all, if_then_else_}
+use Rattle.octets.specs.Lists.{all}
 use Rattle.octets.proofs.Tests.{and-intro, and-true, by-test}
 use Rattle.entries.specs.Entries.{Entry, entry, names}
 use Rattle.entries.specs.Names.{isName, longestName}
@@ -15,10 +15,10 @@ use Rattle.front_coding.specs.Cursor.{nameIn}
 use Rattle.front_coding.specs.Records.{bucketHead, lastOr, recordOf, records}
 use Rattle.front_coding.specs.Written.{Sized}
 use Rattle.front_coding.proofs.Records.{records-append}
-use Rattle.front_coding.proofs.Steps.{take-sets}
-use Rattle.book_writer.specs.Calls.{Put, PutRoom}
+use Rattle.book_writer.specs.Calls.{PutAt, RoomAt}
 use Rattle.book_writer.specs.Writing.{putEntry, putOffset}
-use Rattle.edits.specs.Passing.{Fits, Passed, endOf, putAll}
+use Rattle.edits.specs.Passing.{Fits, Passed, Went, afterPass, cursorBehind, endOf, putAll}
+use Rattle.edits.specs.Splice.{putIn}
 use Rattle.front_coding.specs.declared.Cursor.{Cursor}
 
 names-append : (es fs : List Entry) → names (es ++ fs) ≡ names es ++ names fs
@@ -82,40 +82,51 @@ pub passed-none : {store : Bool} {n : ℕ} {c : Cursor} {d : List ℕ} → c .le
 passed-none {store} {n} {c} {d} h =
     record {
       bytes = by-test store (λ t. rw t) (λ t. rw t);
-      index = omega arith;
-      end = omega arith;
-      name = refl;
-      small = h;
+      went = record { index = omega arith; end = omega arith; name = refl; small = h };
     }
 
--- one pass after another
-module _ {store : Bool} {n : ℕ} {c : Cursor} {es : List Entry} {d : List ℕ} {r : Cursor} {new : List ℕ} (p : Passed store n c es d r new) where
-  end-append : (fs : List Entry) → endOf r fs ≡ endOf c (es ++ fs)
+-- one pass after another: the cursors
+module _ {c : Cursor} {es : List Entry} {r : Cursor} (p : Went c es r) where
+  pub end-append : (fs : List Entry) → endOf r fs ≡ endOf c (es ++ fs)
   end-append fs = rw (p .index, p .end, p .name) (sym (end-split c es fs))
 
-  bytes-append :
-      {fs : List Entry} {q : Cursor} {newer : List ℕ} → Passed store n r fs new q newer
-      → newer ≡ (if store then putAll n (c .index) (nameIn c) (c .at) (es ++ fs) d else d)
-  bytes-append {fs} {q} {newer} s =
-      by-test store
-      (λ t.
-      let a : new ≡ putAll n (c .index) (nameIn c) (c .at) es d = rw t at (p .bytes) in
-      let b : newer ≡ putAll n (r .index) (nameIn r) (r .at) fs new = rw t at (s .bytes) in
-      rw t (b ∙ rw (p .index, p .name, p .end, a) (sym (putAll-append n (c .index) (nameIn c) (c .at) es fs d))))
-      (λ t.
-      let a : new ≡ d = rw t at (p .bytes) in
-      let b : newer ≡ new = rw t at (s .bytes) in
-      rw t (b ∙ a))
-
-  pub passed-append : {fs : List Entry} {q : Cursor} {newer : List ℕ} → Passed store n r fs new q newer → Passed store n c (es ++ fs) d q newer
-  passed-append {fs} s =
+  pub went-append : {fs : List Entry} {q : Cursor} → Went r fs q → Went c (es ++ fs) q
+  went-append {fs} s =
       record {
-        bytes = bytes-append s;
         index = rw (length-append es fs) (omega (arith, p .index, s .index));
         end = s .end ∙ end-append fs;
         name = s .name ∙ rw (p .name, names-append es fs) (sym (last-append (nameIn c) (names es) (names fs)));
         small = s .small;
       }
+
+  pub fits-rest :
+      {store : Bool} {n : ℕ} {d new : List ℕ} → length new ≡ length d → (fs : List Entry) → Fits store n c (es ++ fs) d → Fits store n r fs new
+  fits-rest long fs f =
+      record {
+        few = f .few;
+        low = omega (arith, f .low, p .index, length-append es fs);
+        small = p .small;
+        allowed = all-append (λ g. isName (g .name)) es fs (f .allowed) .1;
+        near = rw (end-append fs) (f .near);
+        enough = λ t. rw (end-append fs, long) (f .enough t);
+      }
+
+-- the bytes
+module _ {store : Bool} {n : ℕ} {c : Cursor} {es : List Entry} {d : List ℕ} {r : Cursor} {new : List ℕ} (p : Passed store n c es d r new) where
+  pub bytes-append : (fs : List Entry) {newer : List ℕ} → newer ≡ afterPass store n r fs new → newer ≡ afterPass store n c (es ++ fs) d
+  bytes-append fs {newer} s =
+      by-test store
+      (λ t.
+      let a : new ≡ putAll n (c .index) (nameIn c) (c .at) es d = rw t at (p .bytes) in
+      let b : newer ≡ putAll n (r .index) (nameIn r) (r .at) fs new = rw t at s in
+      rw t (b ∙ rw (p .went .index, p .went .name, p .went .end, a) (sym (putAll-append n (c .index) (nameIn c) (c .at) es fs d))))
+      (λ t.
+      let a : new ≡ d = rw t at (p .bytes) in
+      let b : newer ≡ new = rw t at s in
+      rw t (b ∙ a))
+
+  pub passed-append : {fs : List Entry} {q : Cursor} {newer : List ℕ} → Passed store n r fs new q newer → Passed store n c (es ++ fs) d q newer
+  passed-append {fs} s = record { bytes = bytes-append fs (s .bytes); went = went-append (p .went) (s .went) }
 
   pub passed-length : length new ≡ length d
   passed-length =
@@ -124,17 +135,6 @@ module _ {store : Bool} {n : ℕ} {c : Cursor} {es : List Entry} {d : List ℕ} 
       let a : new ≡ putAll n (c .index) (nameIn c) (c .at) es d = rw t at (p .bytes) in
       rw a (length-putAll n (c .index) (nameIn c) (c .at) es d))
       (λ t. let a : new ≡ d = rw t at (p .bytes) in rw a)
-
-  pub fits-rest : (fs : List Entry) → Fits store n c (es ++ fs) d → Fits store n r fs new
-  fits-rest fs f =
-      record {
-        few = f .few;
-        low = omega (arith, f .low, p .index, length-append es fs);
-        small = p .small;
-        allowed = all-append (λ g. isName (g .name)) es fs (f .allowed) .1;
-        near = rw (end-append fs) (f .near);
-        enough = λ t. rw (end-append fs, passed-length) (f .enough t);
-      }
 
 pub fits-first : {store : Bool} {n : ℕ} {c : Cursor} (es fs : List Entry) {d : List ℕ} → Fits store n c (es ++ fs) d → Fits store n c es d
 fits-first {store} {n} {c} es fs {d} f =
@@ -148,45 +148,77 @@ fits-first {store} {n} {c} es fs {d} f =
       enough = λ t. omega (arith, f .enough t);
     }
 
+-- the same cursor, the name before as a list of its own
+abbrev pub plain : Cursor → Cursor
+plain c = cursorBehind (c .at) (c .index) (nameIn c)
+
+plain-name : (c : Cursor) → nameIn (plain c) ≡ nameIn c
+plain-name c = take-length (nameIn c)
+
+module _ {store : Bool} {n : ℕ} {c : Cursor} {es : List Entry} {d : List ℕ} where
+  pub plain-fits : Fits store n c es d → Fits store n (plain c) es d
+  plain-fits f =
+      record {
+        few = f .few;
+        low = f .low;
+        small = rw length-take (omega (arith, f .small));
+        allowed = f .allowed;
+        near = rw (plain-name c) (f .near);
+        enough = rw (plain-name c) (f .enough);
+      }
+
+  -- and the cursor r behind, which holds the name w
+  pub plain-passed :
+      {new w : List ℕ} {end : ℕ} {r : Cursor} → Passed store n (plain c) es d (cursorBehind end (c .index + length es) w) new → r .index ≡ c .index + length es
+      → r .at ≡ end → nameIn r ≡ w → r .len ≤ longestName → Passed store n c es d r new
+  plain-passed {new} {w} p index at name small =
+      record {
+        bytes = rw (plain-name c) at (p .bytes);
+        went = record {
+          index = index;
+          end = at ∙ (rw (plain-name c) at (p .went .end));
+          name = name ∙ sym (take-length w) ∙ (rw (plain-name c) at (p .went .name));
+          small = small;
+        };
+      }
+
 -- one entry: with `store` it is put, else only measured
 one-end : (c : Cursor) (w : List ℕ) (s : ℕ) → endOf c (entry w s ∷ []) ≡ c .at + length (recordOf bucketHead (c .index) (nameIn c) w)
 one-end c w s = rw append-nil
 
-module _ {store : Bool} {n : ℕ} {c : Cursor} {w : List ℕ} {s : ℕ} {d : List ℕ} where
-  pub one-short : Fits store n c (entry w s ∷ []) d → length w ≤ longestName
-  one-short f = name-length w (and-true (isName w) true (f .allowed) .0)
+module _ {store : Bool} {n i at : ℕ} {prev w : List ℕ} {s : ℕ} {d : List ℕ} (f : Fits store n (cursorBehind at i prev) (entry w s ∷ []) d) where
+  pub one-short : length w ≤ longestName
+  one-short = name-length w (and-true (isName w) true (f .allowed) .0)
 
-  pub one-room : Fits store n c (entry w s ∷ []) d → store ≡ true → PutRoom d n c w
-  one-room f t =
+  -- where its record ends
+  one-ends : endOf (cursorBehind at i prev) (entry w s ∷ []) ≡ at + length (recordOf bucketHead i prev w)
+  one-ends = one-end (cursorBehind at i prev) w s ∙ rw take-length
+
+  one-went : {r : ℕ} → r ≡ at + length (recordOf bucketHead i prev w) → Went (cursorBehind at i prev) (entry w s ∷ []) (cursorBehind r (i + 1) w)
+  one-went e = record { index = refl; end = e ∙ sym one-ends; name = take-length w; small = one-short }
+
+  pub one-room : store ≡ true → RoomAt d n i at prev w
+  one-room t =
       record {
         few = f .few;
         low = omega (arith, f .few, f .low);
-        small = f .small;
         near = omega (arith, f .near);
-        short = one-short f;
-        fits = rw one-end at (f .enough t);
+        short = one-short;
+        fits = rw one-ends at (f .enough t);
       }
 
-  pub passed-put : {r : Cursor} {new : List ℕ} → store ≡ true → Put d new n c w s r → Passed store n c (entry w s ∷ []) d r new
-  passed-put t p =
-      record {
-        bytes = rw t (p .bytes);
-        index = p .index;
-        end = p .end ∙ sym (one-end c w s);
-        name = p .name;
-        small = p .small;
-      }
+  pub passed-put : {r : ℕ} {new : List ℕ} → store ≡ true → PutAt d new n i at prev w s r → Passed store n (cursorBehind at i prev) (entry w s ∷ []) d (cursorBehind r (i + 1) w) new
+  passed-put t p = record { bytes = rw (t, take-length) (p .bytes); went = one-went (p .end) }
 
   pub passed-measured :
-      {size : ℕ} {held : List ℕ} → store ≡ false → length (c .name) ≡ longestName → length w ≤ longestName
-      → Sized (recordOf bucketHead (c .index) (nameIn c) w) size → held ≡ sets (c .name) 0 w
-      → Passed store n c (entry w s ∷ []) d (record { at = c .at + size; index = c .index + 1; name = held; len = length w }) d
-  passed-measured t long short sized copied =
-      let z : 0 + length w ≡ length w = omega arith in
-      record {
-        bytes = rw t;
-        index = refl;
-        end = rw (sized .long) (sym (one-end c w s));
-        name = rw copied (rw z at (take-sets (c .name) 0 w (omega arith)));
-        small = short;
-      }
+      {size : ℕ} → store ≡ false → Sized (recordOf bucketHead i prev w) size
+      → Passed store n (cursorBehind at i prev) (entry w s ∷ []) d (cursorBehind (at + size) (i + 1) w) d
+  passed-measured t sized = record { bytes = rw t; went = one-went (rw (sized .long)) }
+
+-- the new entry, where there is one
+module _ {store : Bool} {n : ℕ} {c : Cursor} {w : List ℕ} {s : ℕ} {d : List ℕ} {fresh : Bool} (t : fresh ≡ true) where
+  pub fresh-fits : Fits store n c (putIn fresh w s) d → Fits store n c (entry w s ∷ []) d
+  fresh-fits f = rw t at f
+
+  pub fresh-passed : {r : Cursor} {new : List ℕ} → Passed store n c (entry w s ∷ []) d r new → Passed store n c (putIn fresh w s) d r new
+  fresh-passed p = rw t p

@@ -3,8 +3,8 @@ use Prim.Native.Nat.{_+_, _<_, _≤_, suc, ℕ}
 use mathlib.Core.Path.{_∙_, _≡_, refl}
 use mathlib.Core.Bool.{Bool}
 use mathlib.Core.List.{List, [], _++_, _∷_}
-use lib.ListN.{length}
-use lib.Seq.{slice, slice-cons, slice-empty}
+use lib.ListN.{length, take}
+use lib.Seq.{length-take-le, sets, slice, slice-cons, slice-empty}
 use native.Mathlib.Numerals.{add-one}
 use native.Mathlib.Omega.{arith}
 use Rattle.entries.specs.Entries.{Entry, at, entry, noEntry}
@@ -15,6 +15,7 @@ use Rattle.book.specs.Check.{scoreAt}
 use Rattle.book.specs.Held.{Held}
 use Rattle.book.proofs.Ahead.{ahead-sound, step-ahead, step-index, step-name}
 use Rattle.book.proofs.Lookups.{held-stored, held-valid}
+use Rattle.book_writer.proofs.Calls.{name-copied}
 use Rattle.edits.specs.Passing.{Fits, Passed, Reads, RunDone, RunRoom}
 use Rattle.edits.proofs.Passing.{fits-first, fits-rest, passed-append, passed-length, passed-none}
 use Rattle.front_coding.specs.declared.Cursor.{Cursor}
@@ -54,11 +55,12 @@ module _ {book : List ℕ} {from : Cursor} {end : ℕ} {d₀ : List ℕ} {n : �
   left-start a = record { reads = a .reads; order = a .order; within = a .within; sameLength = refl; fits = a .fits; whole = λ p. p }
 
   module _ {d : List ℕ} {c w : Cursor} (a : RunLeft book from end d₀ n to store d c w) where
-    pub left-end : end ≤ c .index → RunDone book from end d₀ d n to store (record { from = c; to = w })
+    pub left-end : end ≤ c .index → RunDone book from end d₀ d n to store (w .at)
     left-end h =
         let e : c .index ≡ end = omega (arith, a .order) in
         let over : slice (c .index) end (inBook book) ≡ [] = rw e (slice-empty end (inBook book)) in
-        record { reads = a .reads; upto = e; passed = a .whole (rw over (passed-none (a .fits .small))) }
+        let p : Passed store n to (slice (from .index) end (inBook book)) d₀ w d = a .whole (rw over (passed-none (a .fits .small))) in
+        record { bytes = p .bytes; upto = p .went .end }
 
     -- the next entry
     module _ (h : c .index < end) where
@@ -95,6 +97,14 @@ module _ {book : List ℕ} {from : Cursor} {end : ℕ} {d₀ : List ℕ} {n : �
                 order = omega (arith, left-index);
                 within = a .within;
                 sameLength = passed-length p ∙ a .sameLength;
-                fits = fits-rest p (slice (t .next .index) end (inBook book)) (rw split at (a .fits));
+                fits = fits-rest (p .went) (passed-length p) (slice (t .next .index) end (inBook book)) (rw split at (a .fits));
                 whole = λ q. a .whole (rw split (passed-append p q));
               }
+
+-- a name copied to the front of the array that held the one before
+pub held-next :
+    (name held : List ℕ) (len : ℕ) {new : List ℕ} → length name ≡ longestName → length held ≡ longestName → len ≤ longestName
+    → new ≡ sets held 0 (take len name) → take len new ≡ take len name
+held-next name held len a b h e =
+    let l : length (take len name) ≡ len = length-take-le len name (omega arith) in
+    rw l at (name-copied held (take len name) (omega arith) e)

@@ -6,14 +6,14 @@ use mathlib.Core.List.{List, [], _∷_}
 use lib.ListN.{length}
 use lib.Seq.{slice}
 use Rattle.octets.specs.Lists.{all, if_then_else_}
+use Rattle.octets.specs.Octets.{overwrite}
 use Rattle.entries.specs.Entries.{Entry, maxEntries, names}
 use Rattle.entries.specs.Names.{isName, longestName}
-use Rattle.front_coding.specs.Cursor.{nameIn}
+use Rattle.front_coding.specs.Cursor.{cursorOf, nameIn}
 use Rattle.front_coding.specs.Records.{bucketHead, lastOr, recordOf, records}
-use Rattle.book.specs.Book.{bookImage, inBook, isBook, layout21, recordsAt}
+use Rattle.book.specs.Book.{bookImage, inBook, isBook}
 use Rattle.book.specs.Ahead.{Ahead}
-use Rattle.book_writer.specs.Writing.{putEntry}
-use Rattle.edits.specs.declared.Run.{Run}
+use Rattle.book_writer.specs.Writing.{finished, putEntry}
 use Rattle.front_coding.specs.declared.Cursor.{Cursor}
 
 -- entries of a book of n put one after the other, the first at position i, its record at index `at` behind the name prev
@@ -22,9 +22,9 @@ putAll n i prev at [] d = d
 putAll n i prev at (e ∷ es) d =
     putAll n (suc i) (e .name) (at + length (recordOf bucketHead i prev (e .name))) es (putEntry n i prev at e d)
 
--- all entries of a book
-unfoldable pub putBook : List Entry → List ℕ → List ℕ
-putBook es d = putAll (length es) 0 [] (recordsAt layout21 (length es)) es d
+-- the cursor at a place behind the name w
+abbrev pub cursorBehind : ℕ → ℕ → List ℕ → Cursor
+cursorBehind at i w = cursorOf at i w (length w)
 
 -- where the records of entries at a cursor end
 abbrev pub endOf : Cursor → List Entry → ℕ
@@ -39,13 +39,21 @@ pub record Fits (store : Bool) (n : ℕ) (c : Cursor) (es : List Entry) (d : Lis
   pub near : endOf c es < 65536
   pub enough : store ≡ true → endOf c es ≤ length d
 
--- and what it leaves: the cursor r behind them; with `store` they are put, else d is as it was
-pub record Passed (store : Bool) (n : ℕ) (c : Cursor) (es : List Entry) (d : List ℕ) (r : Cursor) (new : List ℕ) : Type 0 where
-  pub bytes : new ≡ (if store then putAll n (c .index) (nameIn c) (c .at) es d else d)
+-- the cursor r is the one behind them
+pub record Went (c : Cursor) (es : List Entry) (r : Cursor) : Type 0 where
   pub index : r .index ≡ c .index + length es
   pub end : r .at ≡ endOf c es
   pub name : nameIn r ≡ lastOr (nameIn c) (names es)
   pub small : r .len ≤ longestName
+
+-- what stands in d after it: with `store` they are put, else d is as it was
+abbrev pub afterPass : Bool → ℕ → Cursor → List Entry → List ℕ → List ℕ
+afterPass store n c es d = if store then putAll n (c .index) (nameIn c) (c .at) es d else d
+
+-- and what it leaves
+pub record Passed (store : Bool) (n : ℕ) (c : Cursor) (es : List Entry) (d : List ℕ) (r : Cursor) (new : List ℕ) : Type 0 where
+  pub bytes : new ≡ afterPass store n c es d
+  pub went : Went c es r
 
 -- the cursor c stands in a book, in front of the entry at its index
 pub record Reads (book : List ℕ) (c : Cursor) : Type 0 where
@@ -59,12 +67,11 @@ pub record RunRoom (book : List ℕ) (from : Cursor) (end : ℕ) (d : List ℕ) 
   pub within : end ≤ length (inBook book)
   pub fits : Fits store n to (slice (from .index) end (inBook book)) d
 
-pub record RunDone (book : List ℕ) (from : Cursor) (end : ℕ) (d new : List ℕ) (n : ℕ) (to : Cursor) (store : Bool) (r : Run) : Type 0 where
-  pub reads : Reads book (r .from)
-  pub upto : r .from .index ≡ end
-  pub passed : Passed store n to (slice (from .index) end (inBook book)) d (r .to) new
+pub record RunDone (book : List ℕ) (from : Cursor) (end : ℕ) (d new : List ℕ) (n : ℕ) (to : Cursor) (store : Bool) (r : ℕ) : Type 0 where
+  pub bytes : new ≡ afterPass store n to (slice (from .index) end (inBook book)) d
+  pub upto : r ≡ endOf to (slice (from .index) end (inBook book))
 
--- a pass over all entries of a book: where their records end, which is where the image ends
+-- a pass over a whole book: where its records end, which is where the image ends; with `store`, new wants only finishing to be the image
 pub record BookDone (store : Bool) (es : List Entry) (d new : List ℕ) (r : ℕ) : Type 0 where
-  pub bytes : new ≡ (if store then putBook es d else d)
+  pub bytes : store ≡ true → finished (length (bookImage es)) (length es) new ≡ overwrite d (bookImage es)
   pub end : r ≡ length (bookImage es)

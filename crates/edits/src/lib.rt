@@ -1,6 +1,6 @@
 // A book with an entry put in, left out or replaced at one place of the name order: measured, and written into another buffer. One pass
-// over the result's entries does both: those in front of the place, the new one, those behind the one left out. Scores, offsets and peaks
-// are the result's own.
+// does both: those in front of the place are not walked (edit_front), then come the new one and, one by one, those behind the one left
+// out. Scores, offsets and peaks are the result's own.
 ghost use mathlib.Core.Path.{_≡_};
 ghost use mathlib.Core.Bool.{true};
 ghost use mathlib.Core.List.{[], _∷_};
@@ -10,44 +10,31 @@ ghost use Rattle.octets.specs.Octets.{overwrite};
 ghost use Rattle.entries.specs.Entries.{entry, maxEntries};
 ghost use Rattle.book.specs.Book.{bookImage, inBook};
 ghost use Rattle.edits.specs.Splice.{Spliced, countAfter, leftOut, putIn, result};
-ghost use Rattle.edits.specs.Passing.{BookDone, Fits, Passed, Reads, RunDone, RunRoom};
+ghost use Rattle.edits.specs.Passing.{BookDone, Fits, Passed, Reads, RunDone, RunRoom, cursorBehind};
 
-// The two cursors behind a run of entries: in the book that it was read from, and in the result.
-struct Run {
-    from: front_coding::Cursor,
-    to: front_coding::Cursor,
-}
-
-// Passes the next entry of n: puts it or, without `store`, only measures its record. The cursor behind it.
+// Passes an entry as the one at a position of n, behind the name prev: puts it, its record at index `at`, or, without `store`, only
+// measures the record. Where the record ends.
 fn pass_entry(
     dst: &mut [u8],
     n: usize,
-    c: front_coding::Cursor,
+    index: usize,
+    at: usize,
+    prev: &[u8],
     name: &[u8],
     score: u32,
     store: bool,
-) -> front_coding::Cursor
-    requires { ⌜ Fits store n c (entry (now name) score ∷ []) (now dst) ⌝ }
-    ensures { λ r. ⌜ Passed store n c (entry (now (name .entry)) score ∷ []) (now (dst .entry)) r (now (dst .exit)) ⌝ }
+) -> usize
+    requires { ⌜ Fits store n (cursorBehind at index (now prev)) (entry (now name) score ∷ []) (now dst) ⌝ }
+    ensures { λ r. ⌜ Passed store n (cursorBehind at index (now (prev .entry))) (entry (now (name .entry)) score ∷ []) (now (dst .entry))
+        (cursorBehind r (index + 1) (now (name .entry))) (now (dst .exit)) ⌝ }
 {
     if store {
-        return book_writer::put_entry(dst, n, c, name, score);
+        return book_writer::put_at(dst, n, index, at, prev, name, score);
     }
-    let at = c.at;
-    let index = c.index;
-    let len = c.len;
-    let mut held = c.name;
-    let size = front_coding::record_size(index, &held[..len], name);
-    octets::copy(&mut held, 0, name);
-    front_coding::Cursor {
-        at: at + size,
-        index: index + 1,
-        name: held,
-        len: name.len(),
-    }
+    at + front_coding::record_size(index, prev, name)
 }
 
-// Passes the entries of a book, from a cursor on up to a position, as the next ones of the result's n.
+// Passes the entries of a book, from a cursor on up to a position, as the next ones of the result's n. Where their records end.
 fn pass_run(
     book: &[u8],
     from: front_coding::Cursor,
@@ -56,32 +43,42 @@ fn pass_run(
     n: usize,
     to: front_coding::Cursor,
     store: bool,
-) -> Run
+) -> usize
     requires { ⌜ RunRoom (now book) from end (now dst) n to store ⌝ }
     ensures { λ r. ⌜ RunDone (now (book .entry)) from end (now (dst .entry)) (now (dst .exit)) n to store r ⌝ }
 {
-    let mut c = from;
-    let mut w = to;
-    while c.index < end {
-        let t = front_coding::advance(book, c);
-        let next = t.next;
-        let i = c.index;
-        let len = next.len;
-        let name = next.name;
-        w = pass_entry(
+    let mut i = from.index;
+    let mut at = from.at;
+    let mut name = from.name;
+    let mut len = from.len;
+    let mut index = to.index;
+    let mut put = to.at;
+    let mut held = to.name;
+    let mut kept = to.len;
+    while i < end {
+        let t = front_coding::read_record(book, at, i, &mut name, len);
+        at = t.end;
+        len = t.len;
+        let score = book_check::score_at(book, i);
+        put = pass_entry(
             dst,
             n,
-            w,
+            index,
+            put,
+            &held[..kept],
             &name[..len],
-            book_check::score_at(book, i),
+            score,
             store,
         );
-        c = next;
+        octets::copy(&mut held, 0, &name[..len]);
+        kept = len;
+        i += 1;
+        index += 1;
     }
-    Run { from: c, to: w }
+    put
 }
 
-// Passes the new entry, where there is one.
+// Passes the new entry, where there is one. The cursor behind it.
 fn pass_new(
     dst: &mut [u8],
     n: usize,
@@ -94,10 +91,21 @@ fn pass_new(
     requires { ⌜ Fits store n c (putIn fresh (now name) score) (now dst) ⌝ }
     ensures { λ r. ⌜ Passed store n c (putIn fresh (now (name .entry)) score) (now (dst .entry)) r (now (dst .exit)) ⌝ }
 {
-    if fresh {
-        return pass_entry(dst, n, c, name, score, store);
+    if !fresh {
+        return c;
     }
-    c
+    let at = c.at;
+    let index = c.index;
+    let len = c.len;
+    let mut held = c.name;
+    let end = pass_entry(dst, n, index, at, &held[..len], name, score, store);
+    octets::copy(&mut held, 0, name);
+    front_coding::Cursor {
+        at: end,
+        index: index + 1,
+        name: held,
+        len: name.len(),
+    }
 }
 
 // The cursor behind the entry that is left out, where there is one.
@@ -121,7 +129,7 @@ pub fn count_after(n: usize, skip: bool, fresh: bool) -> usize
     if fresh { left + 1 } else { left }
 }
 
-// One pass over the entries of the result: where its records end.
+// One pass over the result: where its records end.
 fn pass(
     book: &[u8],
     n: usize,
@@ -138,14 +146,12 @@ fn pass(
     ensures { λ r. ⌜ BookDone store (result (now (book .entry)) place skip fresh (now (name .entry)) score) (now (dst .entry)) (now (dst .exit)) r ⌝ }
 {
     let count = count_after(n, skip, fresh);
-    let from = book_writer::start(n);
-    let to = book_writer::start(count);
-    let a = pass_run(book, from, place, dst, count, to, store);
-    let w = pass_new(dst, count, a.to, name, score, fresh, store);
-    let c = leave_out(book, a.from, skip);
-    let b = pass_run(book, c, n, dst, count, w, store);
-    let end = b.to;
-    end.at
+    let from = edit_front::in_front(book, n, place);
+    let to = edit_front::moved(from, n, count);
+    edit_front::put_front(book, n, place, from.at, dst, count, store);
+    let w = pass_new(dst, count, to, name, score, fresh, store);
+    let c = leave_out(book, from, skip);
+    pass_run(book, c, n, dst, count, w, store)
 }
 
 // The bytes of the result's image.

@@ -1,90 +1,97 @@
 -- `edits::pass` meets its contract: its calls pass the parts of the result one after the other (proofs/Parts).
 -- No loop. Assumes nothing.
-use native.Mathlib.Omega.{arith}
 use borrow.Author.Needs.{needs}
-use Rattle.edits.proofs.Parts.{front-room, new-fits, out-reads, parts-count, parts-few, parts-out, parts-whole, rest-room}
+use Rattle.edits.proofs.Parts.{new-fits, out-reads, parts-few, parts-front, parts-in, parts-move, parts-out, parts-whole, rest-room}
 use Rattle.edits.proofs.pass.Statement.{statement}
 use Rattle.edits.proofs.pass.Tie as tie
 
--- the entry, and the two cursors at first records
+-- from a call to those before it
 abbrev start : tie.After-count-after → tie.Start
 start c = c .before .before .before .before
 
-abbrev from : tie.After-start2 → tie.After-start
+abbrev from : tie.After-moved → tie.After-in-front
 from c = c .before
 
-abbrev count : tie.After-start2 → tie.After-count-after
-count c = c .before .before
+abbrev count : tie.After-in-front → tie.After-count-after
+count c = c .before
+
+abbrev to : tie.After-put-front → tie.After-moved
+to c = c .before .before
+
+abbrev front : tie.After-pass-new → tie.After-put-front
+front c = c .before .before .before .before
+
+abbrev fresh : tie.After-leave-out → tie.After-pass-new
+fresh c = c .before .before .before
 
 count-after-requires : tie.Need-count-after-requires
 count-after-requires c κs = let z = c .before .before .before in (parts-out (z .pre .0), parts-few (z .pre .0))
 
-start-requires : tie.Need-start-requires
-start-requires c κs = parts-few (start c .pre .0)
+in-front-requires : tie.Need-in-front-requires
+in-front-requires c κs = let z = start c in (z .pre .0 .held, parts-in (z .pre .0))
 
-start-requires-2 : tie.Need-start-requires-2
-start-requires-2 c κs = let n = c .before in parts-count (start n .pre .0) (n .count-after .ensures)
+moved-requires : tie.Need-moved-requires
+moved-requires c κs = let n = count c in parts-move (start n .pre .0) (n .count-after .ensures) (c .in-front .ensures)
 
-pass-run-requires : tie.Need-pass-run-requires
-pass-run-requires c κs =
-    let s = c .before in
-    let n = count s in
-    let z = start n in
-    front-room (z .pre .0) (n .count-after .ensures) (from s .start .ensures) (s .start2 .ensures) (z .pre .1)
+put-front-requires : tie.Need-put-front-requires
+put-front-requires c κs =
+    let f = from (c .before) in
+    let n = count f in
+    parts-front (start n .pre .0) (n .count-after .ensures) (f .in-front .ensures)
 
 pass-new-requires : tie.Need-pass-new-requires
 pass-new-requires c κs =
-    let a = c .before .before .before in
-    let s = a .before .before in
-    let n = count s in
+    let p = c .before .before .before in
+    let t = to p in
+    let f = from t in
+    let n = count f in
     let z = start n in
-    new-fits (z .pre .0) (n .count-after .ensures) (from s .start .ensures) (s .start2 .ensures) (z .pre .1) (a .pass-run .ensures)
+    new-fits (z .pre .0) (n .count-after .ensures) (f .in-front .ensures) (t .moved .ensures) (z .args .dst .now) (z .pre .1) (p .put-front .ensures)
 
 leave-out-requires : tie.Need-leave-out-requires
 leave-out-requires c κs =
-    let a = c .before .before .before .before .before .before in
-    let s = a .before .before in
-    let n = count s in
-    let z = start n in
-    let h = out-reads (z .pre .0) (n .count-after .ensures) (from s .start .ensures) (s .start2 .ensures) (z .pre .1) (a .pass-run .ensures) in
-    (h .0, omega (arith, h .1))
+    let f = from (to (front (c .before .before))) in
+    let n = count f in
+    out-reads (start n .pre .0) (n .count-after .ensures) (f .in-front .ensures)
 
-pass-run-requires-2 : tie.Need-pass-run-requires-2
-pass-run-requires-2 c κs =
+pass-run-requires : tie.Need-pass-run-requires
+pass-run-requires c κs =
     let o = c .before in
-    let p = o .before .before .before in
-    let a = p .before .before .before .before in
-    let s = a .before .before in
-    let n = count s in
+    let w = fresh o in
+    let p = front w in
+    let t = to p in
+    let f = from t in
+    let n = count f in
     let z = start n in
-    rest-room (z .pre .0) (n .count-after .ensures) (from s .start .ensures) (s .start2 .ensures) (z .pre .1) (a .pass-run .ensures)
-    (p .pass-new .ensures) (o .leave-out .ensures)
+    rest-room (z .pre .0) (n .count-after .ensures) (f .in-front .ensures) (t .moved .ensures) (z .args .dst .now) (z .pre .1) (p .put-front .ensures)
+    (w .pass-new .ensures) (o .leave-out .ensures)
 
 same-length : tie.Need-same-length
 same-length c = search needs
 
 returns : tie.Need-returns
 returns c =
-    let b = c .before .before .before in
-    let o = b .before .before in
-    let p = o .before .before .before in
-    let a = p .before .before .before .before in
-    let s = a .before .before in
-    let n = count s in
+    let r = c .before .before in
+    let o = r .before .before in
+    let w = fresh o in
+    let p = front w in
+    let t = to p in
+    let f = from t in
+    let n = count f in
     let z = start n in
-    parts-whole (z .pre .0) (n .count-after .ensures) (from s .start .ensures) (s .start2 .ensures) (z .pre .1) (a .pass-run .ensures)
-    (p .pass-new .ensures) (o .leave-out .ensures) (b .pass-run2 .ensures)
+    parts-whole (z .pre .0) (n .count-after .ensures) (f .in-front .ensures) (t .moved .ensures) (z .args .dst .now) (z .pre .1) (p .put-front .ensures)
+    (w .pass-new .ensures) (o .leave-out .ensures) (r .pass-run .ensures)
 
 pub pass-spec : {M : Type 1} → statement M
 pass-spec =
     tie.close
     (tie.spec
     count-after-requires
-    start-requires
-    start-requires-2
-    pass-run-requires
+    in-front-requires
+    moved-requires
+    put-front-requires
     pass-new-requires
     leave-out-requires
-    pass-run-requires-2
+    pass-run-requires
     same-length
     returns)

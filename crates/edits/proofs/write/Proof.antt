@@ -1,12 +1,11 @@
--- `edits::write` meets its contract: all entries of the result are put, and what is put is finished to the image (proofs/Book).
+-- `edits::write` meets its contract: all entries of the result are put, and what is put is finished to the image.
 -- No loop. Assumes nothing.
-use mathlib.Core.Path.{_∙_}
+use mathlib.Core.Path.{_∙_, refl}
 use native.Mathlib.Omega.{arith}
 use borrow.Author.Needs.{needs}
 use Rattle.book.proofs.Size.{book-length}
 use Rattle.edits.specs.Splice.{result}
 use Rattle.edits.proofs.Splice.{result-count}
-use Rattle.edits.proofs.Book.{book-whole}
 use Rattle.edits.proofs.Parts.{parts-count, parts-few, parts-out}
 use Rattle.edits.proofs.write.Statement.{statement}
 use Rattle.edits.proofs.write.Tie as tie
@@ -38,10 +37,7 @@ returns c =
     let n = f .before in
     let p = n .before .before .before .before in
     let z = start p in
-    let a = z .args in
-    f .finish .ensures
-    ∙ book-whole (result (a .book .now) (a .place) (a .skip) (a .fresh) (a .name .now) (a .score)) (z .pre .0 .ok) (a .dst .now)
-    (omega (arith, z .pre .1, z .pre .2)) (n .count-after .ensures ∙ result-count (z .pre .0)) (z .pre .1) (p .pass .ensures .bytes)
+    f .finish .ensures ∙ rw (z .pre .1, n .count-after .ensures ∙ result-count (z .pre .0)) (p .pass .ensures .bytes refl)
 
 pub write-spec : {M : Type 1} → statement M
 write-spec =
