@@ -1,6 +1,6 @@
 -- A walk over the records of one bucket: the cursor holds the name of the record behind which it stands.
 use Prim.Native.Nat.{_%_, _*_, _+_, _-_, _<_, _≤_, min, suc, ℕ}
-use mathlib.Core.Path.{_∙_, _≡_, sym}
+use mathlib.Core.Path.{_∙_, _≡_, refl, sym}
 use mathlib.Core.Logic.{_⊎_, inl, inr}
 use mathlib.Core.Bool.{Bool, false, false≢true, true}
 use mathlib.Core.List.{List}
@@ -8,21 +8,22 @@ use lib.Dec.{ltb}
 use lib.ListN.{length}
 use native.Mathlib.Numerals.{add-one}
 use native.Mathlib.Omega.{arith}
-use borrow.Author.Tests.{eq-eqb, ltb-false, ltb-true}
+use borrow.Author.Tests.{eq-eqb, le-ltb, lt-ltb, ltb-false, ltb-true}
+use Rattle.octets.specs.Octets.{same}
 use Rattle.octets.proofs.Tests.{by-test}
 use Rattle.entries.specs.Entries.{Entry, at, entry}
 use Rattle.entries.specs.Place.{isBefore, place}
 use Rattle.entries.proofs.Place.{place-unique}
 use Rattle.entries.proofs.Valid.{Valid}
-use Rattle.front_coding.specs.Cursor.{Sound, Stepped, nameIn}
+use Rattle.front_coding.specs.Cursor.{Sound, Stepped, cursorOf, nameIn}
 use Rattle.front_coding.specs.Records.{bucketHead, bucketSize}
 use Rattle.front_coding.proofs.Writing.{same-record}
 use Rattle.book.specs.Ahead.{Ahead, InFront, nameBefore, recordAt}
-use Rattle.book.specs.Book.{offset}
+use Rattle.book.specs.Book.{layout21, offset}
 use Rattle.book.proofs.Ahead.{ahead-bucket, ahead-sound, step-ahead, step-at, step-index, step-name}
 use Rattle.book.proofs.Front.{last-next, record-next}
 use Rattle.book.proofs.Stored.{Stored}
-use Rattle.book_find.specs.Find.{AtBucket, HeadsBefore}
+use Rattle.book_find.specs.Find.{HeadsBefore, isAt}
 use Rattle.front_coding.specs.declared.Cursor.{Cursor}
 use Rattle.front_coding.specs.declared.Step.{Step}
 
@@ -37,18 +38,17 @@ pub record Reached (es : List Entry) (buf : List ℕ) (first end : ℕ) (c : Cur
 
 module _ {buf : List ℕ} {es : List Entry} where
   pub reach-start :
-      {bucket end : ℕ} {c : Cursor} → Stored buf es → AtBucket es bucket c → bucketSize * bucket ≤ end → end ≤ length es
-      → Reached es buf (bucketSize * bucket) end c
+      (bucket : ℕ) {end k : ℕ} {name : List ℕ} → Stored buf es → k ≡ offset layout21 es bucket → bucketSize * bucket ≤ end → end ≤ length es
+      → Reached es buf (bucketSize * bucket) end (cursorOf k (bucketSize * bucket) name 0)
   unfolding offset
-  reach-start {bucket} {end} {c} s a h k =
-      let q = a .index in
+  reach-start bucket {end} {k} {name} s e h l =
       record {
-        ahead = ahead-bucket buf es s c bucket (omega arith) (a .stands) (a .index) (a .empty);
+        ahead = ahead-bucket buf es s (cursorOf k (bucketSize * bucket) name 0) bucket (omega arith) e refl refl;
         from = omega arith;
-        upto = omega arith;
+        upto = h;
         head = eq-eqb (bucketSize * bucket % bucketSize) 0 (omega arith);
-        place = a .stands ∙ rw (a .index);
-        name = λ l. absurd (omega arith);
+        place = e;
+        name = λ m. absurd (omega arith);
       }
 
   -- one step
@@ -56,7 +56,7 @@ module _ {buf : List ℕ} {es : List Entry} where
     pub reach-sound : Sound buf c
     reach-sound = ahead-sound es v buf c (w .ahead) (omega arith)
 
-    pub reach-index : {r : Step} → Stepped buf c r → r .next .index ≡ c .index + 1
+    reach-index : {r : Step} → Stepped buf c r → r .next .index ≡ c .index + 1
     reach-index {r} t = step-index es v buf c (w .ahead) (omega arith) r t
 
     reach-name : {r : Step} → Stepped buf c r → nameIn (r .next) ≡ at es (c .index) .name
@@ -115,9 +115,9 @@ pub record Passed (past : Bool) (key : List ℕ) (es : List Entry) (buf : List �
 
 module _ {past : Bool} {key buf : List ℕ} {es : List Entry} where
   pub pass-start :
-      {bucket end : ℕ} {c : Cursor} → Stored buf es → AtBucket es bucket c → bucketSize * bucket ≤ end → end ≤ length es
-      → Passed past key es buf (bucketSize * bucket) end c
-  pass-start s a h k = record { reached = reach-start s a h k; before = λ l. absurd (omega (arith, a .index)) }
+      (bucket : ℕ) {end k : ℕ} {name : List ℕ} → Stored buf es → k ≡ offset layout21 es bucket → bucketSize * bucket ≤ end → end ≤ length es
+      → Passed past key es buf (bucketSize * bucket) end (cursorOf k (bucketSize * bucket) name 0)
+  pass-start bucket s e h l = record { reached = reach-start bucket s e h l; before = λ m. absurd (omega arith) }
 
   module _ {first end : ℕ} {c : Cursor} (v : Valid es) (p : Passed past key es buf first end c) (k : end ≤ length es) where
     pub pass-on :
@@ -146,6 +146,10 @@ module _ {past : Bool} {key buf : List ℕ} {es : List Entry} where
         absurd (false≢true (sym right ∙ (rw e h)))))
         (λ z. right))
 
+    -- the name that was read is the one in front of the cursor
+    pub pass-same : {r : Step} → c .index < end → Stepped buf c r → same (nameIn (r .next)) key ≡ isAt es (c .index) key
+    pass-same l t = rw (lt-ltb (c .index) (length es) (omega arith), reach-name v (p .reached) k l t)
+
     -- the end of the bucket
     pub pass-end :
         first < end → end ≤ c .index → (end < length es → isBefore past key (at es end) ≡ false) → end ≡ place past key es
@@ -162,3 +166,12 @@ module _ {past : Bool} {key : List ℕ} {es : List Entry} {heads : ℕ} (h : Hea
       {n end : ℕ} → n ≡ length es → end ≡ min n (bucketSize * (heads - 1) + bucketSize) → 0 < heads → end < length es
       → isBefore past key (at es end) ≡ false
   behind-bucket {n} {end} e m z l = let q : end ≡ bucketSize * heads = omega arith in rw q (h .right (omega arith))
+
+  -- the next head stands at the end of that bucket
+  pub next-head :
+      {n end : ℕ} {is : Bool} → n ≡ length es → end ≡ min n (bucketSize * (heads - 1) + bucketSize) → 0 < heads
+      → is ≡ isAt es (bucketSize * heads) key → is ≡ isAt es end key
+  next-head {n} {end} e m z k =
+      by-test (ltb end (length es))
+      (λ t. let l = ltb-true end (length es) t in let q : end ≡ bucketSize * heads = omega arith in rw q k)
+      (λ t. let l = ltb-false end (length es) t in rw t (rw (le-ltb (bucketSize * heads) (length es) (omega arith)) at k))

@@ -9,7 +9,13 @@ ghost use Rattle.front_coding.specs.Records.{bucketSize};
 ghost use Rattle.book.specs.Book.{inBook, layout21, offset};
 ghost use Rattle.book.specs.Ahead.{InFront};
 ghost use Rattle.book.specs.Held.{Held};
-ghost use Rattle.book_find.specs.Find.{AtBucket, HeadsBefore};
+ghost use Rattle.book_find.specs.Find.{HeadsBefore, Seeks, isAt};
+
+// How many names are before a key, and whether the name at that position is the key.
+pub struct Sought {
+    pub index: usize,
+    pub same: bool,
+}
 
 // Where the record of a bucket's head begins.
 fn offset_of(buf: &[u8], n: usize, bucket: usize) -> usize
@@ -30,19 +36,6 @@ pub fn head_name<'a>(buf: &'a [u8], n: usize, bucket: usize) -> &'a [u8]
     &buf[start..end]
 }
 
-// The cursor in front of a bucket's head.
-fn bucket_start(buf: &[u8], n: usize, bucket: usize) -> front_coding::Cursor
-    requires { ⌜ Held (now buf) n × (bucketSize * bucket < n) ⌝ }
-    ensures { λ r. ⌜ AtBucket (inBook (now (buf .entry))) bucket r ⌝ }
-{
-    front_coding::Cursor {
-        at: offset_of(buf, n, bucket),
-        index: 8 * bucket,
-        name: [0; 48],
-        len: 0,
-    }
-}
-
 // The position behind a bucket's last name.
 fn bucket_end(n: usize, bucket: usize) -> usize
     requires { ⌜ bucketSize * bucket < n ⌝ }
@@ -61,12 +54,23 @@ pub fn cursor_at(buf: &[u8], n: usize, i: usize) -> front_coding::Cursor
     ensures { λ r. ⌜ (nameIn r ≡ at (inBook (now (buf .entry))) i .name) × (r .len ≤ longestName)
         × InFront (inBook (now (buf .entry))) (now (buf .entry)) (i + 1) r ⌝ }
 {
-    let mut c = bucket_start(buf, n, i / 8);
-    while c.index <= i {
-        let t = front_coding::advance(buf, c);
-        c = t.next;
+    let bucket = i / 8;
+    let mut name = [0u8; 48];
+    let mut len = 0;
+    let mut at = offset_of(buf, n, bucket);
+    let mut index = 8 * bucket;
+    while index <= i {
+        let t = front_coding::read_record(buf, at, index, &mut name, len);
+        at = t.end;
+        len = t.len;
+        index += 1;
     }
-    c
+    front_coding::Cursor {
+        at: at,
+        index: index,
+        name: name,
+        len: len,
+    }
 }
 
 // Whether a name is below a key or, with `past`, begun by it.
@@ -80,16 +84,6 @@ fn is_before(name: &[u8], key: &[u8], past: bool) -> bool
         return octets::starts_with(name, key);
     }
     false
-}
-
-// The same of the name that a cursor holds.
-fn holds_before(c: front_coding::Cursor, key: &[u8], past: bool) -> bool
-    requires { ⌜ c .len ≤ longestName ⌝ }
-    ensures { λ r. ⌜ r ≡ isBefore past (now (key .entry)) (entry (nameIn c) 0) ⌝ }
-{
-    let name = c.name;
-    let len = c.len;
-    is_before(&name[..len], key, past)
 }
 
 // How many heads are before the key, by binary search.
@@ -110,25 +104,60 @@ fn heads_before(buf: &[u8], n: usize, key: &[u8], past: bool) -> usize
     low
 }
 
-// How many names are below the key or, with `past`, below it or begun by it: bucket heads first, then the names of one bucket.
+// Whether a bucket's head is the key; of a bucket that the book lacks it is not.
+fn head_is(buf: &[u8], n: usize, bucket: usize, key: &[u8]) -> bool
+    requires { ⌜ Held (now buf) n × (bucket ≤ n) ⌝ }
+    ensures { λ r. ⌜ r ≡ isAt (inBook (now (buf .entry))) (bucketSize * bucket) (now (key .entry)) ⌝ }
+{
+    if n <= 8 * bucket {
+        return false;
+    }
+    octets::equal(head_name(buf, n, bucket), key)
+}
+
+// How many names are below the key or, with `past`, below it or begun by it, and whether the next name is the key: bucket heads first, then
+// the names of one bucket.
+pub fn seek(buf: &[u8], n: usize, key: &[u8], past: bool) -> Sought
+    requires { ⌜ Held (now buf) n ⌝ }
+    ensures { λ r. ⌜ Seeks past (now (key .entry)) (inBook (now (buf .entry))) r ⌝ }
+{
+    let heads = heads_before(buf, n, key, past);
+    let same = head_is(buf, n, heads, key);
+    if heads == 0 {
+        return Sought {
+            index: 0,
+            same: same,
+        };
+    }
+    let bucket = heads - 1;
+    let end = bucket_end(n, bucket);
+    let mut name = [0u8; 48];
+    let mut len = 0;
+    let mut at = offset_of(buf, n, bucket);
+    let mut index = 8 * bucket;
+    while index < end {
+        let t = front_coding::read_record(buf, at, index, &mut name, len);
+        at = t.end;
+        len = t.len;
+        if !is_before(&name[..len], key, past) {
+            return Sought {
+                index: index,
+                same: octets::equal(&name[..len], key),
+            };
+        }
+        index += 1;
+    }
+    Sought {
+        index: end,
+        same: same,
+    }
+}
+
+// The number alone.
 pub fn place(buf: &[u8], n: usize, key: &[u8], past: bool) -> usize
     requires { ⌜ Held (now buf) n ⌝ }
     ensures { λ r. ⌜ r ≡ place past (now (key .entry)) (inBook (now (buf .entry))) ⌝ }
 {
-    let heads = heads_before(buf, n, key, past);
-    if heads == 0 {
-        return 0;
-    }
-    let bucket = heads - 1;
-    let end = bucket_end(n, bucket);
-    let mut c = bucket_start(buf, n, bucket);
-    while c.index < end {
-        let t = front_coding::advance(buf, c);
-        let next = t.next;
-        if !holds_before(next, key, past) {
-            return c.index;
-        }
-        c = next;
-    }
-    end
+    let s = seek(buf, n, key, past);
+    s.index
 }

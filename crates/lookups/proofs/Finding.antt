@@ -6,14 +6,16 @@ use mathlib.Core.Logic.{inl, inr}
 use mathlib.Core.Bool.{false, true}
 use mathlib.Core.List.{List, [], _∷_}
 use mathlib.Core.Option.{Option, none, some}
+use lib.Dec.{ltb}
 use lib.ListN.{length}
 use native.Mathlib.Omega.{arith}
 use denote.Enum.Declared.{tagOf}
 use types.Run.{OneOf}
+use borrow.Author.Tests.{lt-ltb, ltb-true}
 use Rattle.octets.specs.Octets.{same}
 use Rattle.octets.proofs.Count.{count}
 use Rattle.octets.proofs.Order.{same-eq}
-use Rattle.octets.proofs.Tests.{by-test}
+use Rattle.octets.proofs.Tests.{and-true, by-test}
 use Rattle.entries.specs.Entries.{Entry, at, entry, holds, position}
 use Rattle.entries.specs.Names.{isPrefix}
 use Rattle.entries.specs.Place.{place}
@@ -25,32 +27,27 @@ use Rattle.book.specs.Check.{scoreAt}
 use Rattle.book.specs.Held.{Held}
 use Rattle.book.specs.Lookups.{foundIn, prefixRange}
 use Rattle.book.proofs.Lookups.{held-stored, held-valid, range-none, range-some}
+use Rattle.book_find.specs.Find.{Seeks, isAt}
+use Rattle.book_find.specs.declared.Sought.{Sought}
 use Rattle.lookups.specs.Finding.{foundOf, placeAs}
 use Rattle.lookups.specs.declared.Place.the-variants as places
 use Rattle.lookups.specs.declared.Found.{Found}
 use Rattle.lookups.specs.declared.Found.the-variants as found
 
--- the place of a name is past the last entry, or has another name: a gap
-pub gap-past : (b w : List ℕ) (n i : ℕ) → Held b n → i ≡ place false w (inBook b) → n ≤ i → places.Gap i ≡ placeAs w (inBook b)
-gap-past b w n i h p l =
-    let c = h .count in
-    rw (place-absent w (inBook b) (held-valid h .order) (λ m. absurd (omega arith)), p)
+-- what the search for a name gave: its place has another name or is past the last entry, a gap; or it has that name
+module _ (b w : List ℕ) (n : ℕ) {s : Sought} (h : Held b n) (k : Seeks false w (inBook b) s) where
+  pub gap-here : s .same ≡ false → places.Gap (s .index) ≡ placeAs w (inBook b)
+  gap-here t =
+      let z : isAt (inBook b) (place false w (inBook b)) w ≡ false = rw (k .index) at (sym (k .same) ∙ t) in
+      rw (place-absent w (inBook b) (held-valid h .order) (λ m. rw (lt-ltb (place false w (inBook b)) (length (inBook b)) m) at z), k .index)
 
-pub gap-other :
-    (b w u : List ℕ) (n i : ℕ) → Held b n → i ≡ place false w (inBook b) → u ≡ at (inBook b) i .name → same u w ≡ false
-    → places.Gap i ≡ placeAs w (inBook b)
-gap-other b w u n i h p e s = rw (place-absent w (inBook b) (held-valid h .order) (λ m. rw (← p, ← e) s), p)
-
--- it has that name
-pub held-here :
-    (b w u : List ℕ) (n i : ℕ) → Held b n → i ≡ place false w (inBook b) → i < n → u ≡ at (inBook b) i .name → same u w ≡ true
-    → places.Held i ≡ placeAs w (inBook b)
-held-here b w u n i h p l e t =
-    let c = h .count in
-    let m : i < length (inBook b) = omega arith in
-    let q : at (inBook b) i .name ≡ w = sym e ∙ same-eq u w t in
-    let f = place-held w (inBook b) (held-valid h .order) (rw (← p) m) (rw (← p) q) in
-    rw (f .0, f .1, ← p)
+  pub held-here : s .same ≡ true → places.Held (s .index) ≡ placeAs w (inBook b)
+  held-here t =
+      let i = place false w (inBook b) in
+      let z : isAt (inBook b) (place false w (inBook b)) w ≡ true = rw (k .index) at (sym (k .same) ∙ t) in
+      let a = and-true (ltb i (length (inBook b))) (same (at (inBook b) i .name) w) z in
+      let f = place-held w (inBook b) (held-valid h .order) (ltb-true i (length (inBook b)) (a .0)) (same-eq (at (inBook b) i .name) w (a .1)) in
+      rw (f .0, f .1, k .index)
 
 -- taken apart: a position is that of a name that is held, a gap the place of one that is not
 pub at-held : (w : List ℕ) (es : List Entry) {i : ℕ} → places.Held i ≡ placeAs w es → (holds w es ≡ true) × (i ≡ position w es)

@@ -31,17 +31,12 @@ pub fn look_up(book: &[u8], n: usize, name: &[u8]) -> Place
     requires { ⌜ Held (now book) n ⌝ }
     ensures { λ r. ⌜ r ≡ placeAs (now (name .entry)) (inBook (now (book .entry))) ⌝ }
 {
-    let i = book_find::place(book, n, name, false);
-    if n <= i {
-        return Place::Gap(i);
+    let s = book_find::seek(book, n, name, false);
+    let i = s.index;
+    if s.same {
+        return Place::Held(i);
     }
-    let c = book_find::cursor_at(book, n, i);
-    let len = c.len;
-    let held = c.name;
-    if !octets::equal(&held[..len], name) {
-        return Place::Gap(i);
-    }
-    Place::Held(i)
+    Place::Gap(i)
 }
 
 // The position and score of a name in a book that was checked.
