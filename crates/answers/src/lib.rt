@@ -22,7 +22,7 @@ pub fn put_entry(dst: &mut [u8], at: usize, name: &[u8], score: u32) -> usize
     dst[at] = name.len() as u8;
     octets::copy(dst, at + 1, name);
     let end = at + 1 + name.len();
-    octets::write_u32(dst, end, score);
+    numbers::write_u32(dst, end, score);
     end + 4
 }
 

@@ -16,7 +16,7 @@ fn peak_of(book: &[u8], n: usize, j: usize) -> usize
     requires { ⌜ Held (now book) n × (blockSize * j < n) ⌝ }
     ensures { λ r. ⌜ r ≡ peak (inBook (now (book .entry))) j ⌝ }
 {
-    octets::read_u16(book, book_check::peaks_at(n) + 2 * j) as usize
+    numbers::read_u16(book, book_check::peaks_at(n) + 2 * j) as usize
 }
 
 // The positions to take at once from i on: a block that begins there and ends in the range, else i alone.

@@ -42,7 +42,7 @@ pub fn score_at(buf: &[u8], i: usize) -> u32
     requires { ⌜ i ≤ maxEntries ⌝ }
     ensures { λ r. ⌜ r ≡ scoreAt (now (buf .entry)) i ⌝ }
 {
-    octets::read_u32(buf, 7 + 4 * i)
+    numbers::read_u32(buf, 7 + 4 * i)
 }
 
 // The better of two positions, the first at equal scores.
@@ -84,7 +84,7 @@ fn offset_is(buf: &[u8], n: usize, index: usize, at: usize) -> bool
     if index % 8 != 0 {
         return true;
     }
-    octets::read_u16(buf, 7 + 4 * n + 2 * (index / 8)) as usize == at
+    numbers::read_u16(buf, 7 + 4 * n + 2 * (index / 8)) as usize == at
 }
 
 // Where the records of n names end, each a book's, with each head's offset.
@@ -125,7 +125,7 @@ fn peak_is(buf: &[u8], n: usize, j: usize) -> bool
     requires { ⌜ (n ≤ maxEntries) × (j < ceil n blockSize) ⌝ }
     ensures { λ r. ⌜ r ≡ peakIs n j (now (buf .entry)) ⌝ }
 {
-    let peak = octets::read_u16(buf, peaks_at(n) + 2 * j) as usize;
+    let peak = numbers::read_u16(buf, peaks_at(n) + 2 * j) as usize;
     peak == best_between(buf, 16 * j, block_end(n, j))
 }
 
@@ -155,11 +155,11 @@ pub fn check(buf: &[u8]) -> Checked
     if buf[0] != 0x21 {
         return Checked::Damaged;
     }
-    let n = octets::read_u16(buf, 5) as usize;
+    let n = numbers::read_u16(buf, 5) as usize;
     if 1024 < n {
         return Checked::Damaged;
     }
-    let total = octets::read_u32(buf, 1) as usize;
+    let total = numbers::read_u32(buf, 1) as usize;
     if buf.len() < total {
         return Checked::Damaged;
     }

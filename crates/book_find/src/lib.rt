@@ -22,7 +22,7 @@ fn offset_of(buf: &[u8], n: usize, bucket: usize) -> usize
     requires { ⌜ Held (now buf) n × (bucketSize * bucket < n) ⌝ }
     ensures { λ r. ⌜ r ≡ offset layout21 (inBook (now (buf .entry))) bucket ⌝ }
 {
-    octets::read_u16(buf, 7 + 4 * n + 2 * bucket) as usize
+    numbers::read_u16(buf, 7 + 4 * n + 2 * bucket) as usize
 }
 
 // The head name of a bucket, a part of the book.

@@ -28,7 +28,7 @@ fn put_offset(dst: &mut [u8], n: usize, index: usize, at: usize)
     if index % 8 != 0 {
         return;
     }
-    octets::write_u16(dst, 7 + 4 * n + 2 * (index / 8), at as u16);
+    numbers::write_u16(dst, 7 + 4 * n + 2 * (index / 8), at as u16);
 }
 
 // Puts the entry at a position of n, its record at index `at` behind the name prev: its score, the offset if it is a bucket's head, the
@@ -45,7 +45,7 @@ pub fn put_at(
     requires { ⌜ RoomAt (now dst) n index at (now prev) (now name) ⌝ }
     ensures { λ r. ⌜ PutAt (now (dst .entry)) (now (dst .exit)) n index at (now (prev .entry)) (now (name .entry)) score r ⌝ }
 {
-    octets::write_u32(dst, 7 + 4 * index, score);
+    numbers::write_u32(dst, 7 + 4 * index, score);
     put_offset(dst, n, index, at);
     front_coding::put_record(dst, at, index, prev, name)
 }
@@ -92,7 +92,7 @@ pub fn put_peak(dst: &mut [u8], n: usize, j: usize)
     ensures { λ _. ⌜ now (dst .exit) ≡ putPeak n j (now (dst .entry)) ⌝ }
 {
     let best = book_check::best_between(dst, 16 * j, block_end(n, j));
-    octets::write_u16(dst, book_check::peaks_at(n) + 2 * j, best as u16);
+    numbers::write_u16(dst, book_check::peaks_at(n) + 2 * j, best as u16);
 }
 
 // Stores the peak of each block.
@@ -116,6 +116,6 @@ pub fn finish(dst: &mut [u8], n: usize, total: usize)
     put_peaks(dst, n);
     let version = [0x21];
     octets::copy(dst, 0, &version);
-    octets::write_u32(dst, 1, total as u32);
-    octets::write_u16(dst, 5, n as u16);
+    numbers::write_u32(dst, 1, total as u32);
+    numbers::write_u16(dst, 5, n as u16);
 }

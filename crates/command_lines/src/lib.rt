@@ -194,7 +194,7 @@ pub fn put_offered(answer: &[u8], n: usize, out: &mut [u8]) -> usize
     while i < n {
         let start = at + 1;
         let stop = start + answer[at] as usize;
-        let score = octets::read_u32(answer, stop);
+        let score = numbers::read_u32(answer, stop);
         end = put_entry(out, end, &answer[start..stop], score);
         at = stop + 4;
         i += 1;

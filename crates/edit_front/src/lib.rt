@@ -47,8 +47,8 @@ fn put_offsets(book: &[u8], n: usize, m: usize, dst: &mut [u8], count: usize)
     let new = book_check::records_at(count);
     let mut j = 0;
     while j < m {
-        let at = octets::read_u16(book, 7 + 4 * n + 2 * j) as usize;
-        octets::write_u16(dst, 7 + 4 * count + 2 * j, (at - old + new) as u16);
+        let at = numbers::read_u16(book, 7 + 4 * n + 2 * j) as usize;
+        numbers::write_u16(dst, 7 + 4 * count + 2 * j, (at - old + new) as u16);
         j += 1;
     }
 }

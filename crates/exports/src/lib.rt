@@ -147,8 +147,8 @@ fn head_start(book: &[u8], bucket: usize) -> usize
     requires { ⌜ HasBucket (now book) bucket ⌝ }
     ensures { λ r. ⌜ r ≡ headAt (now (book .entry)) bucket ⌝ }
 {
-    let n = octets::read_u16(book, 5) as usize;
-    octets::read_u16(book, 7 + 4 * n + 2 * bucket) as usize + 1
+    let n = numbers::read_u16(book, 5) as usize;
+    numbers::read_u16(book, 7 + 4 * n + 2 * bucket) as usize + 1
 }
 
 // Where in the book the head name of a bucket begins, and its length.

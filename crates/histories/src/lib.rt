@@ -39,7 +39,7 @@ fn call_length(s: &[u8]) -> usize
     if 2 <= s[0] {
         return 0;
     }
-    let len = octets::read_u16(s, 5) as usize;
+    let len = numbers::read_u16(s, 5) as usize;
     if s.len() - 7 < len {
         return 0;
     }
@@ -68,9 +68,9 @@ fn call_on(s: &[u8], book: &[u8], dst: &mut [u8]) -> label_book::Written
     requires { ⌜ isCall (now s) ≡ true ⌝ }
     ensures { λ r. ⌜ Called (callAt (now (s .entry))) (buffers (now (book .entry)) (now (dst .entry))) r (now (dst .exit)) ⌝ }
 {
-    let end = 7 + octets::read_u16(s, 5) as usize;
+    let end = 7 + numbers::read_u16(s, 5) as usize;
     if s[0] == 0 {
-        return label_book::set(book, &s[7..end], octets::read_u32(s, 1), dst);
+        return label_book::set(book, &s[7..end], numbers::read_u32(s, 1), dst);
     }
     label_book::withdraw(book, &s[7..end], dst)
 }
@@ -126,8 +126,8 @@ fn put_answer(out: &mut [u8], at: usize, w: label_book::Written)
 {
     let t = numbers(w);
     out[at] = t.number;
-    octets::write_u16(out, at + 1, t.entries);
-    octets::write_u32(out, at + 3, t.bytes);
+    numbers::write_u16(out, at + 1, t.entries);
+    numbers::write_u32(out, at + 3, t.bytes);
 }
 
 // Performs every call of a script: whether the second buffer holds the book afterwards.

@@ -14,7 +14,7 @@ pub fn image_length(book: &[u8]) -> usize
     requires { ⌜ isBook (now book) ≡ true ⌝ }
     ensures { λ r. ⌜ r ≡ length (bookImage (inBook (now (book .entry)))) ⌝ }
 {
-    octets::read_u32(book, 1) as usize
+    numbers::read_u32(book, 1) as usize
 }
 
 // Writes the book of n entries and so many bytes with another score at position i, for which there is room.
@@ -23,6 +23,6 @@ pub fn rescore(book: &[u8], n: usize, i: usize, score: u32, total: usize, dst: &
     ensures { λ _. ⌜ now (dst .exit) ≡ overwrite (now (dst .entry)) (bookImage (rescored (inBook (now (book .entry))) i score)) ⌝ }
 {
     octets::copy(dst, 0, &book[..total]);
-    octets::write_u32(dst, 7 + 4 * i, score);
+    numbers::write_u32(dst, 7 + 4 * i, score);
     book_writer::put_peak(dst, n, i / 16);
 }

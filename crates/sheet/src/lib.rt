@@ -63,11 +63,11 @@ pub fn check(buf: &[u8]) -> book_check::Checked
     if buf[0] != 0x11 {
         return book_check::Checked::Damaged;
     }
-    let n = octets::read_u16(buf, 5) as usize;
+    let n = numbers::read_u16(buf, 5) as usize;
     if 1024 < n {
         return book_check::Checked::Damaged;
     }
-    let total = octets::read_u32(buf, 1) as usize;
+    let total = numbers::read_u32(buf, 1) as usize;
     if buf.len() < total {
         return book_check::Checked::Damaged;
     }
@@ -115,7 +115,7 @@ pub fn fill_book(sheet: &[u8], n: usize, total: usize, dst: &mut [u8])
     while i < n {
         let start = from + 1;
         let end = start + sheet[from] as usize;
-        let score = octets::read_u32(sheet, end);
+        let score = numbers::read_u32(sheet, end);
         let prior = &sheet[prev..prev_end];
         at = book_writer::put_at(dst, n, i, at, prior, &sheet[start..end], score);
         prev = start;
@@ -149,8 +149,8 @@ pub fn fill_sheet(book: &[u8], n: usize, total: usize, dst: &mut [u8])
     ensures { λ _. ⌜ now (dst .exit) ≡ overwrite (now (dst .entry)) (sheetImage (inBook (now (book .entry)))) ⌝ }
 {
     dst[0] = 0x11;
-    octets::write_u32(dst, 1, total as u32);
-    octets::write_u16(dst, 5, n as u16);
+    numbers::write_u32(dst, 1, total as u32);
+    numbers::write_u16(dst, 5, n as u16);
     let mut name = [0; 48];
     let mut from = book_check::records_at(n);
     let mut at = 7;

@@ -87,11 +87,11 @@ pub fn check(buf: &[u8]) -> book_check::Checked
     if buf[0] != 0x31 {
         return book_check::Checked::Damaged;
     }
-    let n = octets::read_u16(buf, 5) as usize;
+    let n = numbers::read_u16(buf, 5) as usize;
     if 1024 < n {
         return book_check::Checked::Damaged;
     }
-    let total = octets::read_u32(buf, 1) as usize;
+    let total = numbers::read_u32(buf, 1) as usize;
     if buf.len() < total {
         return book_check::Checked::Damaged;
     }

@@ -20,7 +20,7 @@ fn start(trie: &[u8], prefix: &[u8]) -> Queue
     requires { ⌜ isTrie (now trie) ≡ true ⌝ }
     ensures { λ r. ⌜ Reaches (now (trie .entry)) (firstWaits (now (trie .entry)) (now (prefix .entry))) r ⌝ }
 {
-    if octets::read_u16(trie, 5) == 0 {
+    if numbers::read_u16(trie, 5) == 0 {
         return trie_turns::nobody();
     }
     let none = [0; 48];

@@ -19,9 +19,9 @@ pub fn field_at(buf: &[u8], at: usize, size: usize) -> usize
         return buf[at] as usize;
     }
     if size == 2 {
-        return octets::read_u16(buf, at) as usize;
+        return numbers::read_u16(buf, at) as usize;
     }
-    octets::read_u32(buf, at) as usize
+    numbers::read_u32(buf, at) as usize
 }
 
 // The label of so many bytes at a position, a part of the buffer.

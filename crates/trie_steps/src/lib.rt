@@ -20,9 +20,9 @@ fn number(s: &[u8], at: usize, size: usize) -> u32
         return s[at] as u32;
     }
     if size == 2 {
-        return octets::read_u16(s, at) as u32;
+        return numbers::read_u16(s, at) as u32;
     }
-    octets::read_u32(s, at)
+    numbers::read_u32(s, at)
 }
 
 // The score field of the node at an index.

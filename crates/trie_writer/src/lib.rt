@@ -136,8 +136,8 @@ fn write_rows(names: &[u8], lens: &[u8], scores: &[u32], dst: &mut [u8]) -> Wrot
         return Wrote::TooShort;
     }
     dst[0] = 0x31;
-    octets::write_u32(dst, 1, total as u32);
-    octets::write_u16(dst, 5, n as u16);
+    numbers::write_u32(dst, 1, total as u32);
+    numbers::write_u16(dst, 5, n as u16);
     group(names, lens, scores, 0, n, 0, top, dst, total, 0, true);
     Wrote::Bytes(total)
 }
