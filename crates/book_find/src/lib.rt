@@ -11,7 +11,7 @@ ghost use Rattle.book.specs.Ahead.{InFront};
 ghost use Rattle.book.specs.Held.{Held};
 ghost use Rattle.book_find.specs.Find.{HeadsBefore, Seeks, isAt};
 
-// How many names are before a key, and whether the name at that position is the key.
+// The place of a key among the names, and whether the name there is the key.
 pub struct Sought {
     pub index: usize,
     pub same: bool,
@@ -115,8 +115,8 @@ fn head_is(buf: &[u8], n: usize, bucket: usize, key: &[u8]) -> bool
     octets::equal(head_name(buf, n, bucket), key)
 }
 
-// How many names are below the key or, with `past`, below it or begun by it, and whether the next name is the key: bucket heads first, then
-// the names of one bucket.
+// The place of the key, how many names are below it or, with `past`, below it or begun by it, and whether the name there is the key: bucket
+// heads first, then the names of one bucket.
 pub fn seek(buf: &[u8], n: usize, key: &[u8], past: bool) -> Sought
     requires { ⌜ Held (now buf) n ⌝ }
     ensures { λ r. ⌜ Seeks past (now (key .entry)) (inBook (now (buf .entry))) r ⌝ }
@@ -153,7 +153,7 @@ pub fn seek(buf: &[u8], n: usize, key: &[u8], past: bool) -> Sought
     }
 }
 
-// The number alone.
+// The place of the key alone.
 pub fn place(buf: &[u8], n: usize, key: &[u8], past: bool) -> usize
     requires { ⌜ Held (now buf) n ⌝ }
     ensures { λ r. ⌜ r ≡ place past (now (key .entry)) (inBook (now (buf .entry))) ⌝ }

@@ -1,4 +1,4 @@
--- `book_find::place` meets its contract: the number that the search gave.
+-- `book_find::place` meets its contract: the place that the search gave.
 -- No loop, so no invariant. Assumes nothing.
 use Rattle.book_find.proofs.place.Statement.{statement}
 use Rattle.book_find.proofs.place.Tie as tie
