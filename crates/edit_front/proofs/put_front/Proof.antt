@@ -41,7 +41,7 @@ part-copy-start : tie.Need-part-copy-start
 part-copy-start c = omega arith
 
 part-copy-end : tie.Need-part-copy-end
-part-copy-end c = scores-inside (start (c .before) .pre)
+part-copy-end c = omega (arith, scores-inside (start (c .before) .pre))
 
 copy-requires : tie.Need-copy-requires
 copy-requires c κs = tt

@@ -1,5 +1,6 @@
 -- `edits::pass` meets its contract: its calls pass the parts of the result one after the other (proofs/Parts).
 -- No loop. Assumes nothing.
+use native.Mathlib.Omega.{arith}
 use borrow.Author.Needs.{needs}
 use Rattle.edits.proofs.Parts.{new-fits, out-reads, parts-few, parts-front, parts-in, parts-move, parts-out, parts-whole, rest-room}
 use Rattle.edits.proofs.pass.Statement.{statement}
@@ -52,7 +53,8 @@ leave-out-requires : tie.Need-leave-out-requires
 leave-out-requires c κs =
     let f = from (to (front (c .before .before))) in
     let n = count f in
-    out-reads (start n .pre .0) (n .count-after .ensures) (f .in-front .ensures)
+    let h = out-reads (start n .pre .0) (n .count-after .ensures) (f .in-front .ensures) in
+    (h .0, omega (arith, h .1))
 
 pass-run-requires : tie.Need-pass-run-requires
 pass-run-requires c κs =

@@ -62,7 +62,8 @@ name-fits r = omega (arith, name-long r, name-short r)
 score-at-requires : tie.Need-score-at-requires Inv-loop μ-loop
 score-at-requires c κs =
     let k = turn (c .before) in
-    omega (arith, left-sound (k .before .loop .inv .0) (k .loop-test .taken) .low)
+    let v = k .before .loop .inv .0 in
+    omega (arith, left-sound v (k .loop-test .taken) .low, v .fits .few, v .fits .low)
 
 array-share-prefix-held : tie.Need-array-share-prefix-held Inv-loop μ-loop
 array-share-prefix-held c = held-fits (read (scored c))
