@@ -17,7 +17,7 @@ use Rattle.front_coding.specs.Records.{bucketHead, recordOf}
 use Rattle.front_coding.proofs.Steps.{take-sets}
 use Rattle.book.specs.Book.{bookImage, imageIn, layout21, recordsAt}
 use Rattle.book.proofs.Size.{book-length}
-use Rattle.book_writer.specs.Calls.{Put, PutAt, PutRoom, RoomAt, Started}
+use Rattle.book_writer.specs.Calls.{Put, PutRoom, Started}
 use Rattle.book_writer.specs.Writing.{finished}
 use Rattle.book_writer.proofs.Partial.{Partial, partial-start}
 use Rattle.book_writer.proofs.Put.{partial-put, room}
@@ -27,18 +27,6 @@ use Rattle.front_coding.specs.declared.Cursor.{Cursor}
 -- a name copied to the front of an array stands there
 pub name-copied : (a w : List ℕ) {new : List ℕ} → length w ≤ length a → new ≡ sets a 0 w → take (length w) new ≡ w
 name-copied a w h e = let z : 0 + length w ≡ length w = omega arith in rw e (rw z at (take-sets a 0 w (omega arith)))
-
--- an entry put at the cursor c, by the plain values of it
-module _ {d : List ℕ} {n : ℕ} {c : Cursor} {w : List ℕ} where
-  pub room-at : PutRoom d n c w → RoomAt d n (c .index) (c .at) (nameIn c) w
-  room-at a = record { few = a .few; low = a .low; near = a .near; short = a .short; fits = a .fits }
-
-  -- r is the cursor behind it
-  pub put-cursor :
-      {new : List ℕ} {s end : ℕ} {r : Cursor} → PutAt d new n (c .index) (c .at) (nameIn c) w s end → r .index ≡ c .index + 1 → r .at ≡ end
-      → nameIn r ≡ w → r .len ≤ longestName → Put d new n c w s r
-  put-cursor p index at name small =
-      record { bytes = p .bytes; index = index; end = at ∙ p .end; name = name; small = small }
 
 pub start-partial :
     (es : List Entry) (d : List ℕ) {n : ℕ} {c : Cursor} → n ≡ length es → length (bookImage es) ≤ length d → Started n c → Partial es d c d
@@ -52,7 +40,7 @@ module _ {es : List Entry} {d₀ : List ℕ} {c : Cursor} {d : List ℕ} (p : Pa
 
   -- the next entry, with the name w
   module _ (h : c .index < length es) {w : List ℕ} (called : w ≡ at es (c .index) .name) where
-    pub partial-room : valid es ≡ true → PutRoom d n c w
+    pub partial-room : valid es ≡ true → PutRoom d n (c .index) (c .at) (nameIn c) w
     unfolding bookImage
     partial-room ok =
         let v = valid-of es ok in
@@ -65,14 +53,15 @@ module _ {es : List Entry} {d₀ : List ℕ} {c : Cursor} {d : List ℕ} (p : Pa
         record {
           few = omega arith;
           low = omega arith;
-          small = p .small;
           near = omega arith;
           short = rw called (name-length (at es (c .index) .name) (at-all (λ e. isName (e .name)) noEntry es (v .allowed) (c .index) h));
           fits = omega arith;
         }
 
+    -- it is put, and r is the cursor behind it
     pub put-partial :
-        {s : ℕ} {new : List ℕ} {r : Cursor} → s ≡ at es (c .index) .score → Put d new n c w s r → Partial es d₀ r new
-    put-partial {s} {new} {r} scored put =
+        {s end : ℕ} {new : List ℕ} {r : Cursor} → s ≡ at es (c .index) .score → Put d new n (c .index) (c .at) (nameIn c) w s end
+        → r .index ≡ c .index + 1 → r .at ≡ end → nameIn r ≡ w → r .len ≤ longestName → Partial es d₀ r new
+    put-partial {new = new} {r} scored put index behind name small =
         subst (Partial es d₀ r) (sym (put .bytes ∙ rw (many, called, scored)))
-        (partial-put es d₀ c d p h r (put .index) (put .end ∙ rw called) (put .name ∙ called) (put .small))
+        (partial-put es d₀ c d p h r index (behind ∙ put .end ∙ rw called) (name ∙ called) small)

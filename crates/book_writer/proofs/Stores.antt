@@ -1,4 +1,4 @@
--- The stores of `put_at` and of `finish`, one after the other: they put the entry, and leave the finished book.
+-- The stores of `put_entry` and of `finish`, one after the other: they put the entry, and leave the finished book.
 use Prim.Native.Nat.{_*_, _+_, _≤_, ℕ}
 use mathlib.Core.Path.{_≡_, refl}
 use mathlib.Core.List.{List, [], _∷_}
@@ -13,13 +13,13 @@ use Rattle.front_coding.specs.Records.{bucketHead, recordOf}
 use Rattle.front_coding.specs.Written.{Wrote}
 use Rattle.front_coding.proofs.Steps.{take-sets}
 use Rattle.book.specs.Book.{blockSize, layout21}
-use Rattle.book_writer.specs.Calls.{PutAt}
+use Rattle.book_writer.specs.Calls.{Put}
 use Rattle.book_writer.specs.Writing.{finished, putEntry, putFrame, putOffset, putPeaks}
 use Rattle.front_coding.specs.declared.Cursor.{Cursor}
 
 pub entry-put :
     (d : List ℕ) {d₁ d₂ d₃ : List ℕ} (n i at : ℕ) (prev w : List ℕ) (s : ℕ) {end : ℕ} → d₁ ≡ sets d (7 + 4 * i) (be 4 s)
-    → d₂ ≡ putOffset n i at d₁ → Wrote d₂ d₃ at (recordOf bucketHead i prev w) end → PutAt d d₃ n i at prev w s end
+    → d₂ ≡ putOffset n i at d₁ → Wrote d₂ d₃ at (recordOf bucketHead i prev w) end → Put d d₃ n i at prev w s end
 unfolding putEntry
 entry-put d n i at prev w s scored pointed recorded =
     record { bytes = rw (recorded .bytes, pointed, scored); end = recorded .end }

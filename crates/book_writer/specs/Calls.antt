@@ -5,7 +5,6 @@ use mathlib.Core.List.{List}
 use lib.ListN.{length}
 use Rattle.entries.specs.Entries.{entry, maxEntries}
 use Rattle.entries.specs.Names.{longestName}
-use Rattle.front_coding.specs.Cursor.{nameIn}
 use Rattle.front_coding.specs.Records.{bucketHead, recordOf}
 use Rattle.book.specs.Book.{layout21, recordsAt}
 use Rattle.book_writer.specs.Writing.{putEntry}
@@ -18,7 +17,7 @@ pub record Started (n : ℕ) (r : Cursor) : Type 0 where
   pub len : r .len ≡ 0
 
 -- an entry named w can be put into d, which takes a book of n entries: at position i, its record at index `at` behind the name prev
-pub record RoomAt (d : List ℕ) (n i at : ℕ) (prev w : List ℕ) : Type 0 where
+pub record PutRoom (d : List ℕ) (n i at : ℕ) (prev w : List ℕ) : Type 0 where
   pub few : n ≤ maxEntries
   pub low : i < maxEntries
   pub near : at < 65536
@@ -26,23 +25,6 @@ pub record RoomAt (d : List ℕ) (n i at : ℕ) (prev w : List ℕ) : Type 0 whe
   pub fits : at + length (recordOf bucketHead i prev w) ≤ length d
 
 -- the entry named w with the score s was put there: new is the buffer then, and r where the entry's record ends
-pub record PutAt (d new : List ℕ) (n i at : ℕ) (prev w : List ℕ) (s r : ℕ) : Type 0 where
+pub record Put (d new : List ℕ) (n i at : ℕ) (prev w : List ℕ) (s r : ℕ) : Type 0 where
   pub bytes : new ≡ putEntry n i prev at (entry w s) d
   pub end : r ≡ at + length (recordOf bucketHead i prev w)
-
--- the same at a cursor: an entry named w can be put at the cursor c
-pub record PutRoom (d : List ℕ) (n : ℕ) (c : Cursor) (w : List ℕ) : Type 0 where
-  pub few : n ≤ maxEntries
-  pub low : c .index < maxEntries
-  pub small : c .len ≤ longestName
-  pub near : c .at < 65536
-  pub short : length w ≤ longestName
-  pub fits : c .at + length (recordOf bucketHead (c .index) (nameIn c) w) ≤ length d
-
--- the entry named w with the score s was put at the cursor c: new is the buffer then, and r the cursor behind the entry's record
-pub record Put (d new : List ℕ) (n : ℕ) (c : Cursor) (w : List ℕ) (s : ℕ) (r : Cursor) : Type 0 where
-  pub bytes : new ≡ putEntry n (c .index) (nameIn c) (c .at) (entry w s) d
-  pub index : r .index ≡ c .index + 1
-  pub end : r .at ≡ c .at + length (recordOf bucketHead (c .index) (nameIn c) w)
-  pub name : nameIn r ≡ w
-  pub small : r .len ≤ longestName

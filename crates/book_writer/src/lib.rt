@@ -5,7 +5,7 @@ ghost use Rattle.octets.specs.Lists.{ceil};
 ghost use Rattle.entries.specs.Entries.{maxEntries};
 ghost use Rattle.book.specs.Book.{blockSize};
 ghost use Rattle.book_writer.specs.Writing.{finished, putOffset, putPeak, putPeaks};
-ghost use Rattle.book_writer.specs.Calls.{Put, PutAt, PutRoom, RoomAt, Started};
+ghost use Rattle.book_writer.specs.Calls.{Put, PutRoom, Started};
 
 // The cursor at the first record of a book of n entries.
 pub fn start(n: usize) -> front_coding::Cursor
@@ -33,7 +33,7 @@ fn put_offset(dst: &mut [u8], n: usize, index: usize, at: usize)
 
 // Puts the entry at a position of n, its record at index `at` behind the name prev: its score, the offset if it is a bucket's head, the
 // record. Where the record ends.
-pub fn put_at(
+pub fn put_entry(
     dst: &mut [u8],
     n: usize,
     index: usize,
@@ -42,37 +42,12 @@ pub fn put_at(
     name: &[u8],
     score: u32,
 ) -> usize
-    requires { ⌜ RoomAt (now dst) n index at (now prev) (now name) ⌝ }
-    ensures { λ r. ⌜ PutAt (now (dst .entry)) (now (dst .exit)) n index at (now (prev .entry)) (now (name .entry)) score r ⌝ }
+    requires { ⌜ PutRoom (now dst) n index at (now prev) (now name) ⌝ }
+    ensures { λ r. ⌜ Put (now (dst .entry)) (now (dst .exit)) n index at (now (prev .entry)) (now (name .entry)) score r ⌝ }
 {
     numbers::write_u32(dst, 7 + 4 * index, score);
     put_offset(dst, n, index, at);
     front_coding::put_record(dst, at, index, prev, name)
-}
-
-// Puts the next entry of n at a cursor. The cursor behind it.
-pub fn put_entry(
-    dst: &mut [u8],
-    n: usize,
-    c: front_coding::Cursor,
-    name: &[u8],
-    score: u32,
-) -> front_coding::Cursor
-    requires { ⌜ PutRoom (now dst) n c (now name) ⌝ }
-    ensures { λ r. ⌜ Put (now (dst .entry)) (now (dst .exit)) n c (now (name .entry)) score r ⌝ }
-{
-    let at = c.at;
-    let index = c.index;
-    let len = c.len;
-    let mut held = c.name;
-    let end = put_at(dst, n, index, at, &held[..len], name, score);
-    octets::copy(&mut held, 0, name);
-    front_coding::Cursor {
-        at: end,
-        index: index + 1,
-        name: held,
-        len: name.len(),
-    }
 }
 
 // Where block j of n entries ends.

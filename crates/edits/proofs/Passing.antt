@@ -15,7 +15,7 @@ use Rattle.front_coding.specs.Cursor.{nameIn}
 use Rattle.front_coding.specs.Records.{bucketHead, lastOr, recordOf, records}
 use Rattle.front_coding.specs.Written.{Sized}
 use Rattle.front_coding.proofs.Records.{records-append}
-use Rattle.book_writer.specs.Calls.{PutAt, RoomAt}
+use Rattle.book_writer.specs.Calls.{Put, PutRoom}
 use Rattle.book_writer.specs.Writing.{putEntry, putOffset}
 use Rattle.edits.specs.Passing.{Fits, Passed, Went, afterPass, cursorBehind, endOf, putAll}
 use Rattle.edits.specs.Splice.{putIn}
@@ -197,7 +197,7 @@ module _ {store : Bool} {n i at : ℕ} {prev w : List ℕ} {s : ℕ} {d : List �
   one-went : {r : ℕ} → r ≡ at + length (recordOf bucketHead i prev w) → Went (cursorBehind at i prev) (entry w s ∷ []) (cursorBehind r (i + 1) w)
   one-went e = record { index = refl; end = e ∙ sym one-ends; name = take-length w; small = one-short }
 
-  pub one-room : store ≡ true → RoomAt d n i at prev w
+  pub one-room : store ≡ true → PutRoom d n i at prev w
   one-room t =
       record {
         few = f .few;
@@ -207,7 +207,7 @@ module _ {store : Bool} {n i at : ℕ} {prev w : List ℕ} {s : ℕ} {d : List �
         fits = rw one-ends at (f .enough t);
       }
 
-  pub passed-put : {r : ℕ} {new : List ℕ} → store ≡ true → PutAt d new n i at prev w s r → Passed store n (cursorBehind at i prev) (entry w s ∷ []) d (cursorBehind r (i + 1) w) new
+  pub passed-put : {r : ℕ} {new : List ℕ} → store ≡ true → Put d new n i at prev w s r → Passed store n (cursorBehind at i prev) (entry w s ∷ []) d (cursorBehind r (i + 1) w) new
   passed-put t p = record { bytes = rw (t, take-length) (p .bytes); went = one-went (p .end) }
 
   pub passed-measured :

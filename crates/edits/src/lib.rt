@@ -29,7 +29,7 @@ fn pass_entry(
         (cursorBehind r (index + 1) (now (name .entry))) (now (dst .exit)) ⌝ }
 {
     if store {
-        return book_writer::put_at(dst, n, index, at, prev, name, score);
+        return book_writer::put_entry(dst, n, index, at, prev, name, score);
     }
     at + front_coding::record_size(index, prev, name)
 }

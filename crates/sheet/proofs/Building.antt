@@ -17,9 +17,9 @@ use Rattle.book.specs.Book.{bookImage, layout21, recordsAt}
 use Rattle.book.proofs.Ahead.{names-at}
 use Rattle.book.proofs.Reading.{image-length}
 use Rattle.book.proofs.Size.{book-length}
-use Rattle.book_writer.specs.Calls.{PutAt, RoomAt}
+use Rattle.book_writer.specs.Calls.{Put, PutRoom}
 use Rattle.book_writer.specs.Writing.{finished}
-use Rattle.book_writer.proofs.Calls.{finish-whole, partial-room, put-cursor, put-partial, room-at, start-partial}
+use Rattle.book_writer.proofs.Calls.{finish-whole, partial-room, put-partial, start-partial}
 use Rattle.book_writer.proofs.Partial.{Partial}
 use Rattle.sheet.specs.Held.{HeldSheet}
 use Rattle.sheet.specs.Sheet.{inSheet}
@@ -117,12 +117,12 @@ module _
       pub fill-here : Here sheet (inSheet sheet) i k
       fill-here = here sheet (inSheet sheet) (valid-all (inSheet sheet) (sheet-ok s)) i k before (g .stands)
 
-      pub fill-room : RoomAt d n i m (between a b sheet) (between (k + 1) (k + 1 + getD sheet k 0) sheet)
-      fill-room = room-at (partial-room (g .put) (s .count) before (fill-here .name) (sheet-ok s))
+      pub fill-room : PutRoom d n i m (between a b sheet) (between (k + 1) (k + 1 + getD sheet k 0) sheet)
+      fill-room = partial-room (g .put) (s .count) before (fill-here .name) (sheet-ok s)
 
       pub fill-turn :
           {v r : ℕ} {new : List ℕ} → v ≡ numberAt 4 sheet (k + 1 + getD sheet k 0)
-          → PutAt d new n i m (between a b sheet) (between (k + 1) (k + 1 + getD sheet k 0) sheet) v r
+          → Put d new n i m (between a b sheet) (between (k + 1) (k + 1 + getD sheet k 0) sheet) v r
           → Filling sheet d₀ r (k + 1 + getD sheet k 0 + 4) (k + 1) (k + 1 + getD sheet k 0) (i + 1) new
       fill-turn {r = r} e p =
           let l = length-take-le (k + 1 + getD sheet k 0 - (k + 1)) (drop (k + 1) sheet) (omega (arith, length-drop (k + 1) sheet, fill-here .room)) in
@@ -131,7 +131,6 @@ module _
             behind = omega arith;
             stands = fill-here .next;
             put =
-                put-partial (g .put) (s .count) before (fill-here .name) (e ∙ fill-here .score)
-                (put-cursor {r = cursor sheet r (k + 1) (k + 1 + getD sheet k 0) (i + 1)} p refl refl refl
-                (omega (arith, l, ap length (fill-here .name), fill-here .short)));
+                put-partial (g .put) (s .count) before (fill-here .name) {r = cursor sheet r (k + 1) (k + 1 + getD sheet k 0) (i + 1)}
+                (e ∙ fill-here .score) p refl refl refl (omega (arith, l, ap length (fill-here .name), fill-here .short));
           }

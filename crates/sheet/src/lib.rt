@@ -117,7 +117,7 @@ pub fn fill_book(sheet: &[u8], n: usize, total: usize, dst: &mut [u8])
         let end = start + sheet[from] as usize;
         let score = numbers::read_u32(sheet, end);
         let prior = &sheet[prev..prev_end];
-        at = book_writer::put_at(dst, n, i, at, prior, &sheet[start..end], score);
+        at = book_writer::put_entry(dst, n, i, at, prior, &sheet[start..end], score);
         prev = start;
         prev_end = end;
         from = end + 4;

@@ -9,7 +9,7 @@ use lib.Seq.{drop-cons, getD-take, length-sets, length-take-le, set-at, set-comm
 use native.Mathlib.Nat.{add-zero, not-suc-le-zero}
 use native.Mathlib.Omega.{arith}
 use Rattle.octets.specs.Lists.{_∈_, concatMap}
-use Rattle.octets.proofs.Lists.{in-map}
+use Rattle.octets.proofs.Lists.{concat-append, in-map}
 use Rattle.entries.specs.Entries.{Entry}
 use Rattle.entries.specs.Names.{longestName}
 use Rattle.trie.specs.Trie.{byFirst, usedUp}
@@ -57,10 +57,6 @@ getD-in : (rs : List Run) (i : ℕ) → i < length rs → getD rs i noRun ∈ rs
 getD-in [] i h = absurd (not-suc-le-zero h)
 getD-in (r ∷ rs) zero h = inl refl
 getD-in (r ∷ rs) (suc i) h = inr (getD-in rs i (omega arith))
-
-concat-append : (f : Run → List ℕ) (xs ys : List Run) → concatMap f (xs ++ ys) ≡ concatMap f xs ++ concatMap f ys
-concat-append f [] ys = refl
-concat-append f (x ∷ xs) ys = rw (concat-append f xs ys) (sym (append-assoc (f x) (concatMap f xs) (concatMap f ys)))
 
 -- The groups behind index i of the runs L are put, and M has their lengths filled in.
 pub record Going (es : List Entry) (d total back : ℕ) (put : Bool) (dst₀ : List ℕ) (L : List Run) (dst : List ℕ) (M : List Run) (b i : ℕ) : Type 0 where

@@ -6,8 +6,8 @@ use Rattle.edits.proofs.Passing.{one-room, one-short, passed-measured, 
 use Rattle.edits.proofs.pass_entry.Statement.{statement}
 use Rattle.edits.proofs.pass_entry.Tie as tie
 
-put-at-requires : tie.Need-put-at-requires
-put-at-requires c κs = let t = c .before in one-room (t .before .before .before .before .pre) (t .if1 .taken)
+put-entry-requires : tie.Need-put-entry-requires
+put-entry-requires c κs = let t = c .before in one-room (t .before .before .before .before .pre) (t .if1 .taken)
 
 same-length : tie.Need-same-length
 same-length c = search needs
@@ -16,7 +16,7 @@ returns : tie.Need-returns
 returns c =
     let p = c .before .before in
     let t = p .before .before in
-    passed-put (t .before .before .before .before .pre) (t .if1 .taken) (p .put-at .ensures)
+    passed-put (t .before .before .before .before .pre) (t .if1 .taken) (p .put-entry .ensures)
 
 record-size-requires : tie.Need-record-size-requires
 record-size-requires c κs = one-short (c .before .before .before .before .pre)
@@ -31,4 +31,4 @@ returns-2 c =
 
 pub pass-entry-spec : {M : Type 1} → statement M
 pass-entry-spec =
-    tie.close (tie.spec put-at-requires same-length returns record-size-requires add-result returns-2)
+    tie.close (tie.spec put-entry-requires same-length returns record-size-requires add-result returns-2)

@@ -58,24 +58,24 @@ part-prior-start c = omega (arith, c .before .before .before .loop .inv .ordered
 part-prior-end : tie.Need-part-prior-end Inv-loop μ-loop
 part-prior-end c = let k = c .before .before in omega (arith, k .before .loop .inv .behind, there k .room)
 
-sub-put-at : tie.Need-sub-put-at Inv-loop μ-loop
-sub-put-at c = omega (arith, there (c .before .before .before .before) .room)
+sub-put-entry : tie.Need-sub-put-entry Inv-loop μ-loop
+sub-put-entry c = omega (arith, there (c .before .before .before .before) .room)
 
-part-put-at-start : tie.Need-part-put-at-start Inv-loop μ-loop
-part-put-at-start c = omega (arith, there (c .before .before .before .before) .room)
+part-put-entry-start : tie.Need-part-put-entry-start Inv-loop μ-loop
+part-put-entry-start c = omega (arith, there (c .before .before .before .before) .room)
 
-part-put-at-end : tie.Need-part-put-at-end Inv-loop μ-loop
-part-put-at-end c = omega (arith, there (c .before .before .before .before) .room)
+part-put-entry-end : tie.Need-part-put-entry-end Inv-loop μ-loop
+part-put-entry-end c = omega (arith, there (c .before .before .before .before) .room)
 
 -- a turn: the score read in it, its start
-abbrev read : tie.After-put-at-arg2 Inv-loop μ-loop → tie.After-read-u32 Inv-loop μ-loop
+abbrev read : tie.After-put-entry-arg2 Inv-loop μ-loop → tie.After-read-u32 Inv-loop μ-loop
 read a = a .before .before .before
 
-abbrev turn : tie.After-put-at-arg2 Inv-loop μ-loop → tie.In-loop Inv-loop μ-loop
+abbrev turn : tie.After-put-entry-arg2 Inv-loop μ-loop → tie.In-loop Inv-loop μ-loop
 turn a = read a .before .before
 
-put-at-requires : tie.Need-put-at-requires Inv-loop μ-loop
-put-at-requires c κs =
+put-entry-requires : tie.Need-put-entry-requires Inv-loop μ-loop
+put-entry-requires c κs =
     let k = turn c in
     let l = k .before in
     fill-room (start l .pre .0) (l .loop .inv) (k .loop-test .taken)
@@ -94,7 +94,7 @@ loop-again c =
     let p = c .before .before in
     let k = turn (p .before) in
     let l = k .before in
-    fill-turn (start l .pre .0) (l .loop .inv) (k .loop-test .taken) (read (p .before) .read-u32 .ensures) (p .put-at .ensures)
+    fill-turn (start l .pre .0) (l .loop .inv) (k .loop-test .taken) (read (p .before) .read-u32 .ensures) (p .put-entry .ensures)
 
 finish-requires : tie.Need-finish-requires Inv-loop μ-loop
 finish-requires c κs =
@@ -129,10 +129,10 @@ fill-book-spec =
     sub-prior
     part-prior-start
     part-prior-end
-    sub-put-at
-    part-put-at-start
-    part-put-at-end
-    put-at-requires
+    sub-put-entry
+    part-put-entry-start
+    part-put-entry-end
+    put-entry-requires
     add-from
     add-i
     loop-less
