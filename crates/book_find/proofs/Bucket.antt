@@ -5,31 +5,36 @@ use mathlib.Core.Logic.{_⊎_, inl, inr}
 use mathlib.Core.Bool.{Bool, false, false≢true, true}
 use mathlib.Core.List.{List}
 use lib.Dec.{ltb}
-use lib.ListN.{length}
+use lib.ListN.{drop, length, take}
 use native.Mathlib.Numerals.{add-one}
 use native.Mathlib.Omega.{arith}
 use borrow.Author.Tests.{eq-eqb, le-ltb, lt-ltb, ltb-false, ltb-true}
 use Rattle.octets.specs.Octets.{same}
 use Rattle.octets.proofs.Tests.{by-test}
 use Rattle.entries.specs.Entries.{Entry, at, entry}
+use Rattle.entries.specs.Names.{longestName}
 use Rattle.entries.specs.Place.{isBefore, place}
 use Rattle.entries.proofs.Place.{place-unique}
 use Rattle.entries.proofs.Valid.{Valid}
-use Rattle.front_coding.specs.Cursor.{Sound, Stepped, cursorOf, nameIn}
+use Rattle.front_coding.specs.Cursor.{Stepped, cursorOf, nameIn}
 use Rattle.front_coding.specs.Records.{bucketHead, bucketSize}
 use Rattle.front_coding.proofs.Writing.{same-record}
 use Rattle.book.specs.Ahead.{Ahead, InFront, nameBefore, recordAt}
 use Rattle.book.specs.Book.{layout21, offset}
-use Rattle.book.proofs.Ahead.{ahead-bucket, ahead-sound, step-ahead, step-at, step-index, step-name}
+use Rattle.book.proofs.Ahead.{ahead-bucket, step-ahead, step-at, step-name}
 use Rattle.book.proofs.Front.{last-next, record-next}
 use Rattle.book.proofs.Stored.{Stored}
+use Rattle.book_records.specs.Parts.{Inside, Read}
+use Rattle.book_records.proofs.Reading.{read-long, step-inside, step-read, stepBy}
 use Rattle.book_find.specs.Find.{HeadsBefore, isAt}
+use Rattle.book_records.specs.declared.Parts.{Parts}
 use Rattle.front_coding.specs.declared.Cursor.{Cursor}
 use Rattle.front_coding.specs.declared.Step.{Step}
 
 -- from position `first` on, at most up to `end`
 pub record Reached (es : List Entry) (buf : List ℕ) (first end : ℕ) (c : Cursor) : Type 0 where
   pub ahead : Ahead es buf c
+  pub long : length (c .name) ≡ longestName
   pub from : first ≤ c .index
   pub upto : c .index ≤ end
   pub head : bucketHead first ≡ true
@@ -39,28 +44,26 @@ pub record Reached (es : List Entry) (buf : List ℕ) (first end : ℕ) (c : Cur
 module _ {buf : List ℕ} {es : List Entry} where
   pub reach-start :
       (bucket : ℕ) {end k : ℕ} {name : List ℕ} → Stored buf es → k ≡ offset layout21 es bucket → bucketSize * bucket ≤ end → end ≤ length es
-      → Reached es buf (bucketSize * bucket) end (cursorOf k (bucketSize * bucket) name 0)
+      → length name ≡ longestName → Reached es buf (bucketSize * bucket) end (cursorOf k (bucketSize * bucket) name 0)
   unfolding offset
-  reach-start bucket {end} {k} {name} s e h l =
+  reach-start bucket {end} {k} {name} s e h l m =
       record {
         ahead = ahead-bucket buf es s (cursorOf k (bucketSize * bucket) name 0) bucket (omega arith) e refl refl;
+        long = m;
         from = omega arith;
         upto = h;
         head = eq-eqb (bucketSize * bucket % bucketSize) 0 (omega arith);
         place = e;
-        name = λ m. absurd (omega arith);
+        name = λ z. absurd (omega arith);
       }
 
   -- one step
   module _ {first end : ℕ} {c : Cursor} (v : Valid es) (w : Reached es buf first end c) (k : end ≤ length es) (l : c .index < end) where
-    pub reach-sound : Sound buf c
-    reach-sound = ahead-sound es v buf c (w .ahead) (omega arith)
+    low : c .index < length es
+    low = omega arith
 
-    reach-index : {r : Step} → Stepped buf c r → r .next .index ≡ c .index + 1
-    reach-index {r} t = step-index es v buf c (w .ahead) (omega arith) r t
-
-    reach-name : {r : Step} → Stepped buf c r → nameIn (r .next) ≡ at es (c .index) .name
-    reach-name {r} t = step-name es v buf c (w .ahead) (omega arith) r t
+    pub reach-inside : Inside (drop (c .at) buf) (c .index) (length (c .name))
+    reach-inside = step-inside v (w .ahead) (w .long) low
 
     -- the name before, where the record depends on it
     reach-before : nameIn c ≡ nameBefore es (c .index) ⊎ (bucketHead (c .index) ≡ true)
@@ -75,24 +78,35 @@ module _ {buf : List ℕ} {es : List Entry} where
         let z : c .index ≡ first = omega (arith, w .from) in
         inr (rw z (w .head)))
 
-    reach-place : {r : Step} → Stepped buf c r → r .next .at ≡ recordAt es (suc (c .index))
-    reach-place {r} t =
-        step-at es v buf c (w .ahead) (omega arith) r t
-        ∙ rw (w .place, same-record bucketHead (c .index) (nameIn c) (nameBefore es (c .index)) (at es (c .index) .name) reach-before)
-        (sym (record-next es (c .index) (omega arith)))
+    -- the record there was read: its parts, and its name in the array
+    module _ {name : List ℕ} {p : Parts} (r : Read (drop (c .at) buf) (c .index) (c .name) name p) where
+      abbrev step : Step
+      step = stepBy c name p
 
-    pub reach-on : {r : Step} → Stepped buf c r → Reached es buf first end (r .next)
-    reach-on {r} t =
-        let x = reach-index t in
-        let z : r .next .index - 1 ≡ c .index = omega arith in
-        record {
-          ahead = step-ahead es v buf c (w .ahead) (omega arith) r t;
-          from = omega (arith, w .from);
-          upto = omega arith;
-          head = w .head;
-          place = rw (x, add-one (c .index)) (reach-place t);
-          name = λ m. rw z (reach-name t);
-        }
+      stepped : Stepped buf c step
+      stepped = step-read v (w .ahead) (w .long) low r
+
+      reach-name : nameIn (step .next) ≡ at es (c .index) .name
+      reach-name = step-name es v buf c (w .ahead) low step stepped
+
+      reach-place : step .next .at ≡ recordAt es (suc (c .index))
+      reach-place =
+          step-at es v buf c (w .ahead) low step stepped
+          ∙ rw (w .place, same-record bucketHead (c .index) (nameIn c) (nameBefore es (c .index)) (at es (c .index) .name) reach-before)
+          (sym (record-next es (c .index) low))
+
+      pub reach-on : Reached es buf first end (stepBy c name p .next)
+      reach-on =
+          let z : c .index + 1 - 1 ≡ c .index = omega arith in
+          record {
+            ahead = step-ahead es v buf c (w .ahead) low step stepped;
+            long = read-long v (w .ahead) (w .long) low r;
+            from = omega (arith, w .from);
+            upto = omega arith;
+            head = w .head;
+            place = rw (add-one (c .index)) reach-place;
+            name = λ m. rw z reach-name;
+          }
 
   -- behind the record at position i
   pub reach-end : {first i : ℕ} {c : Cursor} → Reached es buf first (i + 1) c → first ≤ i → i < c .index → nameIn c ≡ at es i .name
@@ -108,54 +122,59 @@ module _ {buf : List ℕ} {es : List Entry} where
         name = reach-end w h l ∙ sym (rw (← add-one i) at (last-next es i k));
       }
 
--- the walk that looks for the place of a key: the name held, as all before it, is before the key
-pub record Passed (past : Bool) (key : List ℕ) (es : List Entry) (buf : List ℕ) (first end : ℕ) (c : Cursor) : Type 0 where
-  pub reached : Reached es buf first end c
-  pub before : first < c .index → isBefore past key (entry (nameIn c) 0) ≡ true
+-- the walk that looks for the place of a key: index k and position i are reached, and the name before, as all before it, is before the key
+pub record Passed (past : Bool) (key : List ℕ) (es : List Entry) (buf : List ℕ) (first end k i : ℕ) (name : List ℕ) : Type 0 where
+  pub len : ℕ
+  pub reached : Reached es buf first end (cursorOf k i name len)
+  pub before : first < i → isBefore past key (at es (i - 1)) ≡ true
 
 module _ {past : Bool} {key buf : List ℕ} {es : List Entry} where
   pub pass-start :
       (bucket : ℕ) {end k : ℕ} {name : List ℕ} → Stored buf es → k ≡ offset layout21 es bucket → bucketSize * bucket ≤ end → end ≤ length es
-      → Passed past key es buf (bucketSize * bucket) end (cursorOf k (bucketSize * bucket) name 0)
-  pass-start bucket s e h l = record { reached = reach-start bucket s e h l; before = λ m. absurd (omega arith) }
+      → length name ≡ longestName → Passed past key es buf (bucketSize * bucket) end k (bucketSize * bucket) name
+  pass-start bucket s e h l m = record { len = 0; reached = reach-start bucket s e h l m; before = λ z. absurd (omega arith) }
 
-  module _ {first end : ℕ} {c : Cursor} (v : Valid es) (p : Passed past key es buf first end c) (k : end ≤ length es) where
-    pub pass-on :
-        {r : Step} → c .index < end → Stepped buf c r → isBefore past key (entry (nameIn (r .next)) 0) ≡ true
-        → Passed past key es buf first end (r .next)
-    pass-on l t b = record { reached = reach-on v (p .reached) k l t; before = λ m. b }
+  module _
+      {first end k i : ℕ} {name : List ℕ} (v : Valid es) (g : Passed past key es buf first end k i name) (h : end ≤ length es)
+    where
+      -- the record there was read
+      module _ (l : i < end) {new : List ℕ} {p : Parts} (r : Read (drop k buf) i name new p) where
+        is-next : take (p .kept + p .own) new ≡ at es i .name
+        is-next = reach-name v (g .reached) h l r
 
-    -- the entry in front of the cursor is before the key
-    left : first < c .index → isBefore past key (at es (c .index - 1)) ≡ true
-    left l = rw (p .reached .name l) at (p .before l)
+        pub pass-on :
+            isBefore past key (entry (take (p .kept + p .own) new) 0) ≡ true
+            → Passed past key es buf first end (k + (p .start + p .own)) (i + 1) new
+        pass-on b =
+            let z : i + 1 - 1 ≡ i = omega arith in
+            record { len = p .kept + p .own; reached = reach-on v (g .reached) h l r; before = λ m. rw z (rw is-next at b) }
 
-    -- a name that is not before the key: the head is, so it is not the head
-    pub pass-stop :
-        {r : Step} → c .index < end → Stepped buf c r → isBefore past key (at es first) ≡ true
-        → isBefore past key (entry (nameIn (r .next)) 0) ≡ false → c .index ≡ place past key es
-    pass-stop l t h b =
-        let right : isBefore past key (at es (c .index)) ≡ false = rw (reach-name v (p .reached) k l t) at b in
-        sym
-        (place-unique past key es (v .order) (c .index) (omega arith)
-        (λ z.
-        by-test (ltb first (c .index))
-        (λ u. left (ltb-true first (c .index) u))
-        (λ u.
-        let o = ltb-false first (c .index) u in
-        let e : c .index ≡ first = omega (arith, p .reached .from) in
-        absurd (false≢true (sym right ∙ (rw e h)))))
-        (λ z. right))
+        -- a name that is not before the key: the head is, so it is not the head
+        pub pass-stop :
+            isBefore past key (at es first) ≡ true → isBefore past key (entry (take (p .kept + p .own) new) 0) ≡ false
+            → i ≡ place past key es
+        pass-stop f b =
+            let right : isBefore past key (at es i) ≡ false = rw is-next at b in
+            sym
+            (place-unique past key es (v .order) i (omega arith)
+            (λ z.
+            by-test (ltb first i)
+            (λ u. g .before (ltb-true first i u))
+            (λ u.
+            let o = ltb-false first i u in
+            let e : i ≡ first = omega (arith, g .reached .from) in
+            absurd (false≢true (sym right ∙ (rw e f)))))
+            (λ z. right))
 
-    -- the name that was read is the one in front of the cursor
-    pub pass-same : {r : Step} → c .index < end → Stepped buf c r → same (nameIn (r .next)) key ≡ isAt es (c .index) key
-    pass-same l t = rw (lt-ltb (c .index) (length es) (omega arith), reach-name v (p .reached) k l t)
+        -- the name that was read is the one at the position
+        pub pass-same : same (take (p .kept + p .own) new) key ≡ isAt es i key
+        pass-same = rw (lt-ltb i (length es) (omega arith), is-next)
 
-    -- the end of the bucket
-    pub pass-end :
-        first < end → end ≤ c .index → (end < length es → isBefore past key (at es end) ≡ false) → end ≡ place past key es
-    pass-end f l right =
-        let e : c .index ≡ end = omega (arith, p .reached .upto) in
-        sym (place-unique past key es (v .order) end k (λ z. rw e at (left (omega arith))) right)
+      -- the end of the bucket
+      pub pass-end : first < end → end ≤ i → (end < length es → isBefore past key (at es end) ≡ false) → end ≡ place past key es
+      pass-end f l right =
+          let e : i ≡ end = omega (arith, g .reached .upto) in
+          sym (place-unique past key es (v .order) end h (λ z. rw e at (g .before (omega arith))) right)
 
 -- what the heads tell: the place where none is before the key, and the name behind the bucket of the last head that is
 module _ {past : Bool} {key : List ℕ} {es : List Entry} {heads : ℕ} (h : HeadsBefore past key es heads) where

@@ -60,9 +60,9 @@ pub fn cursor_at(buf: &[u8], n: usize, i: usize) -> front_coding::Cursor
     let mut at = offset_of(buf, n, bucket);
     let mut index = 8 * bucket;
     while index <= i {
-        let t = front_coding::read_record(buf, at, index, &mut name, len);
-        at = t.end;
-        len = t.len;
+        let p = book_records::read_name(buf, at, index, &mut name);
+        at += p.start + p.own;
+        len = p.kept + p.own;
         index += 1;
     }
     front_coding::Cursor {
@@ -132,19 +132,18 @@ pub fn seek(buf: &[u8], n: usize, key: &[u8], past: bool) -> Sought
     let bucket = heads - 1;
     let end = bucket_end(n, bucket);
     let mut name = [0u8; 48];
-    let mut len = 0;
     let mut at = offset_of(buf, n, bucket);
     let mut index = 8 * bucket;
     while index < end {
-        let t = front_coding::read_record(buf, at, index, &mut name, len);
-        at = t.end;
-        len = t.len;
+        let p = book_records::read_name(buf, at, index, &mut name);
+        let len = p.kept + p.own;
         if !is_before(&name[..len], key, past) {
             return Sought {
                 index: index,
                 same: octets::equal(&name[..len], key),
             };
         }
+        at += p.start + p.own;
         index += 1;
     }
     Sought {

@@ -4,7 +4,7 @@ use mathlib.Core.Path.{_∙_, _≡_, ap, refl, sym}
 use mathlib.Core.Bool.{true}
 use mathlib.Core.List.{List}
 use lib.Dec.{leb}
-use lib.ListN.{drop, length, length-drop, take}
+use lib.ListN.{drop, length, take}
 use lib.Seq.{length-sets, length-take-le, sets}
 use native.Mathlib.Omega.{arith}
 use borrow.Author.Tests.{leb-true}
@@ -12,7 +12,8 @@ use Rattle.octets.proofs.Lists.{at-all}
 use Rattle.octets.proofs.Tests.{and-true, by-test}
 use Rattle.entries.specs.Entries.{Entry, at, noEntry}
 use Rattle.entries.specs.Names.{isName, isPrefix, longestName}
-use Rattle.front_coding.specs.Cursor.{Sound, Stepped, nameIn}
+use Rattle.entries.proofs.Valid.{Valid}
+use Rattle.front_coding.specs.Cursor.{Stepped, cursorOf, nameIn}
 use Rattle.front_coding.specs.Parts.{recordPart}
 use Rattle.front_coding.specs.Records.{bucketHead}
 use Rattle.front_coding.specs.Step.{recordIs}
@@ -26,6 +27,7 @@ use Rattle.book.proofs.Lookups.{held-stored, held-valid}
 use Rattle.book_records.specs.Parts.{Inside, Read, ownBytes, partsAt}
 use Rattle.book_records.specs.declared.Parts.{Parts}
 use Rattle.front_coding.specs.declared.Cursor.{Cursor}
+use Rattle.front_coding.specs.declared.Step.{Step}
 use Rattle.front_coding.specs.declared.Part.the-variants.{Own}
 
 -- the parts of a record of a book are those that its tests find
@@ -42,6 +44,68 @@ parts-two i s = by-test (bucketHead i) (λ e. rw e (λ h. omega arith)) (λ e. r
 name-some : (w : List ℕ) → isName w ≡ true → 1 ≤ length w
 unfolding isName
 name-some w h = leb-true 1 (length w) (and-true (leb 1 (length w)) (isPrefix w) h .0)
+
+-- the step from a cursor to the next by the parts p of a record, which leaves the name new
+abbrev pub stepBy : Cursor → List ℕ → Parts → Step
+stepBy c new p = record { ok = true; next = cursorOf (c .at + (p .start + p .own)) (c .index + 1) new (p .kept + p .own) }
+
+-- One step from a cursor at a record, its name in 48 bytes.
+module _
+    {es : List Entry} (v : Valid es) {book : List ℕ} {c : Cursor} (a : Ahead es book c) (long : length (c .name) ≡ longestName) (h : c .index < length es)
+  where
+    abbrev s : List ℕ
+    s = drop (c .at) book
+
+    abbrev p : Parts
+    p = partsAt (c .index) (drop (c .at) book)
+
+    abbrev new : List ℕ
+    new = sets (c .name) (p .kept) (ownBytes s p)
+
+    -- the step that the parts make, where the record's tests hold
+    own-step : recordIs bucketHead (c .index) (nameIn c) s ≡ true → Stepped book c (stepBy c new p)
+    own-step t =
+        let z : c .at + (p .start + p .own) ≡ c .at + p .start + p .own = omega arith in
+        rw z
+        (step-own book c (ahead-sound es v book c a h) long (p .kept) (p .start) (p .own) new (parts-own (c .index) (nameIn c) s t) refl)
+
+    -- they do
+    tests-hold : recordIs bucketHead (c .index) (nameIn c) s ≡ true
+    tests-hold =
+        step-ok es v book c a h (record { ok = recordIs bucketHead (c .index) (nameIn c) s; next = stepBy c new p .next })
+        (record { ok = refl; next = λ t. own-step t .next refl })
+
+    owned : Owned bucketHead (c .index) (nameIn c) s (p .kept) (p .start) (p .own)
+    owned =
+        part-own bucketHead (c .index) (nameIn c) s (p .kept) (p .start) (p .own) (a .allowed)
+        (parts-own (c .index) (nameIn c) s tests-hold)
+
+    name-bytes : p .kept + p .own ≡ length (at es (c .index) .name)
+    name-bytes =
+        sym (length-take-le (p .kept + p .own) new (omega (arith, owned .short, length-sets (c .name) (p .kept) (ownBytes s p), long)))
+        ∙ ap length (step-name es v book c a h (stepBy c new p) (own-step tests-hold))
+
+    -- a whole record stands there: a length byte and a name, or two bytes and a rest
+    pub step-inside : Inside s (c .index) (length (c .name))
+    step-inside =
+        let u = at-all (λ e. isName (e .name)) noEntry es (v .allowed) (c .index) h in
+        let m : 1 ≤ p .kept + p .own = omega (arith, name-bytes, name-some (at es (c .index) .name) u) in
+        record {
+          two = omega (arith, owned .inside, parts-two (c .index) s m);
+          whole = owned .inside;
+          room = omega (arith, owned .short, long);
+        }
+
+    -- reading it is a step of the cursor
+    pub step-read : {name : List ℕ} {q : Parts} → Read s (c .index) (c .name) name q → Stepped book c (stepBy c name q)
+    step-read r = rw (r .bytes, r .parts) (own-step tests-hold)
+
+    -- the name left has the bytes that the parts tell
+    pub read-bytes : {name : List ℕ} {q : Parts} → Read s (c .index) (c .name) name q → q .kept + q .own ≡ length (at es (c .index) .name)
+    read-bytes r = rw (r .parts) name-bytes
+
+    pub read-long : {name : List ℕ} {q : Parts} → Read s (c .index) (c .name) name q → length name ≡ longestName
+    read-long {q = q} r = rw (r .bytes) (length-sets (c .name) (q .kept) (ownBytes s q) ∙ long)
 
 -- The next record starts at index k, at position i; the name before it stands at the front of the 48 bytes in name.
 pub record Reading (book : List ℕ) (k i : ℕ) (name : List ℕ) : Type 0 where
@@ -69,80 +133,23 @@ read-start {book} {k = k} name b e l =
     }
 
 module _ {book : List ℕ} {n : ℕ} (b : Held book n) {k i : ℕ} {name : List ℕ} (g : Reading book k i name) (h : i < n) where
-  abbrev es : List Entry
-  es = inBook book
-
-  abbrev s : List ℕ
-  s = drop k book
-
-  abbrev p : Parts
-  p = partsAt i (drop k book)
-
-  abbrev here : Cursor
-  here = record { at = k; index = i; name = name; len = g .len }
-
-  abbrev there : Cursor
-  there =
-      record {
-        at = k + p .start + p .own;
-        index = i + 1;
-        name = sets name (p .kept) (ownBytes s p);
-        len = p .kept + p .own;
-      }
-
-  low : i < length es
+  low : i < length (inBook book)
   low = omega (arith, b .count)
 
-  sound : Sound book here
-  sound = ahead-sound es (held-valid b) book here (g .ahead) low
-
-  -- the step that the parts make
-  stepped : Stepped book here (record { ok = recordIs bucketHead i (nameIn here) s; next = there })
-  stepped =
-      record {
-        ok = refl;
-        next = λ t.
-            step-own book here sound (g .long) (p .kept) (p .start) (p .own) (sets name (p .kept) (ownBytes s p))
-            (parts-own i (nameIn here) s t) refl .next
-            refl;
-      }
-
-  owned : Owned bucketHead i (nameIn here) s (p .kept) (p .start) (p .own)
-  owned =
-      part-own bucketHead i (nameIn here) s (p .kept) (p .start) (p .own) (sound .allowed)
-      (parts-own i (nameIn here) s (step-ok es (held-valid b) book here (g .ahead) low _ stepped))
-
-  next-length : length (sets name (p .kept) (ownBytes s p)) ≡ longestName
-  next-length = length-sets name (p .kept) (ownBytes s p) ∙ g .long
-
-  next-name : take (p .kept + p .own) (sets name (p .kept) (ownBytes s p)) ≡ at es i .name
-  next-name = step-name es (held-valid b) book here (g .ahead) low _ stepped
-
-  name-bytes : p .kept + p .own ≡ length (at es i .name)
-  name-bytes =
-      sym (length-take-le (p .kept + p .own) (sets name (p .kept) (ownBytes s p)) (omega (arith, owned .short, next-length))) ∙ ap length next-name
-
-  -- a whole record stands there: a length byte and a name, or two bytes and a rest
-  pub read-inside : Inside s i (length name)
-  read-inside =
-      let a = at-all (λ e. isName (e .name)) noEntry es (held-valid b .allowed) i low in
-      let l : 1 ≤ p .kept + p .own = omega (arith, name-bytes, name-some (at es i .name) a) in
-      record {
-        two = omega (arith, owned .inside, parts-two i s l);
-        whole = owned .inside;
-        room = omega (arith, owned .short, g .long);
-      }
+  pub read-inside : Inside (drop k book) i (length name)
+  read-inside = step-inside (held-valid b) (g .ahead) (g .long) low
 
   -- reading it gives the entry's name
-  pub read-turn : {new : List ℕ} {q : Parts} → Read s i name new q → Given book k i new q
-  read-turn r =
-      rw (r .bytes, r .parts)
-      (record {
-        name = next-name;
-        long = name-bytes;
-        small = owned .short;
-        inside = omega (arith, owned .inside, length-drop k book, g .ahead .inside);
-        next =
-            let z : k + (p .start + p .own) ≡ k + p .start + p .own = omega arith in
-            rw z (record { len = p .kept + p .own; long = next-length; ahead = step-ahead es (held-valid b) book here (g .ahead) low _ stepped });
-      })
+  pub read-turn : {new : List ℕ} {q : Parts} → Read (drop k book) i name new q → Given book k i new q
+  read-turn {new} {q} r =
+      let v = held-valid b in
+      let here = cursorOf k i name (g .len) in
+      let t = step-read v (g .ahead) (g .long) low r in
+      let d = step-ahead (inBook book) v book here (g .ahead) low (stepBy here new q) t in
+      record {
+        name = step-name (inBook book) v book here (g .ahead) low (stepBy here new q) t;
+        long = read-bytes v (g .ahead) (g .long) low r;
+        small = d .small;
+        inside = d .inside;
+        next = record { len = q .kept + q .own; long = read-long v (g .ahead) (g .long) low r; ahead = d };
+      }

@@ -1,22 +1,21 @@
 -- `book_find::cursor_at` meets its contract. The loop's invariant: the place between records has been reached from the bucket's head
--- (proofs/Bucket), and the array stays 48 bytes long. The measure is the number of records left up to the position. Assumes nothing.
+-- (proofs/Bucket). The measure is the number of records left up to the position. Assumes nothing.
 use Prim.Native.Nat.{_*_, _+_, _-_, _/_, _≤_}
-use mathlib.Core.Path.{_∙_, _≡_, sym}
 use lib.ListN.{length}
 use native.Mathlib.Omega.{arith}
 use borrow.Author.Needs.{needs}
-use Rattle.entries.specs.Names.{longestName}
 use Rattle.front_coding.specs.Cursor.{cursorOf}
 use Rattle.front_coding.specs.Records.{bucketSize}
 use Rattle.book.specs.Book.{inBook}
-use Rattle.book_find.proofs.Bucket.{Reached, reach-end, reach-front, reach-on, reach-sound, reach-start}
 use Rattle.book.proofs.Lookups.{held-stored, held-valid}
+use Rattle.book_records.proofs.Reading.{stepBy}
+use Rattle.book_find.proofs.Bucket.{Reached, reach-end, reach-front, reach-inside, reach-on, reach-start}
 use Rattle.book_find.proofs.cursor_at.Statement.{statement}
 use Rattle.book_find.proofs.cursor_at.Tie as tie
 
 abbrev Inv-loop : tie.InvT-loop
 Inv-loop buf n i bucket name₀ len₀ at₀ index₀ name len at index =
-    Reached (inBook buf) buf (bucketSize * (i / bucketSize)) (i + 1) (cursorOf at index name len) × (length name ≡ longestName)
+    Reached (inBook buf) buf (bucketSize * (i / bucketSize)) (i + 1) (cursorOf at index name len)
 
 abbrev μ-loop : tie.MeasureT-loop
 μ-loop buf n i bucket name₀ len₀ at₀ index₀ name len at index = i + 1 - index
@@ -37,15 +36,36 @@ mul-index c = omega arith
 loop-holds : tie.Need-loop-holds Inv-loop μ-loop
 loop-holds c =
     let z = c .before .before in
-    (reach-start (z .args .i / bucketSize) (held-stored (z .pre .0)) (c .offset-of .ensures) (omega arith) (within z), search needs)
+    reach-start (z .args .i / bucketSize) (held-stored (z .pre .0)) (c .offset-of .ensures) (omega arith) (within z) (search needs)
 
-slice-aggregate-read-record : tie.Need-slice-aggregate-read-record Inv-loop μ-loop
-slice-aggregate-read-record c = sym (c .before .before .loop .inv .1)
+slice-aggregate-read-name : tie.Need-slice-aggregate-read-name Inv-loop μ-loop
+slice-aggregate-read-name c = search needs
 
-read-record-requires : tie.Need-read-record-requires Inv-loop μ-loop
-read-record-requires c κs =
+read-name-requires : tie.Need-read-name-requires Inv-loop μ-loop
+read-name-requires c κs =
     let l = c .before .before in
-    (reach-sound (held-valid (start l .pre .0)) (l .loop .inv .0) (within (start l)) (omega arith), l .loop .inv .1)
+    reach-inside (held-valid (start l .pre .0)) (l .loop .inv) (within (start l)) (omega arith)
+
+-- seen from behind a record: the loop's test, and what is reached then
+abbrev turn : tie.After-read-name Inv-loop μ-loop → tie.At-loop Inv-loop μ-loop
+turn a = a .before .before .before
+
+next :
+    (a : tie.After-read-name Inv-loop μ-loop)
+    → let l = turn a in
+    let z = start l .args in
+    Reached (inBook (z .buf .now)) (z .buf .now) (bucketSize * (z .i / bucketSize)) (z .i + 1)
+    (stepBy (cursorOf (l .loop .at) (l .loop .index) (l .loop .name) (l .loop .len)) (a .read-name .last .1 .1 .1 .0) (a .read-name .result) .next)
+next a = let l = turn a in reach-on (held-valid (start l .pre .0)) (l .loop .inv) (within (start l)) (omega arith) (a .read-name .ensures)
+
+add-at : tie.Need-add-at Inv-loop μ-loop
+add-at c = let a = c .before .before in omega (arith, next a .ahead .inside, start (turn a) .good .0)
+
+add-at-2 : tie.Need-add-at-2 Inv-loop μ-loop
+add-at-2 c = let a = c .before .before in omega (arith, next a .ahead .inside, start (turn a) .good .0)
+
+add-len : tie.Need-add-len Inv-loop μ-loop
+add-len c = omega (arith, next (c .before .before .before) .ahead .small)
 
 add-index : tie.Need-add-index Inv-loop μ-loop
 add-index c = omega arith
@@ -54,17 +74,12 @@ loop-less : tie.Need-loop-less Inv-loop μ-loop
 loop-less c = omega arith
 
 loop-again : tie.Need-loop-again Inv-loop μ-loop
-loop-again c =
-    let a = c .before in
-    let l = a .before .before .before in (
-      reach-on (held-valid (start l .pre .0)) (l .loop .inv .0) (within (start l)) (omega arith) (a .read-record .ensures),
-      a .read-record .kept .1 .1 .1 .0 ∙ l .loop .inv .1,
-    )
+loop-again c = next (c .before .before .before)
 
 returns : tie.Need-returns Inv-loop μ-loop
 returns c =
     let l = c .before in
-    let v = l .loop .inv .0 in
+    let v = l .loop .inv in
     (reach-end v (omega arith) (omega arith), v .ahead .small, reach-front v (omega arith) (omega arith) (omega (arith, within (start l))))
 
 pub cursor-at-spec : {M : Type 1} → statement M
@@ -76,8 +91,11 @@ cursor-at-spec =
     offset-of-requires
     mul-index
     loop-holds
-    slice-aggregate-read-record
-    read-record-requires
+    slice-aggregate-read-name
+    read-name-requires
+    add-at
+    add-at-2
+    add-len
     add-index
     loop-less
     loop-again

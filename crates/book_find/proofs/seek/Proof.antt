@@ -1,27 +1,27 @@
--- `book_find::seek` meets its contract. The loop's invariant: the names of the bucket that were read are before the key (proofs/Bucket),
--- and the array stays 48 bytes long. The measure is the number of records left in the bucket. Assumes nothing.
-use Prim.Native.Nat.{_*_, _-_, _≤_}
+-- `book_find::seek` meets its contract. The loop's invariant: the names of the bucket that were read are before the key (proofs/Bucket).
+-- The measure is the number of records left in the bucket. Assumes nothing.
+use Prim.Native.Nat.{_*_, _+_, _-_, _≤_}
 use mathlib.Core.Path.{_∙_, _≡_, sym}
-use lib.ListN.{length}
+use lib.ListN.{length, take}
 use lib.Seq.{length-take-le}
 use native.Mathlib.Omega.{arith}
 use borrow.Author.Needs.{needs}
 use borrow.Author.Tests.{not-false, not-true}
-use Rattle.entries.specs.Names.{longestName}
 use Rattle.front_coding.specs.Cursor.{cursorOf}
 use Rattle.front_coding.specs.Records.{bucketSize}
 use Rattle.book.specs.Book.{inBook}
-use Rattle.book_find.proofs.Bucket.{Passed, behind-bucket, next-head, none-before, pass-end, pass-on, pass-same, pass-start, pass-stop, reach-on, reach-sound}
 use Rattle.book.proofs.Lookups.{held-stored, held-valid}
+use Rattle.book_records.proofs.Reading.{stepBy}
+use Rattle.book_find.proofs.Bucket.{Passed, Reached, behind-bucket, next-head, none-before, pass-end, pass-on, pass-same, pass-start, pass-stop, reach-inside, reach-on}
 use Rattle.book_find.proofs.seek.Statement.{statement}
 use Rattle.book_find.proofs.seek.Tie as tie
 
 abbrev Inv-loop : tie.InvT-loop
-Inv-loop buf n key past heads same bucket end name₀ len₀ at₀ index₀ name len at index =
-    Passed past key (inBook buf) buf (bucketSize * bucket) end (cursorOf at index name len) × (length name ≡ longestName)
+Inv-loop buf n key past heads same bucket end name₀ at₀ index₀ name at index =
+    Passed past key (inBook buf) buf (bucketSize * bucket) end at index name
 
 abbrev μ-loop : tie.MeasureT-loop
-μ-loop buf n key past heads same bucket end name₀ len₀ at₀ index₀ name len at index = end - index
+μ-loop buf n key past heads same bucket end name₀ at₀ index₀ name at index = end - index
 
 -- seen from the loop's test: the entry, and what the search gave; the bucket ends within the book
 abbrev start : tie.At-loop Inv-loop μ-loop → tie.Start Inv-loop μ-loop
@@ -33,17 +33,22 @@ found l = l .before .before .before .before .before
 within : (l : tie.At-loop Inv-loop μ-loop) → l .before .before .bucket-end .result ≤ length (inBook (start l .args .buf .now))
 within l = omega (arith, start l .pre .count)
 
--- seen from behind a record: the loop's test, the array's length, and that of the name in it
-abbrev turn : tie.After-read-record Inv-loop μ-loop → tie.At-loop Inv-loop μ-loop
+-- seen from behind a record: the loop's test, what is reached then, and that the name's bytes are as many as its parts say
+abbrev turn : tie.After-read-name Inv-loop μ-loop → tie.At-loop Inv-loop μ-loop
 turn a = a .before .before .before
 
-long : (a : tie.After-read-record Inv-loop μ-loop) → length (a .read-record .last .1 .1 .1 .0) ≡ longestName
-long a = a .read-record .kept .1 .1 .1 .0 ∙ turn a .loop .inv .1
+next :
+    (a : tie.After-read-name Inv-loop μ-loop)
+    → let l = turn a in
+    let z = start l .args .buf .now in
+    Reached (inBook z) z (bucketSize * (found l .heads-before .result - 1)) (l .before .before .bucket-end .result)
+    (stepBy (cursorOf (l .loop .at) (l .loop .index) (l .loop .name) (l .loop .inv .len)) (a .read-name .last .1 .1 .1 .0) (a .read-name .result) .next)
+next a = let l = turn a in reach-on (held-valid (start l .pre)) (l .loop .inv .reached) (within l) (omega arith) (a .read-name .ensures)
 
-short : (a : tie.After-read-record Inv-loop μ-loop) → a .read-record .result .len ≤ longestName
-short a =
-    let l = turn a in
-    reach-on (held-valid (start l .pre)) (l .loop .inv .0 .reached) (within l) (omega arith) (a .read-record .ensures) .ahead .small
+taken :
+    (a : tie.After-read-name Inv-loop μ-loop)
+    → let p = a .read-name .result in length (take (p .kept + p .own) (a .read-name .last .1 .1 .1 .0)) ≡ p .kept + p .own
+taken a = length-take-le _ _ (omega (arith, next a .ahead .small, next a .long))
 
 heads-before-requires : tie.Need-heads-before-requires Inv-loop μ-loop
 heads-before-requires c κs = c .before .before .pre
@@ -75,30 +80,42 @@ mul-index c = omega (arith, c .before .before .before .before .before .before .b
 loop-holds : tie.Need-loop-holds Inv-loop μ-loop
 loop-holds c =
     let z = c .before .before .before .before .before .before .before in
-    (pass-start (c .before .before .before .before .heads-before .result - 1) (held-stored (z .pre)) (c .offset-of .ensures) (omega (arith, z .pre .count)) (omega (arith, z .pre .count)), search needs)
+    pass-start (c .before .before .before .before .heads-before .result - 1) (held-stored (z .pre)) (c .offset-of .ensures)
+    (omega (arith, z .pre .count)) (omega (arith, z .pre .count)) (search needs)
 
-slice-aggregate-read-record : tie.Need-slice-aggregate-read-record Inv-loop μ-loop
-slice-aggregate-read-record c = sym (c .before .before .loop .inv .1)
+slice-aggregate-read-name : tie.Need-slice-aggregate-read-name Inv-loop μ-loop
+slice-aggregate-read-name c = search needs
 
-read-record-requires : tie.Need-read-record-requires Inv-loop μ-loop
-read-record-requires c κs =
+read-name-requires : tie.Need-read-name-requires Inv-loop μ-loop
+read-name-requires c κs =
     let l = c .before .before in
-    (reach-sound (held-valid (start l .pre)) (l .loop .inv .0 .reached) (within l) (omega arith), l .loop .inv .1)
+    reach-inside (held-valid (start l .pre)) (l .loop .inv .reached) (within l) (omega arith)
+
+add-len : tie.Need-add-len Inv-loop μ-loop
+add-len c = omega (arith, next (c .before .before) .ahead .small)
+
+-- where the name is lent: the record read
+abbrev read : tie.After-struct-known Inv-loop μ-loop → tie.After-read-name Inv-loop μ-loop
+read k = k .before .before
 
 array-share-prefix-name : tie.Need-array-share-prefix-name Inv-loop μ-loop
-array-share-prefix-name c = let a = c .before in omega (arith, short a, long a)
+array-share-prefix-name c = let a = read c in omega (arith, next a .ahead .small, next a .long)
 
 slice-aggregate-is-before : tie.Need-slice-aggregate-is-before Inv-loop μ-loop
-slice-aggregate-is-before c = let a = c .before .before in sym (length-take-le _ _ (omega (arith, short a, long a)))
+slice-aggregate-is-before c = sym (taken (read (c .before)))
 
 is-before-requires : tie.Need-is-before-requires Inv-loop μ-loop
 is-before-requires c κs = tt
 
+-- behind the comparison: the record read
+abbrev compared : tie.After-is-before Inv-loop μ-loop → tie.After-read-name Inv-loop μ-loop
+compared h = read (h .before .before)
+
 array-share-prefix-name-2 : tie.Need-array-share-prefix-name-2 Inv-loop μ-loop
-array-share-prefix-name-2 c = let a = c .before .before .before .before in omega (arith, short a, long a)
+array-share-prefix-name-2 c = let a = compared (c .before) in omega (arith, next a .ahead .small, next a .long)
 
 slice-aggregate-equal : tie.Need-slice-aggregate-equal Inv-loop μ-loop
-slice-aggregate-equal c = let a = c .before .before .before .before .before in sym (length-take-le _ _ (omega (arith, short a, long a)))
+slice-aggregate-equal c = sym (taken (compared (c .before .before)))
 
 equal-requires : tie.Need-equal-requires Inv-loop μ-loop
 equal-requires c κs = tt
@@ -107,16 +124,25 @@ returns-2 : tie.Need-returns-2 Inv-loop μ-loop
 returns-2 c =
     let d = c .before .before in
     let h = d .before in
-    let a = h .before .before .before in
+    let a = compared h in
     let l = turn a in
     let v = held-valid (start l .pre) in
     record {
       index =
-          pass-stop v (l .loop .inv .0) (within l) (omega arith) (a .read-record .ensures)
-          (found l .heads-before .ensures .left (omega arith))
+          pass-stop v (l .loop .inv) (within l) (omega arith) (a .read-name .ensures) (found l .heads-before .ensures .left (omega arith))
           (sym (h .is-before .ensures) ∙ not-true (h .is-before .result) (d .if2 .taken));
-      same = c .equal .ensures ∙ pass-same v (l .loop .inv .0) (within l) (omega arith) (a .read-record .ensures);
+      same = c .equal .ensures ∙ pass-same v (l .loop .inv) (within l) (omega arith) (a .read-name .ensures);
     }
+
+-- at the end of a turn: the comparison
+abbrev passed : tie.After-struct-known2 Inv-loop μ-loop → tie.After-is-before Inv-loop μ-loop
+passed c = c .before .before
+
+add-at : tie.Need-add-at Inv-loop μ-loop
+add-at c = let a = compared (passed c) in omega (arith, next a .ahead .inside, start (turn a) .good .0)
+
+add-at-2 : tie.Need-add-at-2 Inv-loop μ-loop
+add-at-2 c = let a = compared (passed c) in omega (arith, next a .ahead .inside, start (turn a) .good .0)
 
 add-index : tie.Need-add-index Inv-loop μ-loop
 add-index c = omega arith
@@ -126,13 +152,11 @@ loop-less c = omega arith
 
 loop-again : tie.Need-loop-again Inv-loop μ-loop
 loop-again c =
-    let h = c .before in
-    let a = h .before .before .before in
-    let l = turn a in (
-      pass-on (held-valid (start l .pre)) (l .loop .inv .0) (within l) (omega arith) (a .read-record .ensures)
-          (sym (h .is-before .ensures) ∙ not-false (h .is-before .result) (c .if2 .left)),
-      long a,
-    )
+    let h = passed c in
+    let a = compared h in
+    let l = turn a in
+    pass-on (held-valid (start l .pre)) (l .loop .inv) (within l) (omega arith) (a .read-name .ensures)
+    (sym (h .is-before .ensures) ∙ not-false (h .is-before .result) (c .before .if2 .left))
 
 returns-3 : tie.Need-returns-3 Inv-loop μ-loop
 returns-3 c =
@@ -141,7 +165,7 @@ returns-3 c =
     let f = found l .heads-before .ensures in
     let e = l .before .before .bucket-end .ensures in
     record {
-      index = pass-end (held-valid (z .pre)) (l .loop .inv .0) (within l) (omega arith) (omega arith) (behind-bucket f (z .pre .count) e (omega arith));
+      index = pass-end (held-valid (z .pre)) (l .loop .inv) (within l) (omega arith) (omega arith) (behind-bucket f (z .pre .count) e (omega arith));
       same = next-head f (z .pre .count) e (omega arith) (l .before .before .before .before .head-is .ensures);
     }
 
@@ -159,8 +183,9 @@ seek-spec =
     offset-of-requires
     mul-index
     loop-holds
-    slice-aggregate-read-record
-    read-record-requires
+    slice-aggregate-read-name
+    read-name-requires
+    add-len
     array-share-prefix-name
     slice-aggregate-is-before
     is-before-requires
@@ -168,6 +193,8 @@ seek-spec =
     slice-aggregate-equal
     equal-requires
     returns-2
+    add-at
+    add-at-2
     add-index
     loop-less
     loop-again
