@@ -50,15 +50,14 @@ fn pass_run(
     let mut i = from.index;
     let mut at = from.at;
     let mut name = from.name;
-    let mut len = from.len;
     let mut index = to.index;
     let mut put = to.at;
     let mut held = to.name;
     let mut kept = to.len;
     while i < end {
-        let t = front_coding::read_record(book, at, i, &mut name, len);
-        at = t.end;
-        len = t.len;
+        let p = book_records::read_name(book, at, i, &mut name);
+        at += p.start + p.own;
+        let len = p.kept + p.own;
         let score = book_check::score_at(book, i);
         put = pass_entry(
             dst,
@@ -113,11 +112,19 @@ fn leave_out(book: &[u8], c: front_coding::Cursor, skip: bool) -> front_coding::
     requires { ⌜ Reads (now book) c × (c .index + leftOut skip ≤ length (inBook (now book))) ⌝ }
     ensures { λ r. ⌜ Reads (now (book .entry)) r × (r .index ≡ c .index + leftOut skip) ⌝ }
 {
-    if skip {
-        let t = front_coding::advance(book, c);
-        return t.next;
+    if !skip {
+        return c;
     }
-    c
+    let at = c.at;
+    let index = c.index;
+    let mut name = c.name;
+    let p = book_records::read_name(book, at, index, &mut name);
+    front_coding::Cursor {
+        at: at + (p.start + p.own),
+        index: index + 1,
+        name: name,
+        len: p.kept + p.own,
+    }
 }
 
 // How many entries the result has.

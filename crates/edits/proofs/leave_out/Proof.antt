@@ -1,29 +1,73 @@
--- `edits::leave_out` meets its contract: a step in a book reads one entry (proofs/Runs).
+-- `edits::leave_out` meets its contract: to read the record at a cursor gives the cursor behind it (proofs/Runs).
 -- No loop. Assumes nothing.
 use Prim.Native.Nat.{_<_}
+use mathlib.Core.Path.{_≡_}
+use mathlib.Core.Bool.{Bool, true}
 use lib.ListN.{length}
 use native.Mathlib.Omega.{arith}
+use borrow.Author.Needs.{needs}
+use borrow.Author.Tests.{not-false, not-true}
+use Rattle.entries.specs.Names.{longestName}
 use Rattle.book.specs.Book.{inBook}
-use Rattle.edits.proofs.Runs.{read-index, read-on, read-sound}
+use Rattle.book.proofs.Lookups.{held-few}
+use Rattle.book_records.proofs.Reading.{stepBy}
+use Rattle.edits.specs.Passing.{Reads}
+use Rattle.edits.specs.Splice.{leftOut}
+use Rattle.edits.proofs.Runs.{reads-held, reads-inside, reads-on}
 use Rattle.edits.proofs.leave_out.Statement.{statement}
 use Rattle.edits.proofs.leave_out.Tie as tie
 
--- there is an entry to leave out
-there : (c : tie.Then1) → c .before .before .args .c .index < length (inBook (c .before .before .args .book .now))
-there c = let h = c .before .before .pre .1 in omega (arith, (rw (c .if1 .taken) at h))
+-- the array is 48 bytes long
+long : (c : tie.Start) → length (c .args .c .name) ≡ longestName
+long c = search needs
 
-advance-requires : tie.Need-advance-requires
-advance-requires c κs = read-sound (c .before .before .pre .0) (there c)
+abbrev start : tie.Else1 → tie.Start
+start e = e .before .before
+
+one : {skip : Bool} → skip ≡ true → leftOut skip ≡ 1
+one t = rw t
+
+-- there is an entry to leave out
+there : (e : tie.Else1) → start e .args .c .index < length (inBook (start e .args .book .now))
+there e = let z = start e in omega (arith, z .pre .1, one (not-false (z .args .skip) (e .if1 .left)))
 
 returns : tie.Need-returns
-returns c =
-    let a = c .before in
-    let t = a .before in
-    let h = t .before .before .pre .0 in
-    (read-on h (there t) (a .advance .ensures), rw (t .if1 .taken) (read-index h (there t) (a .advance .ensures)))
+returns c = let z = c .before .before in (z .pre .0, rw (not-true (z .args .skip) (c .if1 .taken)) (omega arith))
+
+slice-aggregate-read-name : tie.Need-slice-aggregate-read-name
+slice-aggregate-read-name c = search needs
+
+read-name-requires : tie.Need-read-name-requires
+read-name-requires c κs = let e = c .before .before in reads-inside (start e .pre .0) (long (start e)) (there e)
+
+-- from where its record was read; the cursor behind it
+abbrev out : tie.After-read-name → tie.Else1
+out r = r .before .before .before
+
+behind :
+    (r : tie.After-read-name)
+    → let a = start (out r) .args in
+    Reads (a .book .now) (stepBy (a .c) (r .read-name .last .1 .1 .1 .0) (r .read-name .result) .next)
+behind r = let e = out r in reads-on (start e .pre .0) (long (start e)) (there e) (r .read-name .ensures)
+
+add-t11 : tie.Need-add-t11
+add-t11 c = let r = c .before .before in omega (arith, behind r .ahead .inside, start (out r) .good .0)
+
+add-t12 : tie.Need-add-t12
+add-t12 c = let r = c .before .before in omega (arith, behind r .ahead .inside, start (out r) .good .0)
+
+add-t13 : tie.Need-add-t13
+add-t13 c = let e = out (c .before .before) in omega (arith, there e, held-few (reads-held (start e .pre .0)))
+
+add-t15 : tie.Need-add-t15
+add-t15 c = omega (arith, behind (c .before .before .before) .ahead .small)
 
 returns-2 : tie.Need-returns-2
-returns-2 c = (c .before .before .pre .0, rw (c .if1 .left) (omega arith))
+returns-2 c =
+    let r = c .before .before .before in
+    let e = out r in
+    (behind r, rw (not-false (start e .args .skip) (e .if1 .left)))
 
 pub leave-out-spec : {M : Type 1} → statement M
-leave-out-spec = tie.close (tie.spec advance-requires returns returns-2)
+leave-out-spec =
+    tie.close (tie.spec returns slice-aggregate-read-name read-name-requires add-t11 add-t12 add-t13 add-t15 returns-2)
