@@ -1,4 +1,4 @@
--- What a cursor by value holds, and what a step of it gives.
+-- What a cursor holds, and what a step of it gives.
 use Prim.Native.Nat.{_+_, _<_, _≤_, ℕ}
 use mathlib.Core.Path.{_≡_}
 use mathlib.Core.Bool.{true}

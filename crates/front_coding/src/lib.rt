@@ -1,4 +1,4 @@
-// Front-coded records: reading one, with the name before it in a lent array or in a cursor by value, and writing one.
+// Front-coded records: reading one, with the name before it in a lent array, and writing one.
 ghost use mathlib.Core.Path.{_≡_};
 ghost use mathlib.Core.Bool.{true};
 ghost use Prim.Native.Nat.{_≤_};
@@ -17,7 +17,7 @@ pub struct Cursor {
     pub len: usize,
 }
 
-// Whether a record of a book stands at a cursor, and the cursor behind it.
+// A step, as contracts speak of it: whether a record of a book stands at a cursor, and the cursor behind it.
 pub struct Step {
     pub ok: bool,
     pub next: Cursor,
@@ -141,27 +141,6 @@ pub fn read_record(src: &[u8], at: usize, index: usize, name: &mut [u8], len: us
                 len: kept + n,
             }
         }
-    }
-}
-
-// Reads the record at a cursor: whether it is one of a book, and the cursor behind it.
-pub fn advance(src: &[u8], c: Cursor) -> Step
-    requires { ⌜ Sound (now src) c ⌝ }
-    ensures { λ r. ⌜ Stepped (now (src .entry)) c r ⌝ }
-{
-    let at = c.at;
-    let index = c.index;
-    let len = c.len;
-    let mut name = c.name;
-    let t = read_record(src, at, index, &mut name, len);
-    Step {
-        ok: t.ok,
-        next: Cursor {
-            at: t.end,
-            index: index + 1,
-            name: name,
-            len: t.len,
-        },
     }
 }
 
