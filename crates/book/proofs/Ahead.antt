@@ -51,7 +51,7 @@ module _
     behind = records bucketHead (suc i) w (drop (suc i) (names es)) ++ a .rest
 
     pub ahead-sound : Sound s c
-    ahead-sound = record { allowed = a .allowed; small = a .small; inside = a .inside; low = omega (arith, v .few) }
+    ahead-sound = record { allowed = a .allowed; small = a .small; inside = a .inside }
 
     here-stands : drop (c .at) s ≡ recordOf bucketHead i (nameIn c) w ++ behind
     here-stands =

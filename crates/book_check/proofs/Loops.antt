@@ -9,7 +9,6 @@ use native.Mathlib.Numerals.{add-one}
 use native.Mathlib.Omega.{arith}
 use borrow.Author.Tests.{le-ltb, lt-ltb}
 use Rattle.octets.specs.Lists.{ceil, if_then_else_}
-use Rattle.entries.specs.Entries.{maxEntries}
 use Rattle.front_coding.specs.Cursor.{Sound, Stepped, nameIn}
 use Rattle.front_coding.proofs.Steps.{next-sound, start-sound}
 use Rattle.book.specs.Book.{blockSize}
@@ -57,7 +56,7 @@ best-end {end = end} {i = i} g h =
 
 -- the records: c stands behind those of the positions before its index
 pub record Walking (buf : List ℕ) (n start : ℕ) (c : Cursor) : Type 0 where
-  pub sound : c .index < n → Sound buf c
+  pub sound : Sound buf c
   pub within : c .index ≤ n
   pub left : recordsEnd (n - c .index) n (c .index) (nameIn c) (c .at) buf ≡ recordsEnd n n 0 [] start buf
 
@@ -69,7 +68,7 @@ pub walk-start :
     (buf name : List ℕ) (n start : ℕ) → start ≤ length buf → Walking buf n start (record { at = start; index = 0; name = name; len = 0 })
 walk-start buf name n start h =
     let z : n - 0 ≡ n = omega arith in
-    record { sound = λ l. start-sound buf name start h; within = omega arith; left = rw z }
+    record { sound = start-sound buf name start h; within = omega arith; left = rw z }
 
 -- a turn: o is what the test of the offset said, t the step
 module _
@@ -86,11 +85,11 @@ module _
       pub walk-bad : t .ok ≡ false → Damaged ≡ Ending buf n start
       walk-bad f = ap endedAs (rw (one-more, ← tested, here, ← s .ok, f) at (g .left))
 
-      pub walk-turn : n ≤ maxEntries → t .ok ≡ true → Walking buf n start (t .next)
-      walk-turn few k =
+      pub walk-turn : t .ok ≡ true → Walking buf n start (t .next)
+      walk-turn k =
           let d = s .next k in
           record {
-            sound = λ m. next-sound buf c t s k (omega (arith, d .index));
+            sound = next-sound buf c t s k;
             within = omega (arith, d .index);
             left = rw (d .index, d .name, d .at, add-one) (rw (one-more, ← tested, here, ← s .ok, k) at (g .left));
           }

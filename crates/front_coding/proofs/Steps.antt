@@ -1,5 +1,5 @@
 -- A step of the cursor in plain numbers and lists: the name that it leaves in the array, and where it stands.
-use Prim.Native.Nat.{_+_, _-_, _<_, _≤_, ℕ}
+use Prim.Native.Nat.{_+_, _-_, _≤_, ℕ}
 use mathlib.Core.Path.{_∙_, _≡_, refl, sym}
 use mathlib.Core.Bool.{false, false≢true, true}
 use mathlib.Core.List.{List, _++_}
@@ -7,7 +7,6 @@ use lib.Dec.{leb}
 use lib.ListN.{drop, length, length-append, length-drop, length-take, take}
 use lib.Seq.{length-take-le, sets, sets-eq, take-all, take-at, take-take}
 use native.Mathlib.Omega.{arith}
-use Rattle.entries.specs.Entries.{maxEntries}
 use Rattle.entries.specs.Names.{allowedBytes, isName, isPrefix, longestName}
 use Rattle.octets.proofs.Tests.{and-true}
 use Rattle.front_coding.specs.Cursor.{Sound, Stepped, nameIn}
@@ -67,13 +66,13 @@ module _ (src : List ℕ) (c : Cursor) (sound : Sound src c) where
 -- a cursor at the first record, and one that a step gave, are sound
 pub start-sound : (src name : List ℕ) (at : ℕ) → at ≤ length src → Sound src (record { at = at; index = 0; name = name; len = 0 })
 unfolding isPrefix allowedBytes
-start-sound src name at h = record { allowed = refl; small = omega arith; inside = h; low = omega arith }
+start-sound src name at h = record { allowed = refl; small = omega arith; inside = h }
 
-pub next-sound : (src : List ℕ) (c : Cursor) (r : Step) → Stepped src c r → r .ok ≡ true → c .index + 1 < maxEntries → Sound src (r .next)
+pub next-sound : (src : List ℕ) (c : Cursor) (r : Step) → Stepped src c r → r .ok ≡ true → Sound src (r .next)
 unfolding isName
-next-sound src c r h t l =
+next-sound src c r h t =
     let w = recordName bucketHead (c .index) (nameIn c) (drop (c .at) src) in
     let n = h .next t in
     let b = record-is bucketHead (c .index) (nameIn c) (drop (c .at) src) (sym (h .ok) ∙ t) in
     let p = and-true (leb 1 (length w)) (isPrefix w) (b .1) in
-    record { allowed = rw (n .name) (p .1); small = n .small; inside = n .inside; low = omega (arith, n .index) }
+    record { allowed = rw (n .name) (p .1); small = n .small; inside = n .inside }

@@ -1,10 +1,9 @@
 -- What a cursor holds, and what a step of it gives.
-use Prim.Native.Nat.{_+_, _<_, _≤_, ℕ}
+use Prim.Native.Nat.{_+_, _≤_, ℕ}
 use mathlib.Core.Path.{_≡_}
 use mathlib.Core.Bool.{true}
 use mathlib.Core.List.{List}
 use lib.ListN.{drop, length, take}
-use Rattle.entries.specs.Entries.{maxEntries}
 use Rattle.entries.specs.Names.{isPrefix, longestName}
 use Rattle.front_coding.specs.Records.{bucketHead, recordLength, recordName}
 use Rattle.front_coding.specs.Step.{recordIs}
@@ -21,7 +20,6 @@ pub record Sound (s : List ℕ) (c : Cursor) : Type 0 where
   pub allowed : isPrefix (nameIn c) ≡ true
   pub small : c .len ≤ longestName
   pub inside : c .at ≤ length s
-  pub low : c .index < maxEntries
 
 -- the cursor d behind the record at c
 pub record Next (s : List ℕ) (c d : Cursor) : Type 0 where

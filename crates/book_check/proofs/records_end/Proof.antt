@@ -34,9 +34,7 @@ slice-aggregate-read-record : tie.Need-slice-aggregate-read-record Inv-loop μ-l
 slice-aggregate-read-record c = sym (c .before .before .before .before .loop .inv .1)
 
 read-record-requires : tie.Need-read-record-requires Inv-loop μ-loop
-read-record-requires c κs =
-    let k = c .before .before .before in
-    (k .before .loop .inv .0 .sound (k .loop-test .taken), k .before .loop .inv .1)
+read-record-requires c κs = let v = c .before .before .before .before .loop .inv in (v .0 .sound, v .1)
 
 returns-2 : tie.Need-returns-2 Inv-loop μ-loop
 returns-2 c =
@@ -57,7 +55,7 @@ loop-again c =
     let o = a .before .before .before in
     let l = o .before .before in (
       walk-turn (l .loop .inv .0) (o .before .loop-test .taken) (o .offset-is .ensures) (not-false _ (a .before .before .if1 .left))
-          (a .read-record .ensures) (l .before .before .pre .0) (not-false _ (c .if2 .left)),
+          (a .read-record .ensures) (not-false _ (c .if2 .left)),
       a .read-record .kept .1 .1 .1 .0 ∙ l .loop .inv .1,
     )
 
