@@ -1,4 +1,4 @@
--- One answer entry, written or refused; an outcome in another's place.
+-- One answer entry or a whole book, written or refused; an outcome in another's place.
 use Rattle.book.specs.Answers as answers
 use Prim.Native.Nat.{_+_, _<_, _≤_, ℕ}
 use mathlib.Core.Path.{_∙_, _≡_, ap, sym}
@@ -7,11 +7,13 @@ use lib.ListN.{length}
 use lib.Seq.{sets}
 use native.Mathlib.Omega.{arith}
 use borrow.Author.Tests.{le-ltb, lt-ltb}
+use Rattle.octets.specs.Octets.{overwrite}
 use Rattle.octets.proofs.Stores.{sets-overwrite}
 use Rattle.entries.specs.Entries.{Entry}
 use Rattle.book.specs.Answers.{Outcome, entryBytes, writing, writingImage}
+use Rattle.book.specs.Book.{bookImage}
 use Rattle.book.proofs.Size.{length-entryBytes}
-use Rattle.answers.specs.Reports.{Answered, oneEntry}
+use Rattle.answers.specs.Reports.{Answered, oneEntry, wholeBook}
 use Rattle.answers.specs.declared.Written.{Written}
 use Rattle.answers.specs.declared.Written.the-variants as written
 
@@ -31,6 +33,21 @@ entry-written e dst n q h left p =
     let k : n ≡ length (entryBytes e) = omega arith in
     let t = le-ltb (length dst) (length (entryBytes e)) (omega arith) in
     record { answer = rw (t, k); left = rw t (p ∙ sets-overwrite dst (entryBytes e) (omega arith)) }
+
+-- a whole book, refused or written
+pub whole-refused : (es : List Entry) (dst : List ℕ) → length dst < length (bookImage es) → Answered (wholeBook es dst) (written.Refused 7) dst
+unfolding writingImage writing
+whole-refused es dst l =
+    let t = lt-ltb (length dst) (length (bookImage es)) l in
+    record { answer = rw t; left = rw t }
+
+pub whole-written :
+    (es : List Entry) (dst left : List ℕ) {n total : ℕ} → n ≡ length es → total ≡ length (bookImage es) → total ≤ length dst
+    → left ≡ overwrite dst (bookImage es) → Answered (wholeBook es dst) (written.Wrote n total) left
+unfolding writingImage writing
+whole-written es dst left m t l e =
+    let u = le-ltb (length dst) (length (bookImage es)) (omega arith) in
+    record { answer = rw (u, m, t); left = rw u e }
 
 -- an outcome in another's place
 pub answered-as : {o p : Outcome answers.Written} {r : Written} {left : List ℕ} → o ≡ p → Answered p r left → Answered o r left

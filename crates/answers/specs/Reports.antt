@@ -5,6 +5,7 @@ use mathlib.Core.List.{List, [], _∷_}
 use Rattle.entries.specs.Entries.{Entry}
 use Rattle.book.specs.Answers.{Answer, Outcome, entryBytes, given, refused, writingImage}
 use Rattle.book.specs.Answers as answers
+use Rattle.book.specs.Book.{bookImage}
 use Rattle.answers.specs.declared.Written.{Written}
 use Rattle.answers.specs.declared.Written.the-variants as written
 
@@ -20,3 +21,7 @@ pub record Answered (o : Outcome answers.Written) (r : Written) (dest : List ℕ
 -- one answer entry written, where the destination has room
 abbrev pub oneEntry : Entry → List ℕ → Outcome answers.Written
 oneEntry e dst = writingImage [] (e ∷ []) (entryBytes e) dst
+
+-- a whole book written, where the destination has room
+abbrev pub wholeBook : List Entry → List ℕ → Outcome answers.Written
+wholeBook es dst = writingImage [] es (bookImage es) dst

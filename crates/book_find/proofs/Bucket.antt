@@ -18,7 +18,7 @@ use Rattle.entries.proofs.Place.{place-unique}
 use Rattle.entries.proofs.Valid.{Valid}
 use Rattle.front_coding.specs.Cursor.{Stepped, cursorOf, nameIn}
 use Rattle.front_coding.specs.Records.{bucketHead, bucketSize}
-use Rattle.front_coding.proofs.Writing.{same-record}
+use Rattle.record_writer.proofs.Writing.{same-record}
 use Rattle.book.specs.Ahead.{Ahead, InFront, nameBefore, recordAt}
 use Rattle.book.specs.Book.{layout21, offset}
 use Rattle.book.proofs.Ahead.{ahead-bucket, step-ahead, step-at, step-name}

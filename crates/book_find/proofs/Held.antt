@@ -10,7 +10,7 @@ use Rattle.octets.specs.Octets.{numberAt}
 use Rattle.entries.specs.Entries.{Entry, at, names}
 use Rattle.entries.proofs.Valid.{length-names}
 use Rattle.front_coding.specs.Records.{bucketHead, bucketSize, records}
-use Rattle.front_coding.proofs.Writing.{record-head}
+use Rattle.record_writer.proofs.Writing.{record-head}
 use Rattle.book.specs.Book.{inBook, layout21, offset}
 use Rattle.book.specs.Held.{Held}
 use Rattle.book.proofs.Ahead.{ahead-bucket, names-at}

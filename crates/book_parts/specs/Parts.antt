@@ -1,4 +1,4 @@
--- The check of a book; what it and the call for a head's length answer, as document 01's: the refusal's number, or the value given.
+-- The check of a book; its answer as document 01's: the refusal's number, or the entries.
 use Prim.Native.Nat.{ℕ}
 use mathlib.Core.Bool.{not}
 use mathlib.Core.List.{List, [], _∷_}
@@ -7,16 +7,10 @@ use Rattle.book.specs.Book.{inBook, isBook}
 use Rattle.book.specs.Answers.{Answer, _when_, given, refused, unless}
 use Rattle.book_parts.specs.declared.Checked.{Checked}
 use Rattle.book_parts.specs.declared.Checked.the-variants as checked
-use Rattle.book_parts.specs.declared.HeadLength.{HeadLength}
-use Rattle.book_parts.specs.declared.HeadLength.the-variants as head-length
 
 abbrev pub checkedOf : Checked → Answer ℕ
 checkedOf (checked.Refused n) = refused n
 checkedOf (checked.Entries k) = given k
-
-abbrev pub lengthOf : HeadLength → Answer ℕ
-lengthOf (head-length.Refused n) = refused n
-lengthOf (head-length.Bytes k) = given k
 
 -- the check: 1 where the image is not laid out as a book's, or cut off by its buffer; else how many entries it has
 unfoldable pub checkBook : List ℕ → Answer ℕ

@@ -10,7 +10,7 @@ use Rattle.octets.specs.Octets.{be}
 use Rattle.entries.specs.Names.{longestName}
 use Rattle.front_coding.specs.Cursor.{nameIn}
 use Rattle.front_coding.specs.Records.{bucketHead, recordOf}
-use Rattle.front_coding.specs.Written.{Wrote}
+use Rattle.record_writer.specs.Written.{Wrote}
 use Rattle.front_coding.proofs.Steps.{take-sets}
 use Rattle.book.specs.Book.{blockSize, layout21}
 use Rattle.book_writer.specs.Calls.{Put}

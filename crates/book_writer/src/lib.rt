@@ -47,7 +47,7 @@ pub fn put_entry(
 {
     numbers::write_u32(dst, 7 + 4 * index, score);
     put_offset(dst, n, index, at);
-    front_coding::put_record(dst, at, index, prev, name)
+    record_writer::put_record(dst, at, index, prev, name)
 }
 
 // Where block j of n entries ends.

@@ -1,4 +1,2 @@
 pub mod Digits
 pub mod Parsing
-pub mod Decimal
-pub mod Printing

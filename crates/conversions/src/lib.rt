@@ -11,11 +11,11 @@ pub fn build(sheet: &[u8], dst: &mut [u8]) -> Written
     let book_check::Checked::Book(n) = sheet::check(sheet) else {
         return Written::Refused(1);
     };
-    let total = sheet::book_size(sheet, n);
+    let total = sheet_writer::book_size(sheet, n);
     if dst.len() < total {
         return Written::Refused(7);
     }
-    sheet::fill_book(sheet, n, total, dst);
+    sheet_writer::fill_book(sheet, n, total, dst);
     Written::Wrote {
         entries: n,
         bytes: total,
@@ -29,11 +29,11 @@ pub fn list(book: &[u8], dst: &mut [u8]) -> Written
     let book_check::Checked::Book(n) = book_check::check(book) else {
         return Written::Refused(1);
     };
-    let total = sheet::sheet_size(book, n);
+    let total = sheet_writer::sheet_size(book, n);
     if dst.len() < total {
         return Written::Refused(7);
     }
-    sheet::fill_sheet(book, n, total, dst);
+    sheet_writer::fill_sheet(book, n, total, dst);
     Written::Wrote {
         entries: n,
         bytes: total,

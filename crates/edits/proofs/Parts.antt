@@ -3,28 +3,37 @@
 use Prim.Native.Nat.{_+_, _≤_, ℕ}
 use mathlib.Core.Path.{_∙_, _≡_, ap, sym}
 use mathlib.Core.Bool.{Bool, true}
-use mathlib.Core.List.{List, _++_}
+use mathlib.Core.List.{List, [], _++_, _∷_}
 use lib.ListN.{drop, length, take}
 use lib.Seq.{drop-at, length-take-le, slice, take-at, take-length}
 use native.Mathlib.Omega.{arith}
 use Rattle.octets.specs.Lists.{if_then_else_}
 use Rattle.octets.proofs.Tests.{by-test}
-use Rattle.entries.specs.Entries.{Entry, maxEntries, names}
+use Rattle.entries.specs.Entries.{Entry, entry, maxEntries, names}
 use Rattle.entries.proofs.Valid.{valid-of}
 use Rattle.front_coding.specs.Cursor.{nameIn}
 use Rattle.book.specs.Ahead.{InFront, nameBefore, recordAt}
-use Rattle.book.specs.Book.{bookImage, imageIn, inBook, layout21}
+use Rattle.book.specs.Book.{bookImage, inBook, layout21}
 use Rattle.book.proofs.Lookups.{held-few, held-stored}
 use Rattle.book.proofs.Stored.{front-within}
 use Rattle.book_writer.proofs.Partial.{Partial}
 use Rattle.edit_front.specs.Front.{CanMove, FrontOf, Moved, putFront}
 use Rattle.edit_front.proofs.Front.{front-low, front-partial, name-same, names-take, place-moved}
-use Rattle.edits.specs.Passing.{BookDone, Fits, Passed, Reads, RunDone, RunRoom, Went, afterPass, endOf}
+use Rattle.passing.specs.Passing.{BookDone, Fits, Passed, Went, afterPass}
+use Rattle.edits.specs.Runs.{Reads, RunDone, RunRoom}
 use Rattle.edits.specs.Splice.{Spliced, countAfter, leftOut, putIn, result}
-use Rattle.edits.proofs.Book.{first, rest-whole, whole-end, whole-fits}
-use Rattle.edits.proofs.Passing.{bytes-append, end-append, fits-first, fits-rest, passed-length}
+use Rattle.passing.proofs.Book.{first, rest-whole, whole-end, whole-fits}
+use Rattle.passing.proofs.Passing.{bytes-append, end-append, fits-first, fits-rest, passed-length}
 use Rattle.edits.proofs.Splice.{result-count}
 use Rattle.front_coding.specs.declared.Cursor.{Cursor}
+
+-- the new entry, where there is one
+module _ {store : Bool} {n : ℕ} {c : Cursor} {w : List ℕ} {s : ℕ} {d : List ℕ} {fresh : Bool} (t : fresh ≡ true) where
+  pub fresh-fits : Fits store n c (putIn fresh w s) d → Fits store n c (entry w s ∷ []) d
+  fresh-fits f = rw t at f
+
+  pub fresh-passed : {r : Cursor} {new : List ℕ} → Passed store n c (entry w s ∷ []) d r new → Passed store n c (putIn fresh w s) d r new
+  fresh-passed p = rw t p
 
 module _ {book : List ℕ} {n i : ℕ} {skip fresh : Bool} {w : List ℕ} {s : ℕ} (a : Spliced book n i skip fresh w s) where
   abbrev es : List Entry

@@ -5,7 +5,7 @@ use mathlib.Core.Path.{_∙_, _≡_, refl}
 use mathlib.Core.Bool.{Bool}
 use mathlib.Core.List.{List, [], _++_, _∷_}
 use lib.ListN.{drop, length, take}
-use lib.Seq.{length-take-le, sets, slice, slice-cons, slice-empty}
+use lib.Seq.{slice, slice-cons, slice-empty}
 use native.Mathlib.Numerals.{add-one}
 use native.Mathlib.Omega.{arith}
 use Rattle.entries.specs.Entries.{Entry, at, entry, maxEntries, noEntry}
@@ -18,9 +18,9 @@ use Rattle.book.proofs.Ahead.{step-ahead}
 use Rattle.book.proofs.Lookups.{held-few, held-stored, held-valid}
 use Rattle.book_records.specs.Parts.{Inside, Read}
 use Rattle.book_records.proofs.Reading.{Given, Reading, read-inside, read-turn, step-inside, step-read, stepBy}
-use Rattle.book_writer.proofs.Calls.{name-copied}
-use Rattle.edits.specs.Passing.{Fits, Passed, Reads, RunDone, RunRoom}
-use Rattle.edits.proofs.Passing.{fits-first, fits-rest, passed-append, passed-length, passed-none}
+use Rattle.passing.specs.Passing.{Fits, Passed}
+use Rattle.edits.specs.Runs.{Reads, RunDone, RunRoom}
+use Rattle.passing.proofs.Passing.{fits-first, fits-rest, passed-append, passed-length, passed-none}
 use Rattle.book_records.specs.declared.Parts.{Parts}
 use Rattle.front_coding.specs.declared.Cursor.{Cursor}
 
@@ -118,11 +118,3 @@ module _
               fits = fits-rest (q .went) (passed-length q) (slice (i + 1) end (inBook book)) (rw split at (a .fits));
               whole = λ t. a .whole (rw split (passed-append q t));
             }
-
--- a name copied to the front of the array that held the one before
-pub held-next :
-    (name held : List ℕ) (len : ℕ) {new : List ℕ} → length name ≡ longestName → length held ≡ longestName → len ≤ longestName
-    → new ≡ sets held 0 (take len name) → take len new ≡ take len name
-held-next name held len a b h e =
-    let l : length (take len name) ≡ len = length-take-le len name (omega arith) in
-    rw l at (name-copied held (take len name) (omega arith) e)

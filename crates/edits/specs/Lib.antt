@@ -1,4 +1,4 @@
 pub mod Edits
 pub mod Splice
-pub mod Passing
+pub mod Runs
 pub mod Worked

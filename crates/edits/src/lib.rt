@@ -3,36 +3,14 @@
 // out. Scores, offsets and peaks are the result's own.
 ghost use mathlib.Core.Path.{_≡_};
 ghost use mathlib.Core.Bool.{true};
-ghost use mathlib.Core.List.{[], _∷_};
 ghost use lib.ListN.{length};
 ghost use Prim.Native.Nat.{_+_, _≤_};
 ghost use Rattle.octets.specs.Octets.{overwrite};
-ghost use Rattle.entries.specs.Entries.{entry, maxEntries};
+ghost use Rattle.entries.specs.Entries.{maxEntries};
 ghost use Rattle.book.specs.Book.{bookImage, inBook};
+ghost use Rattle.passing.specs.Passing.{BookDone, Fits, Passed};
 ghost use Rattle.edits.specs.Splice.{Spliced, countAfter, leftOut, putIn, result};
-ghost use Rattle.edits.specs.Passing.{BookDone, Fits, Passed, Reads, RunDone, RunRoom, cursorBehind};
-
-// Passes an entry as the one at a position of n, behind the name prev: puts it, its record at index `at`, or, without `store`, only
-// measures the record. Where the record ends.
-fn pass_entry(
-    dst: &mut [u8],
-    n: usize,
-    index: usize,
-    at: usize,
-    prev: &[u8],
-    name: &[u8],
-    score: u32,
-    store: bool,
-) -> usize
-    requires { ⌜ Fits store n (cursorBehind at index (now prev)) (entry (now name) score ∷ []) (now dst) ⌝ }
-    ensures { λ r. ⌜ Passed store n (cursorBehind at index (now (prev .entry))) (entry (now (name .entry)) score ∷ []) (now (dst .entry))
-        (cursorBehind r (index + 1) (now (name .entry))) (now (dst .exit)) ⌝ }
-{
-    if store {
-        return book_writer::put_entry(dst, n, index, at, prev, name, score);
-    }
-    at + front_coding::record_size(index, prev, name)
-}
+ghost use Rattle.edits.specs.Runs.{Reads, RunDone, RunRoom};
 
 // Passes the entries of a book, from a cursor on up to a position, as the next ones of the result's n. Where their records end.
 fn pass_run(
@@ -59,17 +37,17 @@ fn pass_run(
         at += p.start + p.own;
         let len = p.kept + p.own;
         let score = book_check::score_at(book, i);
-        put = pass_entry(
+        put = passing::pass_next(
             dst,
             n,
             index,
             put,
-            &held[..kept],
+            &mut held,
+            kept,
             &name[..len],
             score,
             store,
         );
-        octets::copy(&mut held, 0, &name[..len]);
         kept = len;
         i += 1;
         index += 1;
@@ -97,8 +75,7 @@ fn pass_new(
     let index = c.index;
     let len = c.len;
     let mut held = c.name;
-    let end = pass_entry(dst, n, index, at, &held[..len], name, score, store);
-    octets::copy(&mut held, 0, name);
+    let end = passing::pass_next(dst, n, index, at, &mut held, len, name, score, store);
     front_coding::Cursor {
         at: end,
         index: index + 1,

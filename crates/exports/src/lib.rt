@@ -4,6 +4,7 @@ ghost use mathlib.Core.Path.{_≡_};
 ghost use lib.ListN.{length};
 ghost use Rattle.book.specs.Lookups.{find, nameAt, nameAtByName, prefixRange};
 ghost use Rattle.edits.specs.Edits.{emptyBook, setEntry, withdraw};
+ghost use Rattle.joining.specs.Joined.{mergeBooks};
 ghost use Rattle.sheet.specs.Sheet.{buildBook, listBook};
 ghost use Rattle.completion.specs.Complete.{completeBook};
 ghost use Rattle.trie.specs.Calls.{completeTrie, writeTrie};
@@ -46,6 +47,20 @@ pub extern "C" fn label_book_withdraw(
     ensures { λ r. ⌜ Left (withdraw (now (book .entry)) (now (name .entry)) (now (dst .entry))) r (now (entries .exit)) (now (bytes .exit)) (now (dst .exit)) ⌝ }
 {
     out_values::tell_written(label_book::withdraw(book, name, dst), entries, bytes)
+}
+
+// Merges two books into a third buffer: every name of either, with the first book's score where both have it.
+#[no_mangle]
+pub extern "C" fn label_book_merge(
+    first: &[u8],
+    second: &[u8],
+    dst: &mut [u8],
+    entries: &mut usize,
+    bytes: &mut usize,
+) -> u8
+    ensures { λ r. ⌜ Left (mergeBooks (now (first .entry)) (now (second .entry)) (now (dst .entry))) r (now (entries .exit)) (now (bytes .exit)) (now (dst .exit)) ⌝ }
+{
+    out_values::tell_written(label_book::merge(first, second, dst), entries, bytes)
 }
 
 // Writes the entry at a position as one answer entry.

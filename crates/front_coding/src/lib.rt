@@ -1,13 +1,11 @@
-// Front-coded records: reading one, with the name before it in a lent array, and writing one.
+// Front-coded records: reading one, with the name before it in a lent array.
 ghost use mathlib.Core.Path.{_≡_};
 ghost use mathlib.Core.Bool.{true};
-ghost use Prim.Native.Nat.{_≤_};
 ghost use lib.ListN.{length};
 ghost use Rattle.entries.specs.Names.{isPrefix, longestName};
-ghost use Rattle.front_coding.specs.Records.{bucketHead, recordOf};
+ghost use Rattle.front_coding.specs.Records.{bucketHead};
 ghost use Rattle.front_coding.specs.Parts.{goesAbove, headPart, recordPart, tailPart};
 ghost use Rattle.front_coding.specs.Cursor.{Sound, Stepped, cursorOf, stepOf};
-ghost use Rattle.front_coding.specs.Written.{Room, Sized, Wrote, headRecord, tailRecord};
 
 // A place between records: where the next record starts, its position, and the name before it.
 pub struct Cursor {
@@ -39,7 +37,7 @@ pub enum Part {
 }
 
 // Whether the name at a position is a bucket's head.
-fn is_head(index: usize) -> bool
+pub fn is_head(index: usize) -> bool
     ensures { λ r. ⌜ r ≡ bucketHead index ⌝ }
 {
     index % 8 == 0
@@ -141,52 +139,5 @@ pub fn read_record(src: &[u8], at: usize, index: usize, name: &mut [u8], len: us
                 len: kept + n,
             }
         }
-    }
-}
-
-// Writes a head at index at, and answers where it ends: the name's length, the name.
-fn put_head(dst: &mut [u8], at: usize, name: &[u8]) -> usize
-    requires { ⌜ Room (now dst) at (headRecord (now name)) (now name) ⌝ }
-    ensures { λ r. ⌜ Wrote (now (dst .entry)) (now (dst .exit)) at (headRecord (now (name .entry))) r ⌝ }
-{
-    dst[at] = name.len() as u8;
-    octets::copy(dst, at + 1, name);
-    at + 1 + name.len()
-}
-
-// Writes another record: the number of bytes shared with the name before, the length of the rest, the rest.
-fn put_tail(dst: &mut [u8], at: usize, prev: &[u8], name: &[u8]) -> usize
-    requires { ⌜ Room (now dst) at (tailRecord (now prev) (now name)) (now name) ⌝ }
-    ensures { λ r. ⌜ Wrote (now (dst .entry)) (now (dst .exit)) at (tailRecord (now (prev .entry)) (now (name .entry))) r ⌝ }
-{
-    let kept = octets::common_prefix(prev, name);
-    let rest = &name[kept..];
-    dst[at] = kept as u8;
-    dst[at + 1] = rest.len() as u8;
-    octets::copy(dst, at + 2, rest);
-    at + 2 + rest.len()
-}
-
-// Writes the record of a name, at a position behind the name prev, and answers where it ends.
-pub fn put_record(dst: &mut [u8], at: usize, index: usize, prev: &[u8], name: &[u8]) -> usize
-    requires { ⌜ Room (now dst) at (recordOf bucketHead index (now prev) (now name)) (now name) ⌝ }
-    ensures { λ r. ⌜ Wrote (now (dst .entry)) (now (dst .exit)) at (recordOf bucketHead index (now (prev .entry)) (now (name .entry))) r ⌝ }
-{
-    if is_head(index) {
-        put_head(dst, at, name)
-    } else {
-        put_tail(dst, at, prev, name)
-    }
-}
-
-// How many bytes the record of a name takes.
-pub fn record_size(index: usize, prev: &[u8], name: &[u8]) -> usize
-    requires { ⌜ length (now name) ≤ longestName ⌝ }
-    ensures { λ r. ⌜ Sized (recordOf bucketHead index (now (prev .entry)) (now (name .entry))) r ⌝ }
-{
-    if is_head(index) {
-        1 + name.len()
-    } else {
-        2 + (name.len() - octets::common_prefix(prev, name))
     }
 }

@@ -11,8 +11,8 @@ use Rattle.octets.specs.Octets.{numberAt}
 use Rattle.octets.proofs.Tests.{by-test}
 use Rattle.ledger.specs.Ledger.{Edit}
 use Rattle.histories.specs.Code.{countedAs, foundLength}
-use Rattle.histories.specs.Script.{callAt, callLength, calls, isCall, onward}
-use Rattle.histories.proofs.Script.{call-stands, calls-at, calls-end, calls-none}
+use Rattle.history_calls.specs.Script.{callAt, callLength, calls, isCall, onward}
+use Rattle.history_calls.proofs.Script.{call-stands, calls-at, calls-end, calls-none}
 use Rattle.histories.specs.declared.Counted.the-variants as counted
 
 found : (bs : List ℕ) → isCall bs ≡ true → foundLength bs ≡ callLength bs

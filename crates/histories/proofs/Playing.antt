@@ -14,12 +14,13 @@ use Rattle.octets.proofs.Tests.{by-test}
 use Rattle.book.specs.Answers.{onAnswer}
 use Rattle.ledger.specs.Ledger.{Edit}
 use Rattle.answers.specs.Reports.{writtenOf}
-use Rattle.histories.specs.Code.{AllPlayed, Performed, Playable, foundLength}
-use Rattle.histories.specs.Run.{Bench, bench, benchAfter, benchCall, benchStep, told}
-use Rattle.histories.specs.Script.{answerBytes, callAt, callLength, calls, callsOf, isCall, isLaid, onward}
-use Rattle.histories.proofs.Calling.{length-answer}
+use Rattle.histories.specs.Code.{AllPlayed, Playable, foundLength}
+use Rattle.history_calls.specs.Calls.{Performed}
+use Rattle.history_calls.specs.Run.{Bench, bench, benchAfter, benchCall, benchStep, told}
+use Rattle.history_calls.specs.Script.{answerBytes, callAt, callLength, calls, callsOf, isCall, isLaid, onward}
+use Rattle.history_calls.proofs.Calling.{length-answer, performed-bench}
 use Rattle.histories.proofs.Counting.{found-length}
-use Rattle.histories.proofs.Script.{call-stands, calls-at, calls-end, calls-none}
+use Rattle.history_calls.proofs.Script.{call-stands, calls-at, calls-end, calls-none}
 use Rattle.answers.specs.declared.Written.{Written}
 
 length-told : (cs : List Edit) (b : Bench) → length (told cs b) ≡ 7 * length cs
@@ -55,13 +56,6 @@ play-start b p =
       outSize = refl;
       answers = refl;
     }
-
--- what a call leaves is the bench's next step
-pub performed-bench :
-    {c : Edit} {b : Bench} {r : Written} {one two : List ℕ} {t : Bool} → Performed c b r one two
-    → t ≡ onAnswer (writtenOf r) (b .turned) (not (b .turned)) → bench one two t ≡ benchStep c b
-unfolding benchStep
-performed-bench p q = rw (p .first, p .second, q, p .answer)
 
 onward-laid : (c : Edit) (o : Option (List Edit)) → isLaid (onward c o) ≡ true → (isLaid o ≡ true) × (callsOf (onward c o) ≡ c ∷ callsOf o)
 onward-laid c none h = (h, let z : _≡_ {A = Bool} false true = h in cc)

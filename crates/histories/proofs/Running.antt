@@ -11,8 +11,8 @@ use Rattle.book_writer.proofs.Put.{room}
 use Rattle.edits.specs.Edits.{emptyBook}
 use Rattle.ledger.specs.Ledger.{Edit}
 use Rattle.histories.specs.Code.{AllPlayed, Playable, countedAs, finishOf}
-use Rattle.histories.specs.Run.{bench, runOf, startBench, tooSmall}
-use Rattle.histories.specs.Script.{calls, callsOf, isLaid}
+use Rattle.history_calls.specs.Run.{bench, runOf, startBench, tooSmall}
+use Rattle.history_calls.specs.Script.{calls, callsOf, isLaid}
 use Rattle.histories.specs.declared.Counted.the-variants as counted
 use Rattle.histories.specs.declared.Ran.the-variants as ran
 

@@ -23,11 +23,11 @@ use Rattle.book.proofs.Answers.{clear, given-is}
 use Rattle.ledger.specs.History.{Buffers, buffersAfter, call, callStep, started}
 use Rattle.ledger.specs.Ledger.{Edit, held, scoreFits}
 use Rattle.ledger.proofs.History.{history-answers, history-holds, refused-unchanged, start-holds}
-use Rattle.histories.specs.Run.{Bench, Played, benchAfter, benchAnswers, benchCall, benchStep, bookOf, buffersOf, runChecks, runOf, startBench, told}
-use Rattle.histories.specs.Script.{answerBytes, callAt, callLength, calls, callsFrom, callsOf, isCall, onward}
+use Rattle.history_calls.specs.Run.{Bench, Played, benchAfter, benchAnswers, benchCall, benchStep, bookOf, buffersOf, runChecks, runOf, startBench, told}
+use Rattle.history_calls.specs.Script.{answerBytes, callAt, callLength, calls, callsFrom, callsOf, isCall, onward}
 use Rattle.histories.specs.Theorem.{Ledgers, RefusedStays, RunLedgers}
-use Rattle.histories.proofs.Calling.{score-fits}
-use Rattle.histories.proofs.Script.{call-stands}
+use Rattle.history_calls.proofs.Calling.{score-fits}
+use Rattle.history_calls.proofs.Script.{call-stands}
 
 pub by-answer :
     {G : Type 0} (a : Answer answers.Written) → ((n : ℕ) → a ≡ refused n → G) → ((x : answers.Written) → a ≡ given x → G) → G

@@ -1,5 +1,4 @@
--- What the functions ask and ensure, through the definitions of a run.
-use Rattle.book.specs.Answers as answers
+-- What counting and playing a script ask and ensure, through the definitions of a run.
 use Prim.Native.Nat.{_*_, _+_, _≤_, ℕ}
 use mathlib.Core.Path.{_≡_}
 use mathlib.Core.Bool.{true}
@@ -8,16 +7,12 @@ use mathlib.Core.Option.{Option, none, some}
 use lib.ListN.{length}
 use Rattle.octets.specs.Lists.{if_then_else_}
 use Rattle.octets.specs.Octets.{overwrite}
-use Rattle.book.specs.Answers.{Answer, counts, given, noneWritten, number, refused}
-use Rattle.ledger.specs.History.{Buffers, call}
+use Rattle.book.specs.Answers.{given, refused}
 use Rattle.ledger.specs.Ledger.{Edit}
-use Rattle.answers.specs.Reports.{Answered, writtenOf}
-use Rattle.histories.specs.Run.{Bench, Finish, benchAfter, benchCall, benchStep, told}
-use Rattle.histories.specs.Script.{callLength, calls, callsOf, isCall, isLaid}
-use Rattle.answers.specs.declared.Written.{Written}
+use Rattle.history_calls.specs.Run.{Bench, Finish, benchAfter, told}
+use Rattle.history_calls.specs.Script.{callLength, calls, callsOf, isCall, isLaid}
 use Rattle.histories.specs.declared.Counted.{Counted}
 use Rattle.histories.specs.declared.Counted.the-variants as counted
-use Rattle.histories.specs.declared.Told.{Told}
 use Rattle.histories.specs.declared.Ran.{Ran}
 use Rattle.histories.specs.declared.Ran.the-variants as ran
 
@@ -29,29 +24,6 @@ foundLength bs = if isCall bs then callLength bs else 0
 abbrev pub countedAs : ℕ → Option (List Edit) → Counted
 countedAs n none = counted.Damaged
 countedAs n (some cs) = counted.Calls (n + length cs)
-
--- the counts of an answer fit in their bytes
-pub record Small (a : Answer answers.Written) : Type 0 where
-  pub entries : counts noneWritten a .entries ≤ 1024
-  pub bytes : counts noneWritten a .bytes ≤ 55559
-
--- the three numbers of an answer
-pub record Tells (a : Answer answers.Written) (t : Told) : Type 0 where
-  pub code : t .number ≡ number a
-  pub entries : t .entries ≡ counts noneWritten a .entries
-  pub bytes : t .bytes ≡ counts noneWritten a .bytes
-
--- a call on two buffers answered r and left its destination so
-pub record Called (c : Edit) (b : Buffers) (r : Written) (left : List ℕ) : Type 0 where
-  pub answered : Answered (call c b) r left
-  pub small : Small (writtenOf r)
-
--- a call on the bench b answered r and left these buffers
-pub record Performed (c : Edit) (b : Bench) (r : Written) (one two : List ℕ) : Type 0 where
-  pub answer : writtenOf r ≡ benchCall c b .answer
-  pub first : one ≡ benchStep c b .first
-  pub second : two ≡ benchStep c b .second
-  pub small : Small (writtenOf r)
 
 -- a script whose answers have room
 pub record Playable (script out : List ℕ) : Type 0 where

@@ -1,4 +1,2 @@
-pub mod Script
-pub mod Run
 pub mod Theorem
 pub mod Code

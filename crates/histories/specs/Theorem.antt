@@ -8,8 +8,8 @@ use Rattle.octets.specs.Octets.{overwrite}
 use Rattle.book.specs.Answers.{given, refused}
 use Rattle.book.specs.Book.{bookImage}
 use Rattle.ledger.specs.Ledger.{Edit, held, ledgerAnswers}
-use Rattle.histories.specs.Run.{Bench, Finish, Played, benchCall, benchStep, runOf}
-use Rattle.histories.specs.Script.{answerBytes, calls, callsOf}
+use Rattle.history_calls.specs.Run.{Bench, Finish, Played, benchCall, benchStep, runOf}
+use Rattle.history_calls.specs.Script.{answerBytes, calls, callsOf}
 
 -- For buffers of L bytes and the calls cs: the answers written are the ledger's, and what is behind them stays; the image of the entries
 -- that the ledger holds stands at the front of the buffer that `turned` names.

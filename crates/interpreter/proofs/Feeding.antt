@@ -12,13 +12,13 @@ use borrow.Author.Tests.{eq-eqb, eqb-true, leb-false, leb-true, ne-eqb, not-fals
 use Rattle.octets.specs.Lists.{all}
 use Rattle.octets.proofs.Tests.{and-true, by-test}
 use Rattle.front_coding.proofs.Steps.{take-sets}
-use Rattle.histories.specs.Run.{Bench, bench}
+use Rattle.history_calls.specs.Run.{Bench, bench}
 use Rattle.commands.specs.Program.{commandOf, front}
 use Rattle.command_lines.proofs.Digits.{front-most}
 use Rattle.interpreter.specs.Feed.{Console, FeedDone, FinishDone, Kept, console, consoleAfter, fedBy, inLine, keptBytes, lineOf, saidAt, saidFor}
-use Rattle.interpreter.specs.Step.{StepDone, leftBy, shownBy}
+use Rattle.line_steps.specs.Step.{StepDone, leftBy, shownBy}
 use Rattle.interpreter.specs.Theorem.{InParts}
-use Rattle.interpreter.specs.declared.Stepped.{Stepped}
+use Rattle.line_steps.specs.declared.Stepped.{Stepped}
 
 pub feed-byte : (x : ℕ) → x ≡ 10 → inLine x ≡ false
 feed-byte x e = rw (eq-eqb x 10 e)

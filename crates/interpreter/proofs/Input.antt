@@ -11,10 +11,10 @@ use Rattle.octets.specs.Lists.{all}
 use Rattle.octets.proofs.Tests.{and-true, by-test}
 use Rattle.entries.specs.Entries.{Entry}
 use Rattle.ledger.proofs.History.{Holds}
-use Rattle.histories.specs.Run.{Bench, buffersOf, startBench}
+use Rattle.history_calls.specs.Run.{Bench, buffersOf, startBench}
 use Rattle.commands.specs.Program.{bufferLength, commandOf, heldAfter, lines, outputOf, printed, program}
 use Rattle.interpreter.specs.Feed.{Console, benchLast, console, consoleAfter, fedBy, inLine, keptBytes, saidAt, saidFor, saidLast}
-use Rattle.interpreter.specs.Step.{leftBy, shownBy}
+use Rattle.line_steps.specs.Step.{leftBy, shownBy}
 use Rattle.interpreter.specs.Theorem.{InputSays, heldFor, startConsole}
 use Rattle.interpreter.proofs.Cutting.{cut-alike}
 use Rattle.interpreter.proofs.Feeding.{take-twice}

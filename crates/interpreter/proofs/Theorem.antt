@@ -20,10 +20,10 @@ use Rattle.book.specs.Book.{bookImage}
 use Rattle.book.proofs.Size.{book-length}
 use Rattle.ledger.specs.Ledger.{ledgerAnswer, scoreFits, setName, withdrawName}
 use Rattle.ledger.proofs.History.{Holds, history-answers, history-holds, reads, start-holds}
-use Rattle.histories.specs.Run.{Bench, benchCall, buffersOf, startBench}
+use Rattle.history_calls.specs.Run.{Bench, benchCall, buffersOf, startBench}
 use Rattle.histories.proofs.Theorem.{step-buffers}
 use Rattle.commands.specs.Program.{bad, bufferLength, commandOf, digits, edit, editLine, hasNumber, heldAfter, numbered, outputOf, printed, top, valueOn}
-use Rattle.interpreter.specs.Step.{leftBy, shownBy, topOf}
+use Rattle.line_steps.specs.Step.{leftBy, shownBy, topOf}
 use Rattle.interpreter.specs.Theorem.{LinesSay, NeverSeven, Stands, heldFor, leftFor, shownFor}
 
 -- the score of a set is a number of 4 bytes

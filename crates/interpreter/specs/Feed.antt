@@ -6,12 +6,12 @@ use mathlib.Core.List.{List, [], _++_, _∷_}
 use lib.Dec.{eqb}
 use lib.ListN.{length, take}
 use Rattle.octets.specs.Lists.{if_then_else_}
-use Rattle.histories.specs.Run.{Bench, bench}
+use Rattle.history_calls.specs.Run.{Bench, bench}
 use Rattle.commands.specs.Program.{commandOf, front}
-use Rattle.command_lines.specs.Printing.{Put}
-use Rattle.interpreter.specs.Step.{leftBy, lineRoom, shownBy}
+use Rattle.line_printer.specs.Printing.{Put}
+use Rattle.line_steps.specs.Step.{leftBy, lineRoom, shownBy}
 use Rattle.interpreter.specs.declared.Fed.{Fed}
-use Rattle.interpreter.specs.declared.Stepped.{Stepped}
+use Rattle.line_steps.specs.declared.Stepped.{Stepped}
 
 -- the bytes of a line that are kept
 abbrev pub keptBytes : ℕ

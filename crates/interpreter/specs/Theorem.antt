@@ -9,10 +9,10 @@ use Rattle.entries.specs.Entries.{Entry, valid}
 use Rattle.book.specs.Answers.{refused}
 use Rattle.book.specs.Book.{bookImage}
 use Rattle.ledger.specs.Ledger.{Edit, ledgerAnswer, scoreFits}
-use Rattle.histories.specs.Run.{Bench, bookOf, startBench}
+use Rattle.history_calls.specs.Run.{Bench, bookOf, startBench}
 use Rattle.commands.specs.Program.{bufferLength, commandOf, heldAfter, lines, outputOf, printed, program}
 use Rattle.interpreter.specs.Feed.{Console, benchLast, console, consoleAfter, saidFor, saidLast}
-use Rattle.interpreter.specs.Step.{leftBy, shownBy}
+use Rattle.line_steps.specs.Step.{leftBy, shownBy}
 
 -- a list of lines carried out from a bench on: what is printed, and the bench after it
 abbrev pub shownFor : List (List ℕ) → Bench → List ℕ

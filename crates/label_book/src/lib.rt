@@ -13,6 +13,9 @@ pub use edit_calls::set;
 // withdraw(book: &[u8], name: &[u8], dst: &mut [u8]) -> Written
 // Removes a name: `withdraw`.
 pub use edit_calls::withdraw;
+// merge(first: &[u8], second: &[u8], dst: &mut [u8]) -> Written
+// Joins two books in a third buffer; where both have a name the first one's score counts: `mergeBooks` in `crates/joining/specs/Joined.antt`.
+pub use merging::merge;
 // Refused(number), or Wrote { entries, bytes }: how many entries are in what was written, and its length. Every call that writes has it.
 pub use answers::Written;
 
@@ -42,14 +45,14 @@ pub use book_parts::check;
 pub use book_parts::name_at;
 // head<'a>(book: &'a [u8], bucket: usize) -> &'a [u8]
 // The head name of a bucket, a part of the book; empty where `head_length` refuses: `headName`.
-pub use book_parts::head;
+pub use bucket_heads::head;
 // head_length(book: &[u8], bucket: usize) -> HeadLength
 // The length of that name: `headLength`.
-pub use book_parts::head_length;
+pub use bucket_heads::head_length;
 // Refused(number), or Entries(count).
 pub use book_parts::Checked;
 // Refused(number), or Bytes(length).
-pub use book_parts::HeadLength;
+pub use bucket_heads::HeadLength;
 
 // Completion: the first k entries in rank that a prefix begins, or all if fewer, as answer entries.
 

@@ -1,6 +1,6 @@
 -- Demand 3, whole.
 use Prim.Native.Nat.{_*_, _≤_, ℕ}
-use mathlib.Core.Path.{_≡_, ap}
+use mathlib.Core.Path.{_≡_, ap, refl}
 use mathlib.Core.Bool.{true}
 use mathlib.Core.List.{List, []}
 use mathlib.Core.Option.{some}
@@ -16,9 +16,11 @@ use Rattle.entries.specs.Names.{isPrefix}
 use Rattle.entries.proofs.BestList.{best-list}
 use Rattle.entries.proofs.Valid.{valid-of}
 use Rattle.book.specs.Answers.{Written, given, writing}
-use Rattle.book.specs.Book.{bookImage, readBook}
+use Rattle.book.specs.Book.{bookImage, inBook, isBook, readBook}
+use Rattle.book.specs.Held.{Held}
 use Rattle.book.proofs.Converting.{converted}
 use Rattle.book.proofs.Frame.{read-of}
+use Rattle.book.proofs.Lookups.{held-stored}
 use Rattle.edits.specs.Edits.{emptyBook}
 use Rattle.edits.proofs.Empty.{empty-refused}
 use Rattle.completion.specs.Complete.{completeBook, entryRoom}
@@ -27,10 +29,14 @@ use Rattle.trie.specs.Calls.{completeTrie, writeTrie}
 use Rattle.trie.specs.Reading.{readTrie}
 use Rattle.trie.specs.Trie.{trieImage}
 use Rattle.trie.proofs.Trie.{trie-exact}
-use Rattle.ledger.specs.Demand.{Demand3·all, offersOf}
+use Rattle.ledger.specs.Demand.{Demand3·all, OffersBest, offersOf}
 use Rattle.ledger.specs.History.{buffersAfter, started}
 use Rattle.ledger.specs.Ledger.{held}
 use Rattle.ledger.proofs.History.{history-answers, history-holds, reads, refused-unchanged, start-holds}
+
+-- the entries of a book are valid
+pub valid-in : (book : List ℕ) → isBook book ≡ true → valid (inBook book) ≡ true
+valid-in book t = let h : Held book (length (inBook book)) = record { isIt = t; count = refl } in held-stored h .ok
 
 -- completion from a buffer that is read as es, with long enough buffers
 completes :
@@ -64,6 +70,16 @@ trie-reads book es space r ok room =
     rw (converted readBook trieImage book space es r room)
     (read-of readTrie trieImage trie-exact es (drop (length (trieImage es)) space) ok)
 
+-- a buffer that is read as es offers the best list of es
+pub offers-best : (es : List Entry) (book : List ℕ) → readBook book ≡ some es → valid es ≡ true → OffersBest es book
+offers-best es book r ok =
+    record {
+      offers = completes book es r;
+      trieOffers = λ p k dst space hp lo hi long room.
+          trie-completes (writeTrie book space .dest) es (trie-reads book es space r ok room) p k dst hp lo hi long;
+      bestList = λ p k hp. best-list es p k (valid-of es ok .order);
+    }
+
 -- "empty" was accepted only where it fits
 empty-fits : (a : List ℕ) (x : Written) → emptyBook a .answer ≡ given x → 7 ≤ length a
 empty-fits a x h =
@@ -81,13 +97,9 @@ demand3 L a b h p q x y f =
     let k = history-holds L h [] (started a b) s f in
     let es = held L h [] in
     let book = buffersAfter h (started a b) .book in
-    let r : readBook book ≡ some es = reads L es (buffersAfter h (started a b)) k in
     record {
       answered = history-answers L h [] (started a b) s f;
       stands = rw (k .front) (take-append-seam (bookImage es) (k .rest));
       unchanged = λ c n e. refused-unchanged c (buffersAfter h (started a b)) n e;
-      offers = completes book es r;
-      trieOffers = λ v n dst space hx lo hi long room.
-          trie-completes (writeTrie book space .dest) es (trie-reads book es space r (k .ok) room) v n dst hx lo hi long;
-      bestList = λ v n hx. best-list es v n (valid-of es (k .ok) .order);
+      offersBest = offers-best es book (reads L es (buffersAfter h (started a b)) k) (k .ok);
     }

@@ -25,6 +25,21 @@ offersOf es p k looks dst =
     let l = completion es p k in
     record { answer = given (offeredAs l looks); dest = overwrite dst (entriesBytes l) }
 
+-- What a buffer with the book of the entries es at its front offers: the best list.
+pub record OffersBest (es : List Entry) (book : List ℕ) : Type 0 where
+  -- the list that this book offers, with long enough buffers
+  pub offers :
+      (p : List ℕ) (k : ℕ) (dst : List ℕ) (ranges : ℕ)
+      → isPrefix p ≡ true → 1 ≤ k → k ≤ maxCount → entryRoom * k ≤ length dst → k ≤ ranges
+      → completeBook book p k dst ranges ≡ offersOf es p k (machine es p k .looks) dst
+  -- the list that the trie written from it offers, with long enough buffers
+  pub trieOffers :
+      (p : List ℕ) (k : ℕ) (dst space : List ℕ)
+      → isPrefix p ≡ true → 1 ≤ k → k ≤ maxCount → entryRoom * k ≤ length dst → length (trieImage es) ≤ length space
+      → completeTrie (writeTrie book space .dest) p k dst ≡ offersOf es p k 0 dst
+  -- and that list is the best one
+  pub bestList : (p : List ℕ) (k : ℕ) → isPrefix p ≡ true → BestList es p k (completion es p k)
+
 -- For buffers a and b of L bytes, into the first of which "empty" was accepted, and the history h:
 pub record Demand3 (L : ℕ) (a b : List ℕ) (h : List Edit) : Type 0 where
   -- every answer is the ledger's
@@ -36,22 +51,8 @@ pub record Demand3 (L : ℕ) (a b : List ℕ) (h : List Edit) : Type 0 where
   pub unchanged :
       (c : Edit) (n : ℕ) → call c (buffersAfter h (started a b)) .answer ≡ refused n
       → callStep c (buffersAfter h (started a b)) ≡ buffersAfter h (started a b)
-  -- the list that this book offers, with long enough buffers
-  pub offers :
-      (p : List ℕ) (k : ℕ) (dst : List ℕ) (ranges : ℕ)
-      → isPrefix p ≡ true → 1 ≤ k → k ≤ maxCount → entryRoom * k ≤ length dst → k ≤ ranges
-      → completeBook (buffersAfter h (started a b) .book) p k dst ranges
-      ≡ offersOf (held L h []) p k (machine (held L h []) p k .looks) dst
-  -- the list that the trie written from it offers, with long enough buffers
-  pub trieOffers :
-      (p : List ℕ) (k : ℕ) (dst space : List ℕ)
-      → isPrefix p ≡ true → 1 ≤ k → k ≤ maxCount → entryRoom * k ≤ length dst
-      → length (trieImage (held L h [])) ≤ length space
-      → completeTrie (writeTrie (buffersAfter h (started a b) .book) space .dest) p k dst
-      ≡ offersOf (held L h []) p k 0 dst
-  -- and that list is the best one
-  pub bestList :
-      (p : List ℕ) (k : ℕ) → isPrefix p ≡ true → BestList (held L h []) p k (completion (held L h []) p k)
+  -- the list that this book offers, and the one that the trie written from it offers, is the best one
+  pub offersBest : OffersBest (held L h []) (buffersAfter h (started a b) .book)
 
 abbrev pub Demand3·all : Type 0
 Demand3·all =

@@ -17,8 +17,9 @@ use Rattle.panel.proofs.Refused.{press-refused}
 use Rattle.panel_typing.specs.Typing.{Typed, isFull}
 use Rattle.panel_keys.specs.declared.Done.{Done}
 use Rattle.panel_keys.specs.declared.Pressed.the-variants as pressed
-use Rattle.panel_keys.specs.Keys.{Counted, PressedAs, pressedOf, refusal}
-use Rattle.panel_keys.proofs.Typing.{holds-shown, shown-counted}
+use Rattle.panel_keys.specs.Keys.{PressedAs, pressedOf, refusal}
+use Rattle.panel_rows.specs.Rows.{Counted}
+use Rattle.panel_rows.proofs.Typing.{holds-shown, shown-counted}
 
 -- an allowed text is not over 48 bytes
 pub typed-short : (p : Panel) → isTyped p ≡ true → p .len ≤ longestName

@@ -1,13 +1,9 @@
--- A key's answer as document 01's, and what the steps of a key ask and give.
-use Prim.Native.Nat.{_-_, _≤_, ℕ}
+-- A key's answer as document 01's, and the panel that it leaves.
+use Prim.Native.Nat.{ℕ}
 use mathlib.Core.Path.{_≡_}
-use mathlib.Core.List.{List}
-use lib.ListN.{length}
-use Rattle.entries.specs.Entries.{Entry}
-use Rattle.entries.specs.Names.{longestName}
 use Rattle.book.specs.Answers.{Answer, given, refused}
 use Rattle.panel.specs.declared.Panel.{Panel}
-use Rattle.panel.specs.Panel.{AfterKey, offeredFor, typedIn}
+use Rattle.panel.specs.Panel.{AfterKey}
 use Rattle.panel_keys.specs.declared.Done.{Done}
 use Rattle.panel_keys.specs.declared.Pressed.{Pressed}
 use Rattle.panel_keys.specs.declared.Pressed.the-variants as pressed
@@ -25,9 +21,3 @@ pub record PressedAs (o : AfterKey) (r : Pressed) (left : Panel) : Type 0 where
 -- a refusal leaves the panel
 abbrev pub refusal : Panel → ℕ → Done
 refusal p n = record { panel = p; answer = pressed.Refused n }
-
--- a panel whose rows are counted and whose highlight is one of them, 0 without rows
-pub record Counted (es : List Entry) (p : Panel) : Type 0 where
-  pub short : p .len ≤ longestName
-  pub counted : p .rows ≡ length (offeredFor es (typedIn p))
-  pub onRow : p .highlight ≤ p .rows - 1

@@ -1,14 +1,14 @@
 // The panel's keys, over a panel by value.
 ghost use mathlib.Core.Path.{_≡_};
 ghost use mathlib.Core.Bool.{true};
-ghost use Prim.Native.Nat.{_<_, _≤_};
-ghost use lib.ListN.{length};
+ghost use Prim.Native.Nat.{_<_};
 ghost use Rattle.entries.specs.Names.{longestName};
 ghost use Rattle.book.specs.Book.{inBook};
 ghost use Rattle.book.specs.Held.{Held};
-ghost use Rattle.panel.specs.Panel.{acts, appends, lowered, movedDown, nameTaken, offeredFor, panelOf, press, typingIn};
+ghost use Rattle.panel.specs.Panel.{acts, appends, press, typingIn};
 ghost use Rattle.panel_typing.specs.Typing.{Typed};
-ghost use Rattle.panel_keys.specs.Keys.{Counted, PressedAs, refusal};
+ghost use Rattle.panel_keys.specs.Keys.{PressedAs, refusal};
+ghost use Rattle.panel_rows.specs.Rows.{Counted};
 
 // What a key reports: the refusal's number, or the rows.
 pub enum Pressed {
@@ -20,78 +20,6 @@ pub enum Pressed {
 pub struct Done {
     pub panel: panel::Panel,
     pub answer: Pressed,
-}
-
-// How many rows are offered for a text.
-fn count_rows(book: &[u8], n: usize, text: &[u8]) -> usize
-    requires { ⌜ Held (now book) n ⌝ }
-    ensures { λ r. ⌜ r ≡ length (offeredFor (inBook (now (book .entry))) (now (text .entry))) ⌝ }
-{
-    let first = book_find::place(book, n, text, false);
-    let end = book_find::place(book, n, text, true);
-    if end <= first {
-        return 0;
-    }
-    let matches = end - first;
-    if 5 < matches {
-        return 5;
-    }
-    matches
-}
-
-// The panel with its rows counted, its highlight lowered, and zeros behind its text.
-fn settle(book: &[u8], n: usize, p: panel::Panel) -> panel::Panel
-    requires { ⌜ Held (now book) n × (p .len ≤ longestName) ⌝ }
-    ensures { λ r. ⌜ r ≡ panelOf (inBook (now (book .entry))) (lowered (inBook (now (book .entry))) (typingIn p)) ⌝ }
-{
-    let len = p.len;
-    let mut text = p.text;
-    let rows = count_rows(book, n, &text[..len]);
-    let zeros = [0; 48];
-    octets::copy(&mut text, len, &zeros);
-    panel::Panel {
-        text: text,
-        len: len,
-        highlight: panel_typing::lower(p.highlight, rows),
-        rows: rows,
-    }
-}
-
-// Moves the highlight down, stopping at the last row.
-fn down(book: &[u8], p: panel::Panel) -> panel::Panel
-    requires { ⌜ Counted (inBook (now book)) p ⌝ }
-    ensures { λ r. ⌜ Typed (movedDown (inBook (now (book .entry))) (typingIn p)) r ⌝ }
-{
-    let row = p.highlight;
-    if p.rows <= row + 1 {
-        return p;
-    }
-    let mut q = p;
-    q.highlight = row + 1;
-    q
-}
-
-// Replaces the text by the highlighted name, if there are rows.
-fn take_name(book: &[u8], n: usize, p: panel::Panel) -> panel::Panel
-    requires { ⌜ Held (now book) n × Counted (inBook (now book)) p ⌝ }
-    ensures { λ r. ⌜ Typed (nameTaken (inBook (now (book .entry))) (typingIn p)) r ⌝ }
-{
-    if p.rows == 0 {
-        return p;
-    }
-    let chosen = p.highlight;
-    let len = p.len;
-    let text = p.text;
-    let s = book_complete::offers(book, n, &text[..len], 5);
-    let offered = s.offered;
-    let c = book_find::cursor_at(book, n, offered[chosen]);
-    let name = c.name;
-    panel::Panel {
-        text: name,
-        len: c.len,
-        highlight: 0,
-        rows: p.rows,
-    }
 }
 
 // What a listed key does to the text and the highlight.
@@ -109,10 +37,10 @@ fn act(book: &[u8], n: usize, p: panel::Panel, key: u8) -> panel::Panel
         return panel_typing::up(p);
     }
     if key == 0x02 {
-        return down(book, p);
+        return panel_rows::down(book, p);
     }
     if key == 0x0D {
-        return take_name(book, n, p);
+        return panel_rows::take_name(book, n, p);
     }
     p
 }
@@ -140,11 +68,11 @@ pub fn step_in(book: &[u8], p: panel::Panel, key: u8) -> Done
     if !panel_typing::is_listed(key) {
         return refuse(p, 8);
     }
-    let before = settle(book, n, p);
+    let before = panel_rows::settle(book, n, p);
     if panel_typing::is_full(p, key) {
         return refuse(p, 9);
     }
-    let after = settle(book, n, act(book, n, before, key));
+    let after = panel_rows::settle(book, n, act(book, n, before, key));
     Done {
         panel: after,
         answer: Pressed::Rows(after.rows),

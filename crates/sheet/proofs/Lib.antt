@@ -5,6 +5,3 @@ pub mod Accepts
 pub mod Passing
 pub mod Answer
 pub mod Held
-pub mod Entries
-pub mod Building
-pub mod Listing

@@ -6,7 +6,7 @@ use mathlib.Core.List.{List, [], _∷_, map}
 use lib.Dec.{ltb}
 use lib.ListN.{drop, length}
 use lib.Seq.{slice}
-use Rattle.octets.specs.Lists.{all, if_then_else_, sortBy}
+use Rattle.octets.specs.Lists.{all, sortBy}
 use Rattle.octets.specs.Octets.{below}
 use Rattle.entries.specs.Entries.{Entry, at}
 use Rattle.entries.specs.Names.{allowedBytes}
@@ -46,17 +46,6 @@ pub record Shared (es : List Entry) (d lo hi : ℕ) : Type 0 where
 -- names of allowed bytes
 abbrev pub Named : List Entry → Type 0
 Named es = all (λ e. allowedBytes (e .name)) es ≡ true
-
--- a run put before the first of a falling list that is not higher: `carried` goes on with what it displaced
-abbrev pub ahead : Run → Run → Run
-ahead x y = if ltb (x .high) (y .high) then y else x
-
-abbrev pub behind : Run → Run → Run
-behind x y = if ltb (x .high) (y .high) then x else y
-
-abbrev pub carried : Run → List Run → List Run
-carried x [] = x ∷ []
-carried x (y ∷ ys) = ahead x y ∷ carried (behind x y) ys
 
 -- sets in falling score
 abbrev pub higher : List Entry → List Entry → Bool

@@ -19,7 +19,7 @@ use Rattle.entries.specs.Names.{allowedBytes, isName, isPrefix, longestName}
 use Rattle.entries.proofs.Valid.{Valid, valid-of}
 use Rattle.book.specs.Frame.{framed}
 use Rattle.book.proofs.Frame.{framed-length}
-use Rattle.sheet.proofs.Listing.{frame-stores}
+use Rattle.sheet_writer.proofs.Listing.{frame-stores}
 use Rattle.trie.specs.Trie.{groupOf, highest, levels, remains, trieImage, usedUp}
 use Rattle.trie_table.specs.Table.{Table, entries}
 use Rattle.trie_table.proofs.Rows.{entries-length}

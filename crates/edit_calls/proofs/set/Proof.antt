@@ -12,7 +12,7 @@ use Rattle.book.specs.Held.{Held}
 use Rattle.book_check.proofs.Held.{checked-damaged, checked-held}
 use Rattle.edits.specs.Edits.{setEntry}
 use Rattle.lookups.proofs.Finding.{held-low}
-use Rattle.edit_calls.proofs.Editing.{held-set, new-asked, new-set, set-full}
+use Rattle.edit_writes.proofs.Editing.{held-set, new-asked, new-set, set-full}
 use Rattle.edit_calls.proofs.set.Statement.{statement}
 use Rattle.edit_calls.proofs.set.Tie as tie
 

@@ -12,7 +12,7 @@ use Rattle.book.specs.Held.{Held}
 use Rattle.edits.specs.Edits.{withdraw}
 use Rattle.book_check.proofs.Held.{checked-damaged, checked-held}
 use Rattle.lookups.proofs.Finding.{not-found}
-use Rattle.edit_calls.proofs.Editing.{gone, gone-asked}
+use Rattle.edit_writes.proofs.Editing.{gone, gone-asked}
 use Rattle.edit_calls.proofs.withdraw.Statement.{statement}
 use Rattle.edit_calls.proofs.withdraw.Tie as tie
 

@@ -11,7 +11,7 @@ use Rattle.entries.specs.Names.{longestName}
 use Rattle.book.specs.Book.{inBook}
 use Rattle.book.proofs.Lookups.{held-few}
 use Rattle.book_records.proofs.Reading.{stepBy}
-use Rattle.edits.specs.Passing.{Reads}
+use Rattle.edits.specs.Runs.{Reads}
 use Rattle.edits.specs.Splice.{leftOut}
 use Rattle.edits.proofs.Runs.{reads-held, reads-inside, reads-on}
 use Rattle.edits.proofs.leave_out.Statement.{statement}

@@ -11,8 +11,7 @@ use Rattle.entries.specs.Entries.{maxEntries}
 use Rattle.entries.specs.Names.{longestName}
 use Rattle.front_coding.specs.Cursor.{cursorOf}
 use Rattle.book_records.proofs.Reading.{Given}
-use Rattle.edits.proofs.Passing.{plain-fits, plain-passed}
-use Rattle.edits.proofs.Runs.{RunLeft, held-next, left-end, left-few, left-fits, left-given, left-inside, left-start, left-turn}
+use Rattle.edits.proofs.Runs.{RunLeft, left-end, left-few, left-fits, left-given, left-inside, left-start, left-turn}
 use Rattle.edits.proofs.pass_run.Statement.{statement}
 use Rattle.edits.proofs.pass_run.Tie as tie
 
@@ -66,14 +65,11 @@ add-len : tie.Need-add-len Inv-loop μ-loop
 add-len c = omega (arith, given (c .before .before .before) .small)
 
 -- where the names are lent
-abbrev scored : tie.After-pass-entry-arg Inv-loop μ-loop → tie.After-score-at Inv-loop μ-loop
-scored c = c .before
-
 abbrev read : tie.After-score-at Inv-loop μ-loop → tie.After-read-name Inv-loop μ-loop
 read c = c .before .before .before .before
 
-held-fits : (r : tie.After-read-name Inv-loop μ-loop) → turn r .before .loop .kept ≤ length (turn r .before .loop .held)
-held-fits r = let v = turn r .before .loop .inv in omega (arith, v .1, v .0 .fits .small)
+abbrev scored : tie.After-held2 Inv-loop μ-loop → tie.After-score-at Inv-loop μ-loop
+scored c = c .before .before
 
 name-fits : (r : tie.After-read-name Inv-loop μ-loop) → name-size r ≤ length (name-read r)
 name-fits r = omega (arith, given r .small, given r .next .long)
@@ -81,57 +77,38 @@ name-fits r = omega (arith, given r .small, given r .next .long)
 score-at-requires : tie.Need-score-at-requires Inv-loop μ-loop
 score-at-requires c κs = omega (arith, few (c .before .before .before))
 
-array-share-prefix-held : tie.Need-array-share-prefix-held Inv-loop μ-loop
-array-share-prefix-held c = held-fits (read (scored c))
-
-slice-aggregate-pass-entry : tie.Need-slice-aggregate-pass-entry Inv-loop μ-loop
-slice-aggregate-pass-entry c =
-    let r = read (scored (c .before)) in
-    sym (length-take-le (turn r .before .loop .kept) (turn r .before .loop .held) (held-fits r))
+slice-aggregate-pass-next : tie.Need-slice-aggregate-pass-next Inv-loop μ-loop
+slice-aggregate-pass-next c = sym (turn (read (scored c)) .before .loop .inv .1)
 
 array-share-prefix-name : tie.Need-array-share-prefix-name Inv-loop μ-loop
-array-share-prefix-name c = name-fits (read (scored (c .before)))
+array-share-prefix-name c = name-fits (read (scored c))
 
-slice-aggregate-pass-entry-2 : tie.Need-slice-aggregate-pass-entry-2 Inv-loop μ-loop
-slice-aggregate-pass-entry-2 c =
-    let r = read (scored (c .before .before)) in
+slice-aggregate-pass-next-2 : tie.Need-slice-aggregate-pass-next-2 Inv-loop μ-loop
+slice-aggregate-pass-next-2 c =
+    let r = read (scored (c .before)) in
     sym (length-take-le (name-size r) (name-read r) (name-fits r))
 
-pass-entry-requires : tie.Need-pass-entry-requires Inv-loop μ-loop
-pass-entry-requires c κs =
-    let s = scored (c .before .before) in
+pass-next-requires : tie.Need-pass-next-requires Inv-loop μ-loop
+pass-next-requires c κs =
+    let s = scored (c .before) in
     let r = read s in
     let k = turn r in
-    plain-fits (left-fits (k .before .loop .inv .0) (k .loop-test .taken) (given r) (s .score-at .ensures))
+    let v = k .before .loop .inv in
+    (left-fits (v .0) (k .loop-test .taken) (given r) (s .score-at .ensures), v .1)
 
--- the entry is passed: where its name is copied
-abbrev done : tie.After-held3 Inv-loop μ-loop → tie.After-pass-entry Inv-loop μ-loop
+-- the entry is passed: at the turn's end
+abbrev done : tie.After-held3 Inv-loop μ-loop → tie.After-pass-next Inv-loop μ-loop
 done c = c .before .before .before
 
-abbrev before-done : tie.After-pass-entry Inv-loop μ-loop → tie.After-score-at Inv-loop μ-loop
-before-done p = scored (p .before .before .before)
-
-slice-aggregate-copy : tie.Need-slice-aggregate-copy Inv-loop μ-loop
-slice-aggregate-copy c = sym (turn (read (before-done (done c))) .before .loop .inv .1)
-
-array-share-prefix-name-2 : tie.Need-array-share-prefix-name-2 Inv-loop μ-loop
-array-share-prefix-name-2 c = name-fits (read (before-done (done c)))
-
-slice-aggregate-copy-2 : tie.Need-slice-aggregate-copy-2 Inv-loop μ-loop
-slice-aggregate-copy-2 c =
-    let r = read (before-done (done (c .before))) in
-    sym (length-take-le (name-size r) (name-read r) (name-fits r))
-
-copy-requires : tie.Need-copy-requires Inv-loop μ-loop
-copy-requires c κs = tt
+abbrev before-done : tie.After-pass-next Inv-loop μ-loop → tie.After-score-at Inv-loop μ-loop
+before-done p = scored (p .before .before)
 
 add-i : tie.Need-add-i Inv-loop μ-loop
-add-i c = omega (arith, few (read (before-done (done (c .before .before .before)))))
+add-i c = omega (arith, few (read (before-done (done c))))
 
 add-index : tie.Need-add-index Inv-loop μ-loop
 add-index c =
-    let r = read (before-done (done (c .before .before .before))) in
-    let f = turn r .before .loop .inv .0 .fits in
+    let f = turn (read (before-done (done c))) .before .loop .inv .0 .fits in
     omega (arith, f .few, f .low)
 
 loop-less : tie.Need-loop-less Inv-loop μ-loop
@@ -139,18 +116,13 @@ loop-less c = omega arith
 
 loop-again : tie.Need-loop-again Inv-loop μ-loop
 loop-again c =
-    let k = c .before in
-    let p = done (k .before .before) in
+    let p = done c in
     let s = before-done p in
     let r = read s in
     let t = turn r in
-    let v = t .before .loop .inv in (
-      left-turn (v .0) (t .loop-test .taken) (given r) (s .score-at .ensures)
-          (plain-passed (p .pass-entry .ensures) refl refl
-          (held-next (name-read r) (t .before .loop .held) (name-size r) (given r .next .long) (v .1) (given r .small) (k .copy .ensures))
-          (given r .small)),
-      k .copy .kept .0 ∙ v .1,
-    )
+    let v = t .before .loop .inv in
+    let l = length-take-le (name-size r) (name-read r) (name-fits r) in
+    (left-turn (v .0) (t .loop-test .taken) (given r) (s .score-at .ensures) (rw l at (p .pass-next .ensures)), p .pass-next .kept .1 .1 .1 .1 .0 ∙ v .1)
 
 same-length : tie.Need-same-length Inv-loop μ-loop
 same-length c = c .before .loop .inv .0 .sameLength
@@ -171,15 +143,10 @@ pass-run-spec =
     add-at-2
     add-len
     score-at-requires
-    array-share-prefix-held
-    slice-aggregate-pass-entry
+    slice-aggregate-pass-next
     array-share-prefix-name
-    slice-aggregate-pass-entry-2
-    pass-entry-requires
-    slice-aggregate-copy
-    array-share-prefix-name-2
-    slice-aggregate-copy-2
-    copy-requires
+    slice-aggregate-pass-next-2
+    pass-next-requires
     add-i
     add-index
     loop-less

@@ -3,7 +3,7 @@ use mathlib.Core.Path.{_≡_, _∙_, ap, sym}
 use borrow.Author.Needs.{needs}
 use Rattle.book.specs.Answers.{given, refused}
 use Rattle.book.specs.Lookups.{headLength}
-use Rattle.book_parts.specs.Parts.{lengthOf}
+use Rattle.bucket_heads.specs.Heads.{lengthOf}
 use Rattle.exports.proofs.Head.{has-bucket, told-part, told-refused}
 use Rattle.exports.proofs.label_book_head.Statement.{statement}
 use Rattle.exports.proofs.label_book_head.Tie as tie

@@ -6,9 +6,10 @@ use mathlib.Core.Bool.{false}
 use lib.ListN.{drop, length}
 use native.Mathlib.Omega.{arith}
 use Rattle.front_coding.proofs.Steps.{to-end}
-use Rattle.histories.specs.Code.{Performed, foundLength}
-use Rattle.histories.specs.Run.{bench}
-use Rattle.histories.specs.Script.{callAt}
+use Rattle.histories.specs.Code.{foundLength}
+use Rattle.history_calls.specs.Calls.{Performed}
+use Rattle.history_calls.specs.Run.{bench}
+use Rattle.history_calls.specs.Script.{callAt}
 use Rattle.histories.proofs.Playing.{Playing, play-call, play-end, play-less, play-on, play-room, play-start, play-within}
 use Rattle.histories.proofs.play.Statement.{statement}
 use Rattle.histories.proofs.play.Tie as tie

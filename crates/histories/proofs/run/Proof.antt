@@ -3,7 +3,7 @@
 use mathlib.Core.Path.{_∙_, _≡_, sym}
 use borrow.Author.Needs.{needs}
 use Rattle.histories.specs.Code.{countedAs}
-use Rattle.histories.specs.Script.{calls}
+use Rattle.history_calls.specs.Script.{calls}
 use Rattle.histories.specs.declared.Counted.the-variants as counted
 use Rattle.histories.proofs.Running.{run-damaged, run-done, run-narrow, run-playable, run-short, run-uneven}
 use Rattle.histories.proofs.run.Statement.{statement}

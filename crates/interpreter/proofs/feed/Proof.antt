@@ -4,7 +4,7 @@ use mathlib.Core.Path.{refl, sym}
 use lib.ListN.{length-take, take}
 use lib.Seq.{length-take-le}
 use native.Mathlib.Omega.{arith}
-use Rattle.histories.specs.Run.{bench}
+use Rattle.history_calls.specs.Run.{bench}
 use Rattle.interpreter.proofs.Feeding.{feed-begun, feed-line, part-within}
 use borrow.Author.Needs.{needs}
 use Rattle.interpreter.proofs.feed.Statement.{statement}

@@ -3,7 +3,7 @@
 use mathlib.Core.Path.{refl, sym}
 use lib.Seq.{length-take-le}
 use native.Mathlib.Omega.{arith}
-use Rattle.histories.specs.Run.{bench}
+use Rattle.history_calls.specs.Run.{bench}
 use Rattle.interpreter.proofs.Feeding.{finish-line, finish-none}
 use borrow.Author.Needs.{needs}
 use Rattle.interpreter.proofs.finish.Statement.{statement}

@@ -6,7 +6,7 @@ use lib.ListN.{drop, length, length-drop, take}
 use lib.Seq.{length-take-le}
 use native.Mathlib.Omega.{arith}
 use Rattle.front_coding.proofs.Steps.{to-end}
-use Rattle.histories.specs.Run.{bench}
+use Rattle.history_calls.specs.Run.{bench}
 use Rattle.interpreter.specs.Feed.{FeedDone, console}
 use Rattle.labels.proofs.Lending.{Ready, fed-within, ready-on, ready-start}
 use Rattle.labels.proofs.answer_part.Statement.{statement}

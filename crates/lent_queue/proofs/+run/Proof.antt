@@ -51,20 +51,20 @@ use Rattle.book.specs.Book.{inBook}
 use Rattle.range_machine.specs.Slots.{bestOf, putBoth, without}
 use Rattle.range_machine.specs.Turns.{Turned, Turning}
 use Rattle.lent_queue.specs.Waiting.{MayRun, RanOver}
-use Rattle.lent_queue.proofs.Lent.{Holds, calls-lent, gives-up}
-use Rattle.lent_queue.proofs.Rows.{rv}
+use Rattle.lent_slots.proofs.Lent.{Holds, calls-lent, gives-up}
+use Rattle.lent_slots.proofs.Rows.{rv}
 use Rattle.lent_queue.proofs.Calls.{Put, Puts, put-to, put-goes, put-gives, Take, Takes, take-to, take-goes, take-gives}
 use Rattle.lent_queue.proofs.Running.{fewer, going, ran-done, ran-on, runs-on, turning}
 use Rattle.completion.proofs.Range as R
 use Rattle.completion.proofs.Range.Laws as R′
 use Rattle.range_machine.proofs.Progress as N
 use Rattle.range_machine.proofs.Progress.Laws as N′
-use Rattle.lent_queue.proofs.put.Symbol as put-def
-use Rattle.lent_queue.proofs.put.Symbol.{name as #lent-queue·put}
-use Rattle.lent_queue.proofs.put.Met as put-thm
-use Rattle.lent_queue.proofs.take_best.Symbol as take-def
-use Rattle.lent_queue.proofs.take_best.Symbol.{name as #lent-queue·take-best}
-use Rattle.lent_queue.proofs.take_best.Met as take-thm
+use Rattle.lent_slots.proofs.put.Symbol as put-def
+use Rattle.lent_slots.proofs.put.Symbol.{name as #lent-slots·put}
+use Rattle.lent_slots.proofs.put.Met as put-thm
+use Rattle.lent_slots.proofs.take_best.Symbol as take-def
+use Rattle.lent_slots.proofs.take_best.Symbol.{name as #lent-slots·take-best}
+use Rattle.lent_slots.proofs.take_best.Met as take-thm
 use Rattle.range_machine.proofs.turn as turn
 use Rattle.range_machine.proofs.turn.Symbol as turn-def
 use Rattle.range_machine.proofs.turn.Symbol.{name as #range-machine·turn}
@@ -191,7 +191,7 @@ module _ {M : Type 1} (𝓤 : URA M) (H : Heap 𝓤) (A : Atoms 𝓤) (W : Given
   abbrev Known : Fun 𝓤 → Type 1
   Known f = (y : Self 𝓤 H A mem run .Ghost) → left 𝓤 H A mem run y < m .turns → ent 𝓤 (Self 𝓤 H A mem run .pre y) (f (Self 𝓤 H A mem run .args y) (Self 𝓤 H A mem run .post y))
 
-  module _ (C : Calls 𝓤 H) (Λ : Loops 𝓤 H) (fm : FmC 𝓤 H (W .laws) C) (known-put : Triple 𝓤 (C #lent-queue·put) (Put 𝓤 H A mem run)) (known-take : Triple 𝓤 (C #lent-queue·take-best) (Take 𝓤 H A mem run)) (known-turn : Triple 𝓤 (C #range-machine·turn) (Turn 𝓤 H A mem run))
+  module _ (C : Calls 𝓤 H) (Λ : Loops 𝓤 H) (fm : FmC 𝓤 H (W .laws) C) (known-put : Triple 𝓤 (C #lent-slots·put) (Put 𝓤 H A mem run)) (known-take : Triple 𝓤 (C #lent-slots·take-best) (Take 𝓤 H A mem run)) (known-turn : Triple 𝓤 (C #range-machine·turn) (Turn 𝓤 H A mem run))
       (smaller : Known (C #lent-queue·run)) where
     walk : Is (ShrSlice (named 0) κ u8) bk (bs ∷ []) → Room R.the-row (length ys) → MayRun (bk .now) ys m
         → ent 𝓤 (onEntry 𝓤 H A self.signature (κ, (κ′, tt)) (q, (q′, tt)) a vals) (WpFn 𝓤 H C Λ code.run-function (bs ∷ s ys ∷ only (nv m) ∷ []) Post)
@@ -284,7 +284,7 @@ module _ {M : Type 1} (𝓤 : URA M) (H : Heap 𝓤) (A : Atoms 𝓤) (W : Given
         room₂ = subst (Room R.the-row) (sym (length-set ys₁ (m .at1) (m .r1))) room₁
 
 module _ {M : Type 1} (𝓤 : URA M) (H : Heap 𝓤) (A : Atoms 𝓤) (W : Given 𝓤 H A) (mem : Memory → SProp 𝓤) (run : Routine → Fun 𝓤) (𝓣 : Tables 𝓤 H)
-    (known-put : Triple 𝓤 (𝓣 .C #lent-queue·put) (Put 𝓤 H A mem run)) (known-take : Triple 𝓤 (𝓣 .C #lent-queue·take-best) (Take 𝓤 H A mem run)) (known-turn : Triple 𝓤 (𝓣 .C #range-machine·turn) (Turn 𝓤 H A mem run))
+    (known-put : Triple 𝓤 (𝓣 .C #lent-slots·put) (Put 𝓤 H A mem run)) (known-take : Triple 𝓤 (𝓣 .C #lent-slots·take-best) (Take 𝓤 H A mem run)) (known-turn : Triple 𝓤 (𝓣 .C #range-machine·turn) (Turn 𝓤 H A mem run))
     (closed : Closed 𝓤 H (𝓣 .C) (𝓣 .Λ) #lent-queue·run code.run-function) where
   method : (k : ℕ) → Below 𝓤 H A (grade 𝓤 H A mem run (𝓣 .C #lent-queue·run)) (λ j. j < k) → grade 𝓤 H A mem run (𝓣 .C #lent-queue·run) .At k
   method k below =
@@ -305,6 +305,6 @@ pub +run-spec : {M : Type 1} → cycle.statement M
 unfolding code.run-routine tablesOf
 +run-spec 𝓤 H 𝓜 𝓖 𝓡 =
     run-meets 𝓤 H (𝓖 .A) (givenOf 𝓤 H 𝓜 𝓖) (𝓜 .mem) (𝓡 .run) (tablesOf 𝓤 H 𝓜 (tables 𝓤 H 𝓜 𝓡 code.env))
-    (cited 𝓤 H (Put 𝓤 H (𝓖 .A) (𝓜 .mem) (𝓡 .run)) 𝓜 𝓡 code.env #lent-queue·put put-def.routine code.calls-lent-queue·put (put-thm.met 𝓤 H 𝓜 𝓖 𝓡))
-    (cited 𝓤 H (Take 𝓤 H (𝓖 .A) (𝓜 .mem) (𝓡 .run)) 𝓜 𝓡 code.env #lent-queue·take-best take-def.routine code.calls-lent-queue·take-best (take-thm.met 𝓤 H 𝓜 𝓖 𝓡))
+    (cited 𝓤 H (Put 𝓤 H (𝓖 .A) (𝓜 .mem) (𝓡 .run)) 𝓜 𝓡 code.env #lent-slots·put put-def.routine code.calls-lent-slots·put (put-thm.met 𝓤 H 𝓜 𝓖 𝓡))
+    (cited 𝓤 H (Take 𝓤 H (𝓖 .A) (𝓜 .mem) (𝓡 .run)) 𝓜 𝓡 code.env #lent-slots·take-best take-def.routine code.calls-lent-slots·take-best (take-thm.met 𝓤 H 𝓜 𝓖 𝓡))
     (cited 𝓤 H (Turn 𝓤 H (𝓖 .A) (𝓜 .mem) (𝓡 .run)) 𝓜 𝓡 code.env #range-machine·turn turn-def.routine code.calls-range-machine·turn (turn-thm.met 𝓤 H 𝓜 𝓖 𝓡)) (code.run-unfolded 𝓤 H 𝓜 𝓡)

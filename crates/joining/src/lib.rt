@@ -1,0 +1,1 @@
+// Definitions in specs/, laws in proofs/; no functions.

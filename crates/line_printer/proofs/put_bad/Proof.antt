@@ -1,0 +1,25 @@
+-- `line_printer::put_bad` meets its contract: four bytes, copied.
+-- No loop, so no invariant. Assumes nothing.
+use Rattle.line_printer.specs.Printing.{badLine}
+use Rattle.line_printer.proofs.Printing.{put-part}
+use borrow.Author.Needs.{needs}
+use Rattle.line_printer.proofs.put_bad.Statement.{statement}
+use Rattle.line_printer.proofs.put_bad.Tie as tie
+
+slice-aggregate-copy : tie.Need-slice-aggregate-copy
+slice-aggregate-copy c = search needs
+
+copy-requires : tie.Need-copy-requires
+copy-requires c κs = tt
+
+same-length : tie.Need-same-length
+same-length c = search needs
+
+returns : tie.Need-returns
+returns c =
+    let k = c .before .before in
+    let s = k .before .before .before .before in
+    put-part (s .args .out .now) 0 badLine (s .pre) (k .copy .ensures)
+
+pub put-bad-spec : {M : Type 1} → statement M
+put-bad-spec = tie.close (tie.spec slice-aggregate-copy copy-requires same-length returns)

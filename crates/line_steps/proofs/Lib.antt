@@ -1,0 +1,3 @@
+pub mod Editing
+pub mod Completing
+pub mod Stepping
