@@ -13,7 +13,7 @@
  *   2  a name or prefix that is not allowed; a panel whose length is over 48, or that holds a byte within it that is not allowed
  *   3  a completion of 0 or more than 16 entries
  *   4  withdraw, name_of: a name that the book does not hold
- *   5  set: a new name where 1,024 are held
+ *   5  set: a new name where 1,024 are held; merge: more than 1,024 names in all
  *   6  a position or bucket that the book does not have
  *   7  a destination that is shorter than the bytes needed, or fewer ranges than entries asked for
  *   8  a key that the panel does not have
@@ -44,6 +44,11 @@ uint8_t label_book_set(const uint8_t *book, size_t book_len, const uint8_t *name
 /* Writes the book without the name; tells the entries in it and its bytes, which may be more than before. Refusals 1, 2, 4, 7. */
 uint8_t label_book_withdraw(const uint8_t *book, size_t book_len, const uint8_t *name, size_t name_len,
                             uint8_t *dst, size_t dst_len, size_t *entries, size_t *bytes);
+
+/* Writes the book with every name of either book once; where both have it, the first book's score counts. Tells the entries in it and its
+ * bytes. Refusals 1 of either book, 5, 7. */
+uint8_t label_book_merge(const uint8_t *first, size_t first_len, const uint8_t *second, size_t second_len,
+                         uint8_t *dst, size_t dst_len, size_t *entries, size_t *bytes);
 
 /* Tells whether the book holds the name, 1 or 0, and its position and score, both 0 if not. Refusals 1, 2. */
 uint8_t label_book_find(const uint8_t *book, size_t book_len, const uint8_t *name, size_t name_len,

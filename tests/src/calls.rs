@@ -11,6 +11,7 @@ mod c {
         pub fn label_book_empty(dst: *mut u8, dst_len: usize, entries: *mut usize, bytes: *mut usize) -> u8;
         pub fn label_book_set(book: *const u8, book_len: usize, name: *const u8, name_len: usize, score: u32, dst: *mut u8, dst_len: usize, entries: *mut usize, bytes: *mut usize) -> u8;
         pub fn label_book_withdraw(book: *const u8, book_len: usize, name: *const u8, name_len: usize, dst: *mut u8, dst_len: usize, entries: *mut usize, bytes: *mut usize) -> u8;
+        pub fn label_book_merge(first: *const u8, first_len: usize, second: *const u8, second_len: usize, dst: *mut u8, dst_len: usize, entries: *mut usize, bytes: *mut usize) -> u8;
         pub fn label_book_find(book: *const u8, book_len: usize, name: *const u8, name_len: usize, found: *mut usize, position: *mut usize, score: *mut u32) -> u8;
         pub fn label_book_name_at(book: *const u8, book_len: usize, position: usize, dst: *mut u8, dst_len: usize, entries: *mut usize, bytes: *mut usize) -> u8;
         pub fn label_book_name_of(book: *const u8, book_len: usize, name: *const u8, name_len: usize, dst: *mut u8, dst_len: usize, entries: *mut usize, bytes: *mut usize) -> u8;
@@ -69,6 +70,12 @@ pub fn set(book: &[u8], name: &[u8], score: u32, dst: &mut [u8]) -> Told {
 pub fn withdraw(book: &[u8], name: &[u8], dst: &mut [u8]) -> Told {
     two(|a, b| unsafe {
         c::label_book_withdraw(book.as_ptr(), book.len(), name.as_ptr(), name.len(), dst.as_mut_ptr(), dst.len(), a, b)
+    })
+}
+
+pub fn merge(first: &[u8], second: &[u8], dst: &mut [u8]) -> Told {
+    two(|a, b| unsafe {
+        c::label_book_merge(first.as_ptr(), first.len(), second.as_ptr(), second.len(), dst.as_mut_ptr(), dst.len(), a, b)
     })
 }
 

@@ -117,6 +117,11 @@ impl Compare {
         self.writes("withdraw", [book, name], &[], dst, |[book, name], d| calls::withdraw(book, name, d), other)
     }
 
+    pub fn merge(&mut self, first: &[u8], second: &[u8], dst: &[u8]) -> (Told, Vec<u8>) {
+        let other = |d: &mut [u8]| told_written(reference::merge(first, second, d));
+        self.writes("merge", [first, second], &[], dst, |[first, second], d| calls::merge(first, second, d), other)
+    }
+
     pub fn name_at(&mut self, book: &[u8], position: usize, dst: &[u8]) {
         let other = |d: &mut [u8]| told_written(reference::name_at(book, position, d));
         self.writes("name_at", [book, &[]], &[position], dst, |[book, _], d| calls::name_at(book, position, d), other);

@@ -31,6 +31,16 @@ pub enum Scores {
 
 pub const SCORES: [Scores; 4] = [Scores::Equal, Scores::Extreme, Scores::Few, Scores::Any];
 
+/// Where the names of the first of two books stand among those of the second.
+#[derive(Clone, Copy, Debug)]
+pub enum Places {
+    Mixed,
+    Before,
+    Behind,
+}
+
+pub const PLACES: [Places; 3] = [Places::Mixed, Places::Before, Places::Behind];
+
 fn word(random: &mut Random, letters: &[u8], first: usize, last: usize) -> Vec<u8> {
     let count = random.between(first, last);
     (0..count).map(|_| random.pick(letters)).collect()
@@ -96,6 +106,19 @@ pub fn entries(random: &mut Random, n: usize, names: Names, scores: Scores) -> E
         tries += 1;
     }
     entries
+}
+
+/// The entries of two books of these sizes, of whose names so many are shared; a shared name has a score in each.
+pub fn pair(random: &mut Random, sizes: [usize; 2], shared: usize, places: Places, names: Names, scores: Scores) -> [Entries; 2] {
+    let [a, b] = sizes;
+    let mut order: Vec<Vec<u8>> = entries(random, a + b - shared, names, scores).into_keys().collect();
+    match places {
+        Places::Mixed => order.sort_by_cached_key(|_| random.any()),
+        Places::Before => {}
+        Places::Behind => order.reverse(),
+    }
+    let mut scored = |names: &[Vec<u8>]| names.iter().map(|name| (name.clone(), score(random, scores))).collect();
+    [scored(&order[..a]), scored(&order[a - shared..])]
 }
 
 /// A name or prefix to ask for: held, close to a held one, allowed or not.

@@ -1,15 +1,20 @@
 //! Random and hostile inputs through the C interface, compared with the second implementation. Seeded and bounded: the same cases in
 //! every run. `LONG=1` runs many more rounds, each with another seed.
+use label_book_tests::calls as ours;
 use label_book_tests::compare::Compare;
-use label_book_tests::make::{self, Names, Scores, NAMES, SCORES};
+use label_book_tests::make::{self, Names, Scores, NAMES, PLACES, SCORES};
 use label_book_tests::random::Random;
 use label_book_tests::reference::panel::Panel;
-use label_book_tests::reference::{book, calls, ledger::Ledger, sheet, trie, Entries};
+use label_book_tests::reference::{book, calls, ledger::Ledger, sheet, trie, Entries, MOST_ENTRIES};
+use std::collections::BTreeSet;
 
 /// Longer than every image.
 const LONG_BUFFER: usize = 70_000;
 
 const SIZES: [usize; 16] = [0, 1, 2, 7, 8, 9, 15, 16, 17, 31, 32, 33, 127, 129, 1023, 1024];
+
+/// The sizes of two books that are merged.
+const MERGED_SIZES: [usize; 11] = [0, 1, 7, 8, 9, 15, 16, 17, 512, 1023, 1024];
 
 /// A destination for the bytes that a call needs: one short, exact, one long or any other length.
 fn destination(random: &mut Random, needed: usize) -> Vec<u8> {
@@ -132,7 +137,7 @@ fn any_image(compare: &mut Compare, random: &mut Random, buffer: &[u8], held: &E
         Some(0x31) => {
             compare.complete_trie(buffer, &name[..random.below(name.len() + 1)], 16, &dst);
         }
-        _ => match random.below(9) {
+        _ => match random.below(11) {
             0 => {
                 compare.set(buffer, &name, 5, &dst);
             }
@@ -146,6 +151,12 @@ fn any_image(compare: &mut Compare, random: &mut Random, buffer: &[u8], held: &E
             6 => compare.head(buffer, 0),
             7 => {
                 compare.list(buffer, &dst);
+            }
+            8 => {
+                compare.merge(buffer, &book::image(held), &dst);
+            }
+            9 => {
+                compare.merge(&book::image(held), buffer, &dst);
             }
             _ => {
                 compare.complete(buffer, b"", 16, &dst, 16);
@@ -226,7 +237,7 @@ fn history(compare: &mut Compare, random: &mut Random, buffer: usize, steps: usi
     lists(compare, random, &current, &ledger.held);
 }
 
-/// The lists that a book and its trie offer are the same.
+/// The lists that a book and its trie offer are the same, the best of the entries held.
 fn lists(compare: &mut Compare, random: &mut Random, book: &[u8], held: &Entries) {
     let (told, trie) = compare.write_trie(book, &vec![0; LONG_BUFFER]);
     assert_eq!(told.0, 0);
@@ -237,7 +248,72 @@ fn lists(compare: &mut Compare, random: &mut Random, book: &[u8], held: &Entries
         let dst = vec![0; 53 * k];
         let (a, from_book) = compare.complete(book, prefix, k, &dst, k);
         let (b, from_trie) = compare.complete_trie(&trie, prefix, k, &dst);
+        let (offered, best) = calls::completion(held, prefix, k);
+        assert!(a.1[0] == offered as u64 && from_book.starts_with(&best), "the best list");
         assert_eq!((a.0, &a.1[..2], from_book), (b.0, &b.1[..2], from_trie), "book and trie");
+    }
+}
+
+/// How many names two books may share: none, half of the smaller book's, all of them, and what makes 1,024 and 1,025 names in all.
+fn shares([a, b]: [usize; 2]) -> BTreeSet<usize> {
+    let fewer = a.min(b);
+    [0, fewer / 2, fewer, (a + b).saturating_sub(MOST_ENTRIES), (a + b).saturating_sub(MOST_ENTRIES + 1)].into()
+}
+
+/// Books of every two sizes merged, the small ones with names of every kind.
+fn merges(compare: &mut Compare, random: &mut Random) {
+    for sizes in MERGED_SIZES.iter().flat_map(|&a| MERGED_SIZES.map(|b| [a, b])) {
+        for shared in shares(sizes) {
+            let kinds = if sizes[0].max(sizes[1]) < 100 { NAMES.to_vec() } else { vec![random.pick(&NAMES)] };
+            for names in kinds {
+                let (places, scores) = (random.pick(&PLACES), random.pick(&SCORES));
+                let pair = make::pair(random, sizes, shared, places, names, scores);
+                merge(compare, random, &pair);
+            }
+        }
+    }
+}
+
+/// Two books merged into a destination that is one byte short, exact, and one byte long; and the lists that the merged book offers. Each book
+/// may have bytes behind it.
+fn merge(compare: &mut Compare, random: &mut Random, [first, second]: &[Entries; 2]) {
+    let mut joined = second.clone();
+    joined.extend(first.clone());
+    let [first, second] = [first, second].map(|held| {
+        let behind = random.pick(&[0, 0, 9]);
+        [book::image(held), random.bytes(behind)].concat()
+    });
+    if joined.len() > MOST_ENTRIES {
+        for room in [0, LONG_BUFFER] {
+            assert_eq!(compare.merge(&first, &second, &random.bytes(room)).0, (5, [0; 3]));
+        }
+        return;
+    }
+    let image = book::image(&joined);
+    assert_eq!(compare.merge(&first, &second, &random.bytes(image.len() - 1)).0, (7, [0; 3]));
+    let accepted = (0, [joined.len() as u64, image.len() as u64, 0]);
+    let exact = compare.merge(&first, &second, &random.bytes(image.len()));
+    assert_eq!(exact, (accepted, image.clone()));
+    let (told, left) = compare.merge(&first, &second, &random.bytes(image.len() + 1));
+    assert_eq!((told, &left[..image.len()]), (accepted, &image[..]));
+    lists(compare, random, &left, &joined);
+}
+
+/// Merges of which one book or both are damaged.
+fn damaged_merges(compare: &mut Compare, random: &mut Random, rounds: usize) {
+    for _ in 0..rounds {
+        let most = if random.chance(40) { MOST_ENTRIES } else { 20 };
+        let sizes = [random.below(most + 1), random.below(most + 1)];
+        let shared = random.below(sizes[0].min(sizes[1]) + 1);
+        let (places, names, scores) = (random.pick(&PLACES), random.pick(&NAMES), random.pick(&SCORES));
+        let [a, b] = make::pair(random, sizes, shared, places, names, scores).map(|held| book::image(&held));
+        let needed = needed(|d| calls::merge(&a, &b, d));
+        for _ in 0..4 {
+            let (c, d) = (make::damaged(random, &a), make::damaged(random, &b));
+            for (first, second) in [(&c, &b), (&a, &d), (&c, &d)] {
+                compare.merge(first, second, &destination(random, needed));
+            }
+        }
     }
 }
 
@@ -317,10 +393,25 @@ fn worked(compare: &mut Compare) {
     assert_eq!(compare.set(&book, &[b'y'; 49], 1, &[0; 400]).0 .0, 2);
 }
 
+/// Two books merged, by bytes: a shared name has the first book's score, whichever book that is, and the peak goes by it.
+fn worked_merges(compare: &mut Compare) {
+    let one = book::image(&[(b"rc".to_vec(), 9)].into());
+    let two = book::image(&[(b"rc".to_vec(), 20), (b"rl".to_vec(), 12)].into());
+    let merged = "21 00 00 00 19 00 02 00 00 00 09 00 00 00 0C 00 13 00 01 02 72 63 01 01 6C";
+    assert_eq!(compare.merge(&one, &two, &[0; 25]), ((0, [2, 25, 0]), bytes(merged)));
+    let merged = "21 00 00 00 19 00 02 00 00 00 14 00 00 00 0C 00 13 00 00 02 72 63 01 01 6C";
+    assert_eq!(compare.merge(&two, &one, &[0; 25]), ((0, [2, 25, 0]), bytes(merged)));
+    assert_eq!(compare.merge(&one, &two, &[0; 24]), ((7, [0; 3]), vec![0; 24]));
+    // A book and itself, lent as the same bytes.
+    let mut dst = [0; 25];
+    assert_eq!((ours::merge(&two, &two, &mut dst), &dst[..]), ((0, [2, 25, 0]), &two[..]));
+}
+
 /// One round of everything.
 fn round(compare: &mut Compare, seed: u64) {
     let mut random = Random::new(seed);
     worked(compare);
+    worked_merges(compare);
     sizes(compare, &mut random, 40);
     every_place(compare, &mut random, 6);
     damage(compare, &mut random, 600);
@@ -336,6 +427,8 @@ fn round(compare: &mut Compare, seed: u64) {
         history(compare, &mut random, 57_344, 1800, names);
     }
     panels(compare, &mut random, 150);
+    merges(compare, &mut random);
+    damaged_merges(compare, &mut random, 300);
 }
 
 fn main() {

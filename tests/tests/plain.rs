@@ -1,5 +1,5 @@
 //! The calls that the benchmark compares with answer as the second implementation does.
-use label_book_tests::make::{self, Scores, NAMES, SCORES};
+use label_book_tests::make::{self, Names, Scores, NAMES, PLACES, SCORES};
 use label_book_tests::random::Random;
 use label_book_tests::reference::panel::Panel;
 use label_book_tests::reference::{book, calls, sheet, trie, Entries};
@@ -50,6 +50,35 @@ fn ask_trie(random: &mut Random, image: &[u8], held: &Entries) {
         let dst = random.bytes(53 * k.min(17));
         let buffer = if random.chance(3) { image.to_vec() } else { make::damaged(random, image) };
         same(&dst, |d| plain::complete_trie(&buffer, prefix, k, d), |d| calls::complete_trie(&buffer, prefix, k, d));
+    }
+}
+
+/// Pairs of books, one or both damaged or none, into a destination of about the bytes needed.
+fn ask_merge(random: &mut Random, sizes: [usize; 2], shared: usize, names: Names) {
+    let (places, scores) = (random.pick(&PLACES), random.pick(&SCORES));
+    let images = make::pair(random, sizes, shared, places, names, scores).map(|held| book::image(&held));
+    let whole = random.bytes(70_000);
+    let needed = calls::merge(&images[0], &images[1], &mut whole.clone()).map_or(60_000, |(_, bytes)| bytes);
+    for damaged in [[false, false], [true, false], [false, true], [true, true]] {
+        let dst = &whole[..make::room(random, needed)];
+        let [first, second] = [0, 1].map(|i| if damaged[i] { make::damaged(random, &images[i]) } else { images[i].clone() });
+        same(dst, |d| plain::merge(&first, &second, d), |d| calls::merge(&first, &second, d));
+    }
+}
+
+#[test]
+fn plain_merges_agree() {
+    let mut random = Random::new(11);
+    let sizes = [0, 1, 7, 8, 9, 16, 17, 40];
+    for names in NAMES {
+        for [a, b] in sizes.iter().flat_map(|&a| sizes.map(|b| [a, b])) {
+            let shared = random.below(a.min(b) + 1);
+            ask_merge(&mut random, [a, b], shared, names);
+        }
+        // 1,024 names in all and 1,025.
+        for (sizes, shared) in [([1023, 1], 0), ([1, 1024], 0), ([600, 600], 176), ([600, 600], 175), ([1024, 1024], 1024)] {
+            ask_merge(&mut random, sizes, shared, names);
+        }
     }
 }
 

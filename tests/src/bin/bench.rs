@@ -1,7 +1,7 @@
 //! How long each call takes at three sizes, in one run with warm buffers: the static library, the same call in plain safe Rust over the
 //! same image with the same checks (`plain`), and one scan of the image's bytes.
 use label_book_tests::calls;
-use label_book_tests::make::{self, Names, Scores};
+use label_book_tests::make::{self, Names, Places, Scores};
 use label_book_tests::plain;
 use label_book_tests::random::Random;
 use label_book_tests::reference::{book, sheet, Entries, MOST_ENTRIES};
@@ -80,6 +80,12 @@ fn two_names(held: &Entries) -> (Vec<u8>, Vec<u8>) {
     (held_name, new_name)
 }
 
+/// Two books with n names in all, a quarter of them in both.
+fn two_books(n: usize) -> [Vec<u8>; 2] {
+    let sizes = [n / 8 * 5; 2];
+    make::pair(&mut Random::new(3), sizes, n / 4, Places::Mixed, Names::Mixed, Scores::Any).map(|held| book::image(&held))
+}
+
 /// One call of both kinds, by its name and its arguments in front of the destination.
 macro_rules! writes {
     ($call:ident, $n:expr, $image:expr, $($argument:expr),*) => {{
@@ -106,6 +112,9 @@ fn size(n: usize) {
     let set_name = if n == MOST_ENTRIES { name } else { &new_name };
     writes!(set, n, image, image, set_name, 5);
     writes!(withdraw, n, image, image, name);
+    // The scan is of both books.
+    let [first, second] = &two_books(n);
+    writes!(merge, n, &[&first[..], second].concat(), first, second);
     reads!(find, n, image, image, name);
     writes!(name_at, n, image, image, n / 2);
     writes!(name_of, n, image, image, name);

@@ -8,6 +8,7 @@ pub use trie::{complete_trie, write_trie};
 
 use crate::reference::calls::{Offered, Written};
 use crate::reference::{is_name, is_prefix, LONGEST_NAME, MOST_ENTRIES, MOST_OFFERED};
+use std::cmp::Ordering;
 
 /// A book that was checked.
 #[derive(Clone, Copy)]
@@ -237,22 +238,76 @@ impl<'a> Book<'a> {
     }
 
     fn splice(&self, place: usize, skip: bool, fresh: Option<(&[u8], u32)>, dst: &mut [u8]) -> Written {
-        let n = self.n + fresh.is_some() as usize - skip as usize;
-        write_book(n, dst, |each| self.each_spliced(place, skip, fresh, each))
+        write_book(dst, |each| self.each_spliced(place, skip, fresh, each))
     }
 }
 
-/// Writes the book of n entries that `entries` goes through, measured first.
-fn write_book(n: usize, dst: &mut [u8], entries: impl Fn(&mut dyn FnMut(&[u8], u32))) -> Written {
-    let mut total = records_at(n);
+/// A pass over the entries of a book: the position where it stands, the place behind its record, its name. At the end the position is n.
+struct Pass<'a> {
+    book: Book<'a>,
+    i: usize,
+    at: usize,
+    name: Name,
+}
+
+impl<'a> Pass<'a> {
+    fn new(book: Book<'a>) -> Pass<'a> {
+        let mut pass = Pass { book, i: 0, at: records_at(book.n), name: Name::new() };
+        pass.unpack();
+        pass
+    }
+
+    fn unpack(&mut self) {
+        if self.i < self.book.n {
+            self.at = self.book.unpack(self.i, self.at, &mut self.name);
+        }
+    }
+
+    fn step(&mut self) {
+        self.i += 1;
+        self.unpack();
+    }
+
+    fn name(&self) -> Option<&[u8]> {
+        (self.i < self.book.n).then(|| self.name.get())
+    }
+}
+
+/// Each entry of two books, a name that both have once, with the first book's score.
+fn each_merged(first: Book, second: Book, each: &mut dyn FnMut(&[u8], u32)) {
+    let (mut a, mut b) = (Pass::new(first), Pass::new(second));
+    loop {
+        let order = match (a.name(), b.name()) {
+            (None, None) => return,
+            (Some(_), None) => Ordering::Less,
+            (None, Some(_)) => Ordering::Greater,
+            (Some(one), Some(other)) => one.cmp(other),
+        };
+        let next = if order.is_le() { &a } else { &b };
+        each(next.name.get(), next.book.score(next.i));
+        if order.is_le() {
+            a.step();
+        }
+        if order.is_ge() {
+            b.step();
+        }
+    }
+}
+
+/// Writes the book of the entries that `entries` goes through, counted and measured first.
+fn write_book(dst: &mut [u8], entries: impl Fn(&mut dyn FnMut(&[u8], u32))) -> Written {
+    let (mut n, mut records) = (0, 0);
     let mut before = Name::new();
-    let mut i = 0;
     entries(&mut |name, _| {
-        let kept = if i % 8 == 0 { 0 } else { common(before.get(), name) };
-        total += 1 + (i % 8 != 0) as usize + name.len() - kept;
+        let kept = if n % 8 == 0 { 0 } else { common(before.get(), name) };
+        records += 1 + (n % 8 != 0) as usize + name.len() - kept;
         before.put(0, name);
-        i += 1;
+        n += 1;
     });
+    if n > MOST_ENTRIES {
+        return Err(5);
+    }
+    let total = records_at(n) + records;
     let dst = dst.get_mut(..total).ok_or(7)?;
     header(0x21, total, n, dst);
     let mut at = records_at(n);
@@ -303,7 +358,7 @@ fn put_entry(name: &[u8], score: u32, dst: &mut [u8]) -> Written {
 }
 
 pub fn empty(dst: &mut [u8]) -> Written {
-    write_book(0, dst, |_| {})
+    write_book(dst, |_| {})
 }
 
 pub fn set(book: &[u8], name: &[u8], score: u32, dst: &mut [u8]) -> Written {
@@ -325,6 +380,11 @@ pub fn withdraw(book: &[u8], name: &[u8], dst: &mut [u8]) -> Written {
     }
     let i = book.look_up(name).map_err(|_| 4)?;
     book.splice(i, true, None, dst)
+}
+
+pub fn merge(first: &[u8], second: &[u8], dst: &mut [u8]) -> Written {
+    let (first, second) = (check(first).ok_or(1)?, check(second).ok_or(1)?);
+    write_book(dst, |each| each_merged(first, second, each))
 }
 
 pub fn find(book: &[u8], name: &[u8]) -> Result<Option<(usize, u32)>, u8> {
@@ -441,7 +501,7 @@ fn check_sheet(buffer: &[u8]) -> Option<(usize, &[u8])> {
 
 pub fn build(sheet: &[u8], dst: &mut [u8]) -> Written {
     let (n, image) = check_sheet(sheet).ok_or(1)?;
-    write_book(n, dst, |each| each_listed(image, n, each))
+    write_book(dst, |each| each_listed(image, n, each))
 }
 
 pub fn list(book: &[u8], dst: &mut [u8]) -> Written {

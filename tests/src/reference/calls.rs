@@ -40,6 +40,18 @@ pub fn withdraw(book: &[u8], name: &[u8], dst: &mut [u8]) -> Written {
     write(entries.len(), &book::image(&entries), dst)
 }
 
+/// Every name of either book once; where both have it, the first book's score counts.
+pub fn merge(first: &[u8], second: &[u8], dst: &mut [u8]) -> Written {
+    let first = book::read(first).ok_or(IMAGE)?;
+    let second = book::read(second).ok_or(IMAGE)?;
+    let mut entries = second;
+    for (name, score) in first {
+        entries.insert(name, score);
+    }
+    allow(entries.len() <= MOST_ENTRIES, FULL)?;
+    write(entries.len(), &book::image(&entries), dst)
+}
+
 /// Position and score, or none.
 pub fn find(book: &[u8], name: &[u8]) -> Result<Option<(usize, u32)>, u8> {
     let entries = book::read(book).ok_or(IMAGE)?;
@@ -89,7 +101,7 @@ pub fn head(book: &[u8], bucket: usize) -> Result<(usize, usize), u8> {
 }
 
 /// The bytes of the entries that a prefix begins, in rank, the first k or all if fewer; and how many they are.
-fn completion(entries: &Entries, prefix: &[u8], k: usize) -> (usize, Vec<u8>) {
+pub fn completion(entries: &Entries, prefix: &[u8], k: usize) -> (usize, Vec<u8>) {
     let offered: Vec<usize> = in_rank(entries, matching(entries, prefix)).into_iter().take(k).collect();
     let bytes = offered.iter().flat_map(|&i| {
         let (name, score) = super::name_at(entries, i);

@@ -90,6 +90,44 @@ fn limits() {
 }
 
 #[test]
+fn merged_books() {
+    let (one, two) = (book::image(&of(&[("rc", 9)])), book::image(&of(&[("rc", 20), ("rl", 12)])));
+    // The first book's score counts, and the peak goes by it.
+    let mut dst = [0xEE; 26];
+    assert_eq!(merge(&one, &two, &mut dst), Ok((2, 25)));
+    assert_eq!(dst[..], bytes("21 00 00 00 19 00 02 00 00 00 09 00 00 00 0C 00 13 00 01 02 72 63 01 01 6C EE"));
+    assert_eq!(merge(&two, &one, &mut dst), Ok((2, 25)));
+    assert_eq!(dst[..], bytes("21 00 00 00 19 00 02 00 00 00 14 00 00 00 0C 00 13 00 00 02 72 63 01 01 6C EE"));
+    // With no entries, and with itself, a book stays as it is.
+    let (none, book) = (book::image(&Entries::new()), book::image(&e()));
+    for (first, second) in [(&none, &book), (&book, &none), (&book, &book)] {
+        let mut dst = [0; 44];
+        assert_eq!(merge(first, second, &mut dst), Ok((4, 44)));
+        assert_eq!(dst[..], book);
+    }
+    assert_eq!(merge(&none, &none, &mut [0; 7]), Ok((0, 7)));
+}
+
+#[test]
+fn merges_refused() {
+    let (one, two) = (book::image(&of(&[("rc", 9)])), book::image(&of(&[("rc", 20), ("rl", 12)])));
+    let mut dst = [0xEE; 24];
+    assert_eq!(merge(&one, &two, &mut dst), Err(TOO_SHORT));
+    assert_eq!(merge(&one[..one.len() - 1], &two, &mut dst), Err(IMAGE));
+    assert_eq!(merge(&one, &two[..two.len() - 1], &mut dst), Err(IMAGE));
+    assert_eq!(merge(&[], &[], &mut dst), Err(IMAGE));
+    // 1,024 names in all, then one more, which is said before the short destination and behind a book that is none.
+    let numbered = |numbers: std::ops::Range<usize>| numbers.map(|i| (format!("{i:04}").into_bytes(), 1)).collect::<Entries>();
+    let (low, high, higher) = (numbered(0..600), numbered(500..1024), numbered(500..1025));
+    let [low, high, higher] = [low, high, higher].map(|entries| book::image(&entries));
+    assert_eq!(merge(&low, &high, &mut [0; 10_000]).map(|a| a.0), Ok(1024));
+    assert_eq!(merge(&low, &higher, &mut [0; 10_000]), Err(FULL));
+    assert_eq!(merge(&low, &higher, &mut dst), Err(FULL));
+    assert_eq!(merge(&low, &higher[1..], &mut dst), Err(IMAGE));
+    assert_eq!(dst, [0xEE; 24]);
+}
+
+#[test]
 fn a_child_field_counts_itself() {
     // 31 leaves of 8 bytes, one that is shorter, and an inner node of 2 bytes and its child field.
     for (others, size) in [(253, 1), (254, 1), (255, 2)] {
