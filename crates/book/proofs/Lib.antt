@@ -1,14 +1,5 @@
-pub mod Frame
-pub mod Answers
-pub mod Converting
-pub mod Reading
-pub mod Sections
 pub mod Places
+pub mod Reading
+pub mod Records
+pub mod Sections
 pub mod Size
-pub mod Walk
-pub mod Scores
-pub mod Stored
-pub mod Check
-pub mod Ahead
-pub mod Front
-pub mod Lookups

@@ -1,9 +1,9 @@
 -- A book is read exactly when its front is the image of a valid list, and then that list is what is read.
-use Prim.Native.Nat.{_*_, _+_, _<_, _^_, ℕ}
-use mathlib.Core.Path.{_∙_, _≡_, ap, refl}
-use mathlib.Core.Bool.{true}
+use Prim.Native.Nat.{_*_, _+_, _-_, _<_, _^_, ℕ}
+use mathlib.Core.Path.{_∙_, _≡_, ap, refl, sym}
+use mathlib.Core.Bool.{false≢true, true}
 use mathlib.Core.List.{List, [], _++_, _∷_, append-assoc, map}
-use mathlib.Core.Option.{some}
+use mathlib.Core.Option.{Option, none, some}
 use lib.ListN.{drop, length, length-append}
 use lib.Seq.{drop-append-seam, drop-at, drop-drop, take-at}
 use native.Mathlib.Omega.{arith}
@@ -16,11 +16,13 @@ use Rattle.octets.proofs.Tests.{and-true}
 use Rattle.entries.specs.Entries.{Entry, names, valid}
 use Rattle.entries.specs.Names.{isScore}
 use Rattle.entries.proofs.Valid.{Valid, length-names}
-use Rattle.front_coding.specs.Records.{records}
-use Rattle.front_coding.proofs.Records.{namesFrom-of}
-use Rattle.book.specs.Book.{Layout, blockSize, bookImage, entriesFrom, entriesIn, imageIn, layout21, offset, offsets, peak, peaks, readBook, readIn, recordsAt, scores, scoresFrom}
-use Rattle.book.specs.Frame.{Exact, countOf}
-use Rattle.book.proofs.Frame.{exact, framed-body, framed-count, framed-length, read-of}
+use Rattle.book.specs.Records.{records}
+use Rattle.book.proofs.Records.{namesFrom-of}
+use Rattle.book.specs.Book.{Layout, blockSize, bookImage, entriesFrom, entriesIn, imageIn, inBook, isBook}
+use Rattle.book.specs.Book.{layout21, offset, offsets, peak, peaks, readBook, readIn, recordsAt, scores}
+use Rattle.book.specs.Book.{scoresFrom}
+use Rattle.frame.specs.Frame.{Exact, countOf, entriesOf, isRead}
+use Rattle.frame.proofs.Frame.{exact, framed-body, framed-count, framed-length, read-of}
 
 -- scores read back
 scoresFrom-of :
@@ -65,7 +67,15 @@ module _ (l : Layout) where
       (es : List Entry) → length (imageIn l es) ≡ recordsAt l (length es) + length (records (l .isHead) 0 [] (names es))
   unfolding imageIn recordsAt
   image-length es =
-      rw (framed-length, length-append, length-scores, length-append, length-offsets, length-append, length-peaks) (omega arith)
+      rw (
+        framed-length,
+        length-append,
+        length-scores,
+        length-append,
+        length-offsets,
+        length-append,
+        length-peaks,
+      ) (omega arith)
 
   -- what stands between the frame and the records
   fields : List Entry → List ℕ
@@ -79,9 +89,10 @@ module _ (l : Layout) where
   unfolding fields
   fields-append es r = simp append-assoc
 
-  pub image-body :
+  image-body :
       (es : List Entry) (rest : List ℕ)
-      → drop 7 (imageIn l es ++ rest) ≡ scores es ++ (offsets l es ++ (peaks es ++ (records (l .isHead) 0 [] (names es) ++ rest)))
+      → drop 7 (imageIn l es ++ rest) ≡ scores es
+      ++ (offsets l es ++ (peaks es ++ (records (l .isHead) 0 [] (names es) ++ rest)))
   unfolding imageIn
   image-body es rest = rw framed-body (simp append-assoc)
 
@@ -97,10 +108,11 @@ module _ (l : Layout) where
       )
       (drop-append-seam (fields es) (records (l .isHead) 0 [] (names es) ++ rest))
 
-  pub image-count : (es : List Entry) (rest : List ℕ) → length es < 65536 → countOf (imageIn l es ++ rest) ≡ length es
+  image-count : (es : List Entry) (rest : List ℕ) → length es < 65536 → countOf (imageIn l es ++ rest) ≡ length es
   unfolding imageIn
   image-count es rest h =
-      framed-count (l .version) (length es) (scores es ++ (offsets l es ++ (peaks es ++ records (l .isHead) 0 [] (names es)))) rest h
+      framed-count (l .version) (length es) (scores es
+      ++ (offsets l es ++ (peaks es ++ records (l .isHead) 0 [] (names es)))) rest h
 
   entriesIn-of : (es : List Entry) (rest : List ℕ) → Valid es → entriesIn l (imageIn l es ++ rest) ≡ es
   unfolding entriesIn scores
@@ -116,7 +128,7 @@ module _ (l : Layout) where
       )
       (entriesFrom-of es)
 
-  pub exact-in : Exact (readIn l) (imageIn l)
+  exact-in : Exact (readIn l) (imageIn l)
   unfolding readIn
   exact-in = exact (entriesIn l) (imageIn l) entriesIn-of
 
@@ -127,3 +139,15 @@ book-exact = exact-in layout21
 
 pub readBook-of : (es : List Entry) (rest : List ℕ) → valid es ≡ true → readBook (bookImage es ++ rest) ≡ some es
 readBook-of es rest h = read-of readBook bookImage book-exact es rest h
+
+-- a buffer that is a book is read as its entries
+pub book-read : (buf : List ℕ) → isBook buf ≡ true → readBook buf ≡ some (inBook buf)
+book-read buf h = go (readBook buf) refl
+  where
+    go : (o : Option (List Entry)) → readBook buf ≡ o → readBook buf ≡ some (entriesOf o)
+    go none e = absurd (false≢true (sym (ap isRead e) ∙ h))
+    go (some es) e = e
+
+-- the entries of a book are valid
+pub valid-in : (book : List ℕ) → isBook book ≡ true → valid (inBook book) ≡ true
+valid-in book t = book-exact .sound (inBook book) book (book-read book t) .0

@@ -8,9 +8,9 @@ use Rattle.octets.specs.Octets.{be, begins}
 use Rattle.octets.proofs.Order.{begins-at}
 use Rattle.octets.proofs.Tests.{and-true}
 use Rattle.entries.specs.Entries.{Entry, names}
-use Rattle.front_coding.specs.Records.{records}
+use Rattle.book.specs.Records.{records}
 use Rattle.book.specs.Book.{Layout, imageIn, offsets, peaks, recordsAt, scores}
-use Rattle.book.proofs.Frame.{framed-parts}
+use Rattle.frame.proofs.Frame.{framed-parts}
 use Rattle.book.proofs.Reading.{length-offsets, length-peaks, length-scores}
 
 module _ (l : Layout) where
@@ -52,7 +52,8 @@ module _ (l : Layout) (es : List Entry) (s : List ℕ) where
   pub sections-of : begins (imageIn l es) s ≡ true → Sections l es s
   unfolding imageIn
   sections-of h =
-      let a = and-true _ _ (sym (framed-parts (l .version) (length es) (scores es ++ (offsets l es ++ (peaks es ++ rs))) s) ∙ h) in
+      let a = and-true _ _ (sym (framed-parts (l .version) (length es) (scores es
+      ++ (offsets l es ++ (peaks es ++ rs))) s) ∙ h) in
       let b = and-true _ _ (a .1) in
       let c = and-true _ _ (b .1) in
       let d = and-true _ _ (sym body-parts ∙ c .1) in
@@ -72,4 +73,12 @@ module _ (l : Layout) (es : List Entry) (s : List ℕ) where
   unfolding imageIn
   of-sections h =
       framed-parts (l .version) (length es) (scores es ++ (offsets l es ++ (peaks es ++ rs))) s
-      ∙ rw (h .hasVersion, h .hasTotal, h .hasCount, body-parts, h .hasScores, h .hasOffsets, h .hasPeaks) (h .hasRecords)
+      ∙ rw (
+        h .hasVersion,
+        h .hasTotal,
+        h .hasCount,
+        body-parts,
+        h .hasScores,
+        h .hasOffsets,
+        h .hasPeaks,
+      ) (h .hasRecords)

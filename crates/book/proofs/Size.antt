@@ -7,16 +7,14 @@ use mathlib.Core.List.{List, [], _∷_}
 use lib.ListN.{length, length-append, length-drop}
 use native.Mathlib.Omega.{arith}
 use borrow.Author.Tests.{eqb-false, eqb-true}
-use Rattle.octets.specs.Lists.{_∈_, all, ceil, concatMap}
+use Rattle.octets.specs.Lists.{_∈_, ceil}
 use Rattle.octets.specs.Octets.{common}
-use Rattle.octets.proofs.Coding.{length-be}
 use Rattle.octets.proofs.Lists.{all-in, map-in}
-use Rattle.octets.proofs.Tests.{and-true, by-test}
+use Rattle.octets.proofs.Tests.{by-test}
 use Rattle.entries.specs.Entries.{Entry, names, valid}
 use Rattle.entries.specs.Names.{isName, longestName}
 use Rattle.entries.proofs.Valid.{Valid, length-names, name-length, valid-of}
-use Rattle.front_coding.specs.Records.{bucketSize, recordOf, records}
-use Rattle.book.specs.Answers.{entriesBytes, entryBytes}
+use Rattle.book.specs.Records.{bucketSize, recordOf, records}
 use Rattle.book.specs.Book.{bookImage, layout21, recordsAt}
 use Rattle.book.proofs.Reading.{image-length}
 
@@ -25,7 +23,8 @@ heads = layout21 .isHead
 
 -- a head's record is at most 49 bytes, another's 50
 record-length :
-    (i : ℕ) (prev w : List ℕ) → length w ≤ longestName → length (recordOf heads i prev w) + ceil (suc i) bucketSize ≤ 50 + ceil i bucketSize
+    (i : ℕ) (prev w : List ℕ) → length w ≤ longestName
+    → length (recordOf heads i prev w) + ceil (suc i) bucketSize ≤ 50 + ceil i bucketSize
 unfolding recordOf
 record-length i prev w h =
     by-test (heads i)
@@ -54,18 +53,3 @@ book-length es h =
     let r = records-length 0 [] (names es) (name-fits es v) in
     let n = length-names es in
     rw (image-length layout21 es) (omega arith)
-
--- the bytes of answer entries
-pub length-entryBytes : (e : Entry) → length (entryBytes e) ≡ 5 + length (e .name)
-unfolding entryBytes
-length-entryBytes e = rw (length-append, length-be) (omega arith)
-
-pub entriesBytes-most : (es : List Entry) → all (λ e. isName (e .name)) es ≡ true → length (entriesBytes es) ≤ 53 * length es
-unfolding entriesBytes
-entriesBytes-most [] h = omega arith
-entriesBytes-most (e ∷ es) h =
-    let a = and-true (isName (e .name)) (all (λ f. isName (f .name)) es) h in
-    let n = name-length (e .name) (a .0) in
-    let l = length-entryBytes e in
-    let ih = entriesBytes-most es (a .1) in
-    rw (length-append (entryBytes e) (concatMap entryBytes es)) (omega arith)

@@ -7,9 +7,8 @@ use lib.ListN.{drop, length, take}
 use Rattle.octets.specs.Lists.{ceil, concatMap, countFrom}
 use Rattle.octets.specs.Octets.{be, fromBe}
 use Rattle.entries.specs.Entries.{Entry, best, entry, names}
-use Rattle.front_coding.specs.Records.{bucketHead, bucketSize, namesFrom, records}
-use Rattle.book.specs.Answers.{entriesOf, isRead}
-use Rattle.book.specs.Frame.{countOf, framed, readAs}
+use Rattle.book.specs.Records.{bucketHead, bucketSize, namesFrom, records}
+use Rattle.frame.specs.Frame.{countOf, entriesOf, framed, isRead, readAs}
 
 -- entries in a block that has a peak
 abbrev pub blockSize : ℕ

@@ -1,9 +1,4 @@
-pub mod Frame
-pub mod Answers
 pub mod Book
-pub mod Lookups
-pub mod Check
+pub mod Records
 pub mod Shown
 pub mod Worked
-pub mod Held
-pub mod Ahead

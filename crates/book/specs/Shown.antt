@@ -1,4 +1,5 @@
--- What the tables of worked cases share: the entries and images that document 01 shows, bytes to write into, and answers as numbers.
+-- What the tables of worked cases share: the entries and images that document 01 shows, bytes to write into, and
+-- answers as numbers.
 use Prim.Native.Nat.{_%_, _+_, _/_, suc, ℕ}
 use Prim.Native.String.{String}
 use mathlib.Core.List.{List, [], _++_, _∷_, map}
@@ -7,7 +8,8 @@ use lib.ListN.{drop, length, replicate, take}
 use Rattle.octets.specs.Lists.{concatMap, countFrom}
 use Rattle.octets.specs.Text.{text}
 use Rattle.entries.specs.Entries.{Entry, entry}
-use Rattle.book.specs.Answers.{Answer, Offered, Outcome, Place, Span, Written, counts, given, noSpan, noneOffered, noneWritten, number, refused}
+use Rattle.answer.specs.Answers.{Answer, FoundCounts, OfferedCounts, Outcome, SpanCounts, WrittenCounts, counts, given}
+use Rattle.answer.specs.Answers.{noneOffered, noneSpan, noneWritten, number, refused}
 
 -- "Shown on the bench", as printed there: entries E; P1 the empty book, P2 the empty trie, P3 E as book, P4 E as trie.
 abbrev pub E : List Entry
@@ -43,6 +45,19 @@ abbrev pub letters : ℕ → List ℕ → List Entry
 letters c [] = []
 letters c (s ∷ ss) = entry (c ∷ []) s ∷ letters (suc c) ss
 
+-- 17 names a to q of score 0: three buckets, two blocks
+abbrev pub seventeen : List Entry
+seventeen = letters 0x61 (replicate 17 0)
+
+-- its image: the scores; offsets 85, 108, 131; peaks 0, 16; the records, of which those of a, i and q are heads
+abbrev pub seventeenBook : List ℕ
+seventeenBook =
+    (0x21 ∷ 0x00 ∷ 0x00 ∷ 0x00 ∷ 133 ∷ 0x00 ∷ 17 ∷ replicate 68 0x00)
+    ++ (0x00 ∷ 85 ∷ 0x00 ∷ 108 ∷ 0x00 ∷ 131 ∷ 0x00 ∷ 0 ∷ 0x00 ∷ 16 ∷ [])
+    ++ (1 ∷ 0x61 ∷ concatMap (λ c. 0 ∷ 1 ∷ c ∷ []) (countFrom 0x62 7))
+    ++ (1 ∷ 0x69 ∷ concatMap (λ c. 0 ∷ 1 ∷ c ∷ []) (countFrom 0x6A 7))
+    ++ (1 ∷ 0x71 ∷ [])
+
 -- n names of two letters, each of score 0
 abbrev pub crowd : ℕ → List Entry
 crowd n = map (λ i. entry ((0x30 + i / 64) ∷ (0x30 + i % 64) ∷ []) 0) (countFrom 0 n)
@@ -60,11 +75,11 @@ shownRead none = []
 shownRead (some es) = listed es
 
 -- An outcome as numbers: the refusal or 0, the counts, then the destination.
-abbrev pub shownWritten : Outcome Written → List ℕ
+abbrev pub shownWritten : Outcome WrittenCounts → List ℕ
 shownWritten o =
     number (o .answer) ∷ counts noneWritten (o .answer) .entries ∷ counts noneWritten (o .answer) .bytes ∷ o .dest
 
-abbrev pub shownOffered : Outcome Offered → List ℕ
+abbrev pub shownOffered : Outcome OfferedCounts → List ℕ
 shownOffered o =
     number (o .answer)
     ∷ counts noneOffered (o .answer) .offered
@@ -73,13 +88,13 @@ shownOffered o =
     ∷ o .dest
 
 -- An answer as numbers: the refusal or 0, then the counts; of an absent name there are none.
-abbrev pub shownFound : Answer (Option Place) → List ℕ
+abbrev pub shownFound : Answer (Option FoundCounts) → List ℕ
 shownFound (refused n) = n ∷ []
 shownFound (given none) = 0 ∷ []
 shownFound (given (some p)) = 0 ∷ p .position ∷ p .score ∷ []
 
-abbrev pub shownSpan : Answer Span → List ℕ
-shownSpan a = number a ∷ counts noSpan a .first ∷ counts noSpan a .count ∷ []
+abbrev pub shownSpan : Answer SpanCounts → List ℕ
+shownSpan a = number a ∷ counts noneSpan a .first ∷ counts noneSpan a .count ∷ []
 
 abbrev pub shownLength : Answer ℕ → List ℕ
 shownLength a = number a ∷ counts 0 a ∷ []

@@ -7,17 +7,15 @@ use lib.Dec.{ltb}
 use lib.ListN.{length}
 use native.Mathlib.Omega.{arith}
 use borrow.Author.Tests.{ltb-false, ltb-true}
-use Rattle.octets.specs.Octets.{numberAt}
 use Rattle.octets.proofs.Tests.{by-test}
 use Rattle.entries.specs.Entries.{Entry, at, outranks}
 use Rattle.entries.proofs.Rank.{not-outranks-trans, outranks-asym, outranks-high, outranks-irrefl}
 use Rattle.entries.proofs.Span.{later-not, span-best, span-top, span-unique}
 use Rattle.book.specs.Book.{blockSize, inBook, peak}
-use Rattle.book.specs.Check.{peaksStart, scoreAt}
-use Rattle.book.specs.Held.{Held}
-use Rattle.book.proofs.Lookups.{held-stored, held-valid}
+use Rattle.book_laws.specs.Check.{betterOf, peakAt, scoreAt}
+use Rattle.book_laws.specs.Held.{Held}
+use Rattle.book_laws.proofs.Held.{held-stored, held-valid}
 use Rattle.book.proofs.Places.{peak-span}
-use Rattle.book_check.specs.Checked.{betterOf}
 use Rattle.book_best.specs.Best.{BestIn, Tops}
 
 -- the parts: one position, and a whole block by its peak
@@ -37,21 +35,27 @@ module _ (es : List Entry) (i end : ℕ) where
       let m : min (length es) (i + blockSize) ≡ i + blockSize = omega arith in
       let s = span-best es i (i + blockSize) (omega arith) (omega arith) in
       rw (rw (q, m) at (peak-span es j (omega arith)))
-      (record { low = omega arith; high = omega arith; within = w; tops = span-top es i (i + blockSize) (omega arith) (omega arith) })
+      (record {
+        low = omega arith;
+        high = omega arith;
+        within = w;
+        tops = span-top es i (i + blockSize) (omega arith) (omega arith);
+      })
 
 module _ {buf : List ℕ} {n : ℕ} (h : Held buf n) where
   abbrev es : List Entry
   es = inBook buf
 
   -- the peak of a block stands in its place
-  pub held-peak : (j : ℕ) → blockSize * j < n → numberAt 2 buf (peaksStart n + 2 * j) ≡ peak es j
+  pub held-peak : (j : ℕ) → blockSize * j < n → peakAt buf n j ≡ peak es j
   held-peak j l = rw (h .count) (held-stored h .peakAt j (omega (arith, h .count)))
 
   module _ {first end b i : ℕ} (t : Tops es first end b i) (l : end ≤ n) where
     -- a turn: behind the positions that b tops lie those that c tops, so a tie is b's
     pub tops-turn : {c next : ℕ} → Tops es i end c next → Tops es first end (betterOf buf b c) next
     tops-turn {c} {next} u =
-        by-test (ltb (scoreAt buf b) (scoreAt buf c)) (λ w. rw w (taken (ltb-true _ _ w))) (λ w. rw w (kept (ltb-false _ _ w)))
+        by-test (ltb (scoreAt buf b) (scoreAt buf c)) (λ w. rw w (taken (ltb-true _ _ w)))
+        (λ w. rw w (kept (ltb-false _ _ w)))
       where
         inside : c < length es
         inside = omega (arith, h .count)
@@ -72,7 +76,12 @@ module _ {buf : List ℕ} {n : ℕ} (h : Held buf n) where
         taken w =
             let p : at es b .score < at es c .score = rw (scored b (omega arith), scored c inside) at w in
             let x = outranks-asym (at es c) (at es b) (outranks-high (at es c) (at es b) p) in
-            record { low = omega arith; high = u .high; within = u .within; tops = each c x (outranks-irrefl (at es c)) }
+            record {
+              low = omega arith;
+              high = u .high;
+              within = u .within;
+              tops = each c x (outranks-irrefl (at es c));
+            }
 
         kept : scoreAt buf c ≤ scoreAt buf b → Tops es first end b next
         kept w =

@@ -1,8 +1,10 @@
-// The best-ranked position of a range of positions of a book that was checked: peaks for the blocks that the range holds whole.
+// The best-ranked position of a range of positions of a book that was checked: peaks for the blocks that the range
+// holds whole.
+use limits::BLOCK_SIZE;
 ghost use mathlib.Core.Path.{_≡_};
 ghost use Prim.Native.Nat.{_*_, _<_, _≤_};
 ghost use Rattle.book.specs.Book.{blockSize, inBook, peak};
-ghost use Rattle.book.specs.Held.{Held};
+ghost use Rattle.book_laws.specs.Held.{Held};
 ghost use Rattle.book_best.specs.Best.{BestIn, Tops};
 
 // The best of some positions in a row, and the position behind them.
@@ -16,7 +18,7 @@ fn peak_of(book: &[u8], n: usize, j: usize) -> usize
     requires { ⌜ Held (now book) n × (blockSize * j < n) ⌝ }
     ensures { λ r. ⌜ r ≡ peak (inBook (now (book .entry))) j ⌝ }
 {
-    numbers::read_u16(book, book_check::peaks_at(n) + 2 * j) as usize
+    book_layout::peak_at(book, n, j)
 }
 
 // The positions to take at once from i on: a block that begins there and ends in the range, else i alone.
@@ -24,11 +26,11 @@ fn part_at(book: &[u8], n: usize, i: usize, end: usize) -> Part
     requires { ⌜ Held (now book) n × (i < end) × (end ≤ n) ⌝ }
     ensures { λ r. ⌜ Tops (inBook (now (book .entry))) i end (r .best) (r .next) ⌝ }
 {
-    if i % 16 == 0 {
-        if 16 <= end - i {
+    if i % BLOCK_SIZE == 0 {
+        if BLOCK_SIZE <= end - i {
             return Part {
-                best: peak_of(book, n, i / 16),
-                next: i + 16,
+                best: peak_of(book, n, i / BLOCK_SIZE),
+                next: i + BLOCK_SIZE,
             };
         }
     }
@@ -49,7 +51,7 @@ pub fn best_in(book: &[u8], n: usize, first: usize, end: usize) -> usize
     while i < end {
         // later positions, so that they need a higher score
         let part = part_at(book, n, i, end);
-        b = book_check::better(book, b, part.best);
+        b = book_layout::better(book, b, part.best);
         i = part.next;
     }
     b

@@ -1,4 +1,3 @@
-pub mod Loops
-pub mod Frame
 pub mod Answer
 pub mod Held
+pub mod Loops

@@ -13,23 +13,22 @@ use Rattle.octets.specs.Octets.{same}
 use Rattle.octets.proofs.Tests.{by-test}
 use Rattle.entries.specs.Entries.{Entry, at, entry}
 use Rattle.entries.specs.Names.{longestName}
-use Rattle.entries.specs.Place.{isBefore, place}
-use Rattle.entries.proofs.Place.{place-unique}
+use Rattle.entries_laws.specs.Place.{isBefore, place}
+use Rattle.entries_laws.proofs.Place.{place-unique}
 use Rattle.entries.proofs.Valid.{Valid}
-use Rattle.front_coding.specs.Cursor.{Stepped, cursorOf, nameIn}
-use Rattle.front_coding.specs.Records.{bucketHead, bucketSize}
-use Rattle.record_writer.proofs.Writing.{same-record}
-use Rattle.book.specs.Ahead.{Ahead, InFront, nameBefore, recordAt}
+use Rattle.book_laws.specs.Cursor.{Step, Stepped, cursorOf, nameIn}
+use Rattle.book.specs.Records.{bucketHead, bucketSize}
+use Rattle.book_record_write.proofs.Writing.{same-record}
+use Rattle.book_laws.specs.Ahead.{Ahead, InFront, nameBefore, recordAt}
 use Rattle.book.specs.Book.{layout21, offset}
-use Rattle.book.proofs.Ahead.{ahead-bucket, step-ahead, step-at, step-name}
-use Rattle.book.proofs.Front.{last-next, record-next}
-use Rattle.book.proofs.Stored.{Stored}
-use Rattle.book_records.specs.Parts.{Inside, Read}
-use Rattle.book_records.proofs.Reading.{read-long, step-inside, step-read, stepBy}
+use Rattle.book_laws.proofs.Ahead.{ahead-bucket, step-ahead, step-at, step-name}
+use Rattle.book_laws.proofs.Front.{last-next, record-next}
+use Rattle.book_laws.proofs.Stored.{Stored}
+use Rattle.book_read.specs.Record.{Inside, Read}
+use Rattle.book_read.proofs.Reading.{read-long, step-inside, step-read, stepBy}
 use Rattle.book_find.specs.Find.{HeadsBefore, isAt}
-use Rattle.book_records.specs.declared.Parts.{Parts}
-use Rattle.front_coding.specs.declared.Cursor.{Cursor}
-use Rattle.front_coding.specs.declared.Step.{Step}
+use Rattle.book_read.specs.declared.Parts.{Parts}
+use Rattle.book_laws.specs.declared.Cursor.{Cursor}
 
 -- from position `first` on, at most up to `end`
 pub record Reached (es : List Entry) (buf : List ℕ) (first end : ℕ) (c : Cursor) : Type 0 where
@@ -43,7 +42,8 @@ pub record Reached (es : List Entry) (buf : List ℕ) (first end : ℕ) (c : Cur
 
 module _ {buf : List ℕ} {es : List Entry} where
   pub reach-start :
-      (bucket : ℕ) {end k : ℕ} {name : List ℕ} → Stored buf es → k ≡ offset layout21 es bucket → bucketSize * bucket ≤ end → end ≤ length es
+      (bucket : ℕ) {end k : ℕ} {name : List ℕ} → Stored buf es → k ≡ offset layout21 es bucket
+      → bucketSize * bucket ≤ end → end ≤ length es
       → length name ≡ longestName → Reached es buf (bucketSize * bucket) end (cursorOf k (bucketSize * bucket) name 0)
   unfolding offset
   reach-start bucket {end} {k} {name} s e h l m =
@@ -58,7 +58,8 @@ module _ {buf : List ℕ} {es : List Entry} where
       }
 
   -- one step
-  module _ {first end : ℕ} {c : Cursor} (v : Valid es) (w : Reached es buf first end c) (k : end ≤ length es) (l : c .index < end) where
+  module _ {first end : ℕ} {c : Cursor} (v : Valid es) (w : Reached es buf first end c) (k : end ≤ length es)
+      (l : c .index < end) where
     low : c .index < length es
     low = omega arith
 
@@ -92,7 +93,11 @@ module _ {buf : List ℕ} {es : List Entry} where
       reach-place : step .next .at ≡ recordAt es (suc (c .index))
       reach-place =
           step-at es v buf c (w .ahead) low step stepped
-          ∙ rw (w .place, same-record bucketHead (c .index) (nameIn c) (nameBefore es (c .index)) (at es (c .index) .name) reach-before)
+          ∙ rw (
+            w .place,
+            same-record bucketHead (c .index) (nameIn c) (nameBefore es (c .index))
+                (at es (c .index) .name) reach-before,
+          )
           (sym (record-next es (c .index) low))
 
       pub reach-on : Reached es buf first end (stepBy c name p .next)
@@ -109,10 +114,12 @@ module _ {buf : List ℕ} {es : List Entry} where
           }
 
   -- behind the record at position i
-  pub reach-end : {first i : ℕ} {c : Cursor} → Reached es buf first (i + 1) c → first ≤ i → i < c .index → nameIn c ≡ at es i .name
+  pub reach-end : {first i : ℕ} {c : Cursor} → Reached es buf first (i + 1) c → first ≤ i → i < c .index
+      → nameIn c ≡ at es i .name
   reach-end {first} {i} {c} w h l = let z : c .index - 1 ≡ i = omega (arith, w .upto) in rw z at (w .name (omega arith))
 
-  pub reach-front : {first i : ℕ} {c : Cursor} → Reached es buf first (i + 1) c → first ≤ i → i < c .index → i < length es → InFront es buf (i + 1) c
+  pub reach-front : {first i : ℕ} {c : Cursor} → Reached es buf first (i + 1) c → first ≤ i → i < c .index
+      → i < length es → InFront es buf (i + 1) c
   reach-front {first} {i} {c} w h l k =
       let z : c .index ≡ i + 1 = omega (arith, w .upto) in
       record {
@@ -122,20 +129,28 @@ module _ {buf : List ℕ} {es : List Entry} where
         name = reach-end w h l ∙ sym (rw (← add-one i) at (last-next es i k));
       }
 
--- the walk that looks for the place of a key: index k and position i are reached, and the name before, as all before it, is before the key
-pub record Passed (past : Bool) (key : List ℕ) (es : List Entry) (buf : List ℕ) (first end k i : ℕ) (name : List ℕ) : Type 0 where
+-- the walk that looks for the place of a key: index k and position i are reached, and the name before, as all before
+-- it, is before the key
+pub record Passed (past : Bool) (key : List ℕ) (es : List Entry) (buf : List ℕ) (first end k i : ℕ) (name : List ℕ) :
+    Type 0 where
   pub len : ℕ
   pub reached : Reached es buf first end (cursorOf k i name len)
   pub before : first < i → isBefore past key (at es (i - 1)) ≡ true
 
 module _ {past : Bool} {key buf : List ℕ} {es : List Entry} where
   pub pass-start :
-      (bucket : ℕ) {end k : ℕ} {name : List ℕ} → Stored buf es → k ≡ offset layout21 es bucket → bucketSize * bucket ≤ end → end ≤ length es
+      (bucket : ℕ) {end k : ℕ} {name : List ℕ} → Stored buf es → k ≡ offset layout21 es bucket
+      → bucketSize * bucket ≤ end → end ≤ length es
       → length name ≡ longestName → Passed past key es buf (bucketSize * bucket) end k (bucketSize * bucket) name
-  pass-start bucket s e h l m = record { len = 0; reached = reach-start bucket s e h l m; before = λ z. absurd (omega arith) }
+  pass-start bucket s e h l m = record {
+    len = 0;
+    reached = reach-start bucket s e h l m;
+    before = λ z. absurd (omega arith);
+  }
 
   module _
-      {first end k i : ℕ} {name : List ℕ} (v : Valid es) (g : Passed past key es buf first end k i name) (h : end ≤ length es)
+      {first end k i : ℕ} {name : List ℕ} (v : Valid es) (g : Passed past key es buf first end k i name)
+      (h : end ≤ length es)
     where
       -- the record there was read
       module _ (l : i < end) {new : List ℕ} {p : Parts} (r : Read (drop k buf) i name new p) where
@@ -147,7 +162,11 @@ module _ {past : Bool} {key buf : List ℕ} {es : List Entry} where
             → Passed past key es buf first end (k + (p .start + p .own)) (i + 1) new
         pass-on b =
             let z : i + 1 - 1 ≡ i = omega arith in
-            record { len = p .kept + p .own; reached = reach-on v (g .reached) h l r; before = λ m. rw z (rw is-next at b) }
+            record {
+              len = p .kept + p .own;
+              reached = reach-on v (g .reached) h l r;
+              before = λ m. rw z (rw is-next at b);
+            }
 
         -- a name that is not before the key: the head is, so it is not the head
         pub pass-stop :
@@ -171,7 +190,8 @@ module _ {past : Bool} {key buf : List ℕ} {es : List Entry} where
         pass-same = rw (lt-ltb i (length es) (omega arith), is-next)
 
       -- the end of the bucket
-      pub pass-end : first < end → end ≤ i → (end < length es → isBefore past key (at es end) ≡ false) → end ≡ place past key es
+      pub pass-end : first < end → end ≤ i → (end < length es → isBefore past key (at es end) ≡ false)
+          → end ≡ place past key es
       pass-end f l right =
           let e : i ≡ end = omega (arith, g .reached .upto) in
           sym (place-unique past key es (v .order) end h (λ z. rw e at (g .before (omega arith))) right)
@@ -179,7 +199,8 @@ module _ {past : Bool} {key buf : List ℕ} {es : List Entry} where
 -- what the heads tell: the place where none is before the key, and the name behind the bucket of the last head that is
 module _ {past : Bool} {key : List ℕ} {es : List Entry} {heads : ℕ} (h : HeadsBefore past key es heads) where
   pub none-before : Valid es → heads ≡ 0 → 0 ≡ place past key es
-  none-before v e = sym (place-unique past key es (v .order) 0 (omega arith) (λ z. absurd (omega arith)) (rw e at (h .right)))
+  none-before v e = sym (place-unique past key es (v .order) 0 (omega arith) (λ z. absurd (omega arith))
+      (rw e at (h .right)))
 
   pub behind-bucket :
       {n end : ℕ} → n ≡ length es → end ≡ min n (bucketSize * (heads - 1) + bucketSize) → 0 < heads → end < length es
@@ -193,4 +214,5 @@ module _ {past : Bool} {key : List ℕ} {es : List Entry} {heads : ℕ} (h : Hea
   next-head {n} {end} e m z k =
       by-test (ltb end (length es))
       (λ t. let l = ltb-true end (length es) t in let q : end ≡ bucketSize * heads = omega arith in rw q k)
-      (λ t. let l = ltb-false end (length es) t in rw t (rw (le-ltb (bucketSize * heads) (length es) (omega arith)) at k))
+      (λ t. let l = ltb-false end (length es) t in
+      rw t (rw (le-ltb (bucketSize * heads) (length es) (omega arith)) at k))

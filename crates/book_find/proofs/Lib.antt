@@ -1,3 +1,3 @@
+pub mod Bucket
 pub mod Held
 pub mod Search
-pub mod Bucket

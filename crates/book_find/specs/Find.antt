@@ -8,8 +8,8 @@ use lib.ListN.{length}
 use Rattle.octets.specs.Lists.{ceil}
 use Rattle.octets.specs.Octets.{same}
 use Rattle.entries.specs.Entries.{Entry, at}
-use Rattle.entries.specs.Place.{isBefore, place}
-use Rattle.front_coding.specs.Records.{bucketSize}
+use Rattle.entries_laws.specs.Place.{isBefore, place}
+use Rattle.book.specs.Records.{bucketSize}
 use Rattle.book_find.specs.declared.Sought.{Sought}
 
 -- the first r heads are before the key and the others are not: known by the heads on both sides

@@ -1,14 +1,17 @@
 // Names in a book that was checked: by position, by bucket, and the place of a key among them.
+use book_laws::Cursor;
+use limits::BUCKET_SIZE;
+use limits::LONGEST_NAME;
 ghost use mathlib.Core.Path.{_≡_};
 ghost use Prim.Native.Nat.{_*_, _+_, _<_, _≤_, min};
 ghost use Rattle.entries.specs.Entries.{at, entry};
 ghost use Rattle.entries.specs.Names.{longestName};
-ghost use Rattle.entries.specs.Place.{isBefore, place};
-ghost use Rattle.front_coding.specs.Cursor.{nameIn};
-ghost use Rattle.front_coding.specs.Records.{bucketSize};
+ghost use Rattle.entries_laws.specs.Place.{isBefore, place};
+ghost use Rattle.book_laws.specs.Cursor.{nameIn};
+ghost use Rattle.book.specs.Records.{bucketSize};
 ghost use Rattle.book.specs.Book.{inBook, layout21, offset};
-ghost use Rattle.book.specs.Ahead.{InFront};
-ghost use Rattle.book.specs.Held.{Held};
+ghost use Rattle.book_laws.specs.Ahead.{InFront};
+ghost use Rattle.book_laws.specs.Held.{Held};
 ghost use Rattle.book_find.specs.Find.{HeadsBefore, Seeks, isAt};
 
 // The place of a key among the names, and whether the name there is the key.
@@ -22,7 +25,7 @@ fn offset_of(buf: &[u8], n: usize, bucket: usize) -> usize
     requires { ⌜ Held (now buf) n × (bucketSize * bucket < n) ⌝ }
     ensures { λ r. ⌜ r ≡ offset layout21 (inBook (now (buf .entry))) bucket ⌝ }
 {
-    numbers::read_u16(buf, 7 + 4 * n + 2 * bucket) as usize
+    book_layout::offset_at(buf, n, bucket)
 }
 
 // The head name of a bucket, a part of the book.
@@ -41,31 +44,31 @@ fn bucket_end(n: usize, bucket: usize) -> usize
     requires { ⌜ bucketSize * bucket < n ⌝ }
     ensures { λ r. ⌜ r ≡ min n (bucketSize * bucket + bucketSize) ⌝ }
 {
-    let first = 8 * bucket;
-    if n - first < 8 {
+    let first = BUCKET_SIZE * bucket;
+    if n - first < BUCKET_SIZE {
         return n;
     }
-    first + 8
+    first + BUCKET_SIZE
 }
 
 // The cursor behind the record at a position, in front of the next one: it holds the name there.
-pub fn cursor_at(buf: &[u8], n: usize, i: usize) -> front_coding::Cursor
+pub fn cursor_at(buf: &[u8], n: usize, i: usize) -> Cursor
     requires { ⌜ Held (now buf) n × (i < n) ⌝ }
     ensures { λ r. ⌜ (nameIn r ≡ at (inBook (now (buf .entry))) i .name) × (r .len ≤ longestName)
         × InFront (inBook (now (buf .entry))) (now (buf .entry)) (i + 1) r ⌝ }
 {
-    let bucket = i / 8;
-    let mut name = [0u8; 48];
+    let bucket = i / BUCKET_SIZE;
+    let mut name = [0u8; LONGEST_NAME];
     let mut len = 0;
     let mut at = offset_of(buf, n, bucket);
-    let mut index = 8 * bucket;
+    let mut index = BUCKET_SIZE * bucket;
     while index <= i {
-        let p = book_records::read_name(buf, at, index, &mut name);
+        let p = book_read::read_name(buf, at, index, &mut name);
         at += p.start + p.own;
         len = p.kept + p.own;
         index += 1;
     }
-    front_coding::Cursor {
+    Cursor {
         at: at,
         index: index,
         name: name,
@@ -77,11 +80,11 @@ pub fn cursor_at(buf: &[u8], n: usize, i: usize) -> front_coding::Cursor
 fn is_before(name: &[u8], key: &[u8], past: bool) -> bool
     ensures { λ r. ⌜ r ≡ isBefore past (now (key .entry)) (entry (now (name .entry)) 0) ⌝ }
 {
-    if octets::is_below(name, key) {
+    if octets_code::is_below(name, key) {
         return true;
     }
     if past {
-        return octets::starts_with(name, key);
+        return octets_code::starts_with(name, key);
     }
     false
 }
@@ -92,7 +95,7 @@ fn heads_before(buf: &[u8], n: usize, key: &[u8], past: bool) -> usize
     ensures { λ r. ⌜ HeadsBefore past (now (key .entry)) (inBook (now (buf .entry))) r ⌝ }
 {
     let mut low = 0;
-    let mut high = (n + 7) / 8;
+    let mut high = book_layout::buckets(n);
     while low < high {
         let mid = low + (high - low) / 2;
         if is_before(head_name(buf, n, mid), key, past) {
@@ -109,14 +112,14 @@ fn head_is(buf: &[u8], n: usize, bucket: usize, key: &[u8]) -> bool
     requires { ⌜ Held (now buf) n × (bucket ≤ n) ⌝ }
     ensures { λ r. ⌜ r ≡ isAt (inBook (now (buf .entry))) (bucketSize * bucket) (now (key .entry)) ⌝ }
 {
-    if n <= 8 * bucket {
+    if n <= BUCKET_SIZE * bucket {
         return false;
     }
-    octets::equal(head_name(buf, n, bucket), key)
+    octets_code::equal(head_name(buf, n, bucket), key)
 }
 
-// The place of the key, how many names are below it or, with `past`, below it or begun by it, and whether the name there is the key: bucket
-// heads first, then the names of one bucket.
+// The place of the key, how many names are below it or, with `past`, below it or begun by it, and whether the name
+// there is the key: bucket heads first, then the names of one bucket.
 pub fn seek(buf: &[u8], n: usize, key: &[u8], past: bool) -> Sought
     requires { ⌜ Held (now buf) n ⌝ }
     ensures { λ r. ⌜ Seeks past (now (key .entry)) (inBook (now (buf .entry))) r ⌝ }
@@ -131,16 +134,16 @@ pub fn seek(buf: &[u8], n: usize, key: &[u8], past: bool) -> Sought
     }
     let bucket = heads - 1;
     let end = bucket_end(n, bucket);
-    let mut name = [0u8; 48];
+    let mut name = [0u8; LONGEST_NAME];
     let mut at = offset_of(buf, n, bucket);
-    let mut index = 8 * bucket;
+    let mut index = BUCKET_SIZE * bucket;
     while index < end {
-        let p = book_records::read_name(buf, at, index, &mut name);
+        let p = book_read::read_name(buf, at, index, &mut name);
         let len = p.kept + p.own;
         if !is_before(&name[..len], key, past) {
             return Sought {
                 index: index,
-                same: octets::equal(&name[..len], key),
+                same: octets_code::equal(&name[..len], key),
             };
         }
         at += p.start + p.own;

@@ -20,7 +20,8 @@ use Rattle.entries.proofs.Rank.{best-best, best-lt, not-outranks-trans, rank-fi
 use Rattle.entries.proofs.Same.{counted, in-counted, sameEntry}
 use Rattle.entries.proofs.Span.{span, span-at, span-best, span-length}
 use Rattle.completion.specs.declared.Range.{Range}
-use Rattle.completion.specs.Machine.{MachineOffers, bests, chosen, machine, noRange, offering, openRange, others, parts, run}
+use Rattle.completion.specs.Machine.{MachineOffers, bests, chosen, machine, noRange, offering, openRange, others}
+use Rattle.completion.specs.Machine.{parts, run}
 
 -- an open range of es, with its best
 record Good (es : List Entry) (r : Range) : Type 0 where
@@ -34,7 +35,8 @@ contents es rs = concatMap (λ r. span es (r .first) (suc (r .last))) rs
 
 -- a span is what is left of a position, the position, and what is right of it
 span-split :
-    (es : List Entry) (i t j : ℕ) → i ≤ t → t < j → j ≤ length es → span es i j ≡ span es i t ++ (at es t ∷ span es (suc t) j)
+    (es : List Entry) (i t j : ℕ) → i ≤ t → t < j → j ≤ length es → span es i j ≡ span es i t
+    ++ (at es t ∷ span es (suc t) j)
 span-split es i t j a b c =
     let p : j - i ≡ (t - i) + suc (j - suc t) = omega arith in
     let q : i + (t - i) ≡ t = omega arith in
@@ -44,7 +46,12 @@ span-split es i t j a b c =
 
 -- the best of a range
 module _ (es : List Entry) (i j : ℕ) (a : i < j) (c : j ≤ length es) where
-  span-good : Good es (record { first = i; best = i + best (span es i j); score = at es (i + best (span es i j)) .score; last = j - 1 })
+  span-good : Good es (record {
+    first = i;
+    best = i + best (span es i j);
+    score = at es (i + best (span es i j)) .score;
+    last = j - 1;
+  })
   span-good =
       let b = span-best es i j a c in
       let z : suc (j - 1) ≡ j = omega arith in
@@ -59,7 +66,12 @@ open-good : (es : List Entry) (i j : ℕ) → j ≤ length es → (r : Range) �
 unfolding openRange
 open-good es i j h r m = by-test (ltb i j) (λ t. one t (rw t at m)) (λ t. absurd (rw t at m))
   where
-    one : ltb i j ≡ true → r ∈ (record { first = i; best = i + best (span es i j); score = at es (i + best (span es i j)) .score; last = j - 1 } ∷ []) → Good es r
+    one : ltb i j ≡ true → r ∈ (record {
+      first = i;
+      best = i + best (span es i j);
+      score = at es (i + best (span es i j)) .score;
+      last = j - 1;
+    } ∷ []) → Good es r
     one t (inl q) = rw q (span-good es i j (ltb-true i j t) h)
     one t (inr n) = absurd n
 
@@ -67,7 +79,8 @@ open-contents : (es : List Entry) (i j : ℕ) → contents es (openRange es i j)
 unfolding openRange
 open-contents es i j =
     by-test (ltb i j)
-    (λ t. let a = ltb-true i j t in let z : suc (j - 1) ≡ j = omega arith in rw (t, append-nil (span es i (suc (j - 1))), z))
+    (λ t. let a = ltb-true i j t in let z : suc (j - 1) ≡ j = omega arith in
+    rw (t, append-nil (span es i (suc (j - 1))), z))
     (λ t. let a = ltb-false i j t in let z : j - i ≡ 0 = omega arith in rw (t, z))
 
 pub open-length : (es : List Entry) (i j : ℕ) → length (openRange es i j) ≤ 1
@@ -77,7 +90,8 @@ open-length es i j = by-test (ltb i j) (λ t. rw t (omega arith)) (λ t. rw t (o
 -- the parts of a range hold all of it but its best
 contents-append : (es : List Entry) (rs ts : List Range) → contents es (rs ++ ts) ≡ contents es rs ++ contents es ts
 contents-append es [] ts = refl
-contents-append es (r ∷ rs) ts = let ih = contents-append es rs ts in rw ih (sym (append-assoc (span es (r .first) (suc (r .last))) (contents es rs) (contents es ts)))
+contents-append es (r ∷ rs) ts = let ih = contents-append es rs ts in
+    rw ih (sym (append-assoc (span es (r .first) (suc (r .last))) (contents es rs) (contents es ts)))
 
 parts-count :
     (es : List Entry) (r : Range) (q : Entry → Bool) → Good es r
@@ -101,7 +115,8 @@ parts-count es r q g =
 
 parts-good : (es : List Entry) (r : Range) → Good es r → (p : Range) → p ∈ parts es r → Good es p
 unfolding parts
-parts-good es r g p m = go (append-in p (openRange es (r .first) (r .best)) (openRange es (suc (r .best)) (suc (r .last))) m)
+parts-good es r g p m = go (append-in p (openRange es (r .first) (r .best))
+    (openRange es (suc (r .best)) (suc (r .last))) m)
   where
     go : (p ∈ openRange es (r .first) (r .best)) ⊎ (p ∈ openRange es (suc (r .best)) (suc (r .last))) → Good es p
     go (inl n) = open-good es (r .first) (r .best) (omega (arith, g .high, g .inside)) p n
@@ -134,7 +149,8 @@ held es r = span es (r .first) (suc (r .last))
 
 set-count :
     (es : List Entry) (q : Entry → Bool) (rs : List Range) (i : ℕ) (l : Range) → i < length rs
-    → count q (contents es (set rs i l)) + count q (held es (getD rs i noRange)) ≡ count q (contents es rs) + count q (held es l)
+    → count q (contents es (set rs i l)) + count q (held es (getD rs i noRange)) ≡ count q (contents es rs) + count q
+    (held es l)
 set-count es q [] i l h = absurd (omega arith)
 set-count es q (r ∷ rs) zero l h =
     let a = count-append q (held es r) (contents es rs) in
@@ -147,7 +163,8 @@ set-count es q (r ∷ rs) (suc i) l h =
     omega arith
 
 -- the last of the ranges, once it stands in another's place, is still the last
-last-set : (rs : List Range) (i : ℕ) → i < length rs → getD (set rs i (getD rs (length rs - 1) noRange)) (length rs - 1) noRange ≡ getD rs (length rs - 1) noRange
+last-set : (rs : List Range) (i : ℕ) → i < length rs
+    → getD (set rs i (getD rs (length rs - 1) noRange)) (length rs - 1) noRange ≡ getD rs (length rs - 1) noRange
 last-set rs i h =
     by-test (eqb (length rs - 1) i)
     (λ t. let z = eqb-true (length rs - 1) i t in rw z (getD-set-same rs i (getD rs i noRange) noRange h))
@@ -174,9 +191,11 @@ others-count es q rs i h =
     let e = ap (count q) (append-nil (held es l)) in
     omega arith
 
-contents-in : (es : List Entry) (rs : List Range) (e : Entry) → e ∈ contents es rs → (r : Range) × (r ∈ rs) × (e ∈ span es (r .first) (suc (r .last)))
+contents-in : (es : List Entry) (rs : List Range) (e : Entry) → e ∈ contents es rs → (r : Range) × (r ∈ rs)
+    × (e ∈ span es (r .first) (suc (r .last)))
 contents-in es [] e m = absurd m
-contents-in es (r ∷ rs) e m = go (append-in e (span es (r .first) (suc (r .last))) (contents es rs) m) (contents-in es rs e)
+contents-in es (r ∷ rs) e m = go (append-in e (span es (r .first) (suc (r .last))) (contents es rs) m)
+    (contents-in es rs e)
   where
     go :
         (e ∈ span es (r .first) (suc (r .last))) ⊎ (e ∈ contents es rs)
@@ -185,7 +204,8 @@ contents-in es (r ∷ rs) e m = go (append-in e (span es (r .first) (suc (r .las
     go (inl n) ih = (r, inl refl, n)
     go (inr n) ih = let z = ih n in (z .0, inr (z .1), z .2)
 
-pub at-map : (es : List Entry) (rs : List Range) (i : ℕ) → i < length rs → at (bests es rs) i ≡ at es (getD rs i noRange .best)
+pub at-map : (es : List Entry) (rs : List Range) (i : ℕ) → i < length rs
+    → at (bests es rs) i ≡ at es (getD rs i noRange .best)
 at-map es [] i h = absurd (omega arith)
 at-map es (r ∷ rs) zero h = refl
 at-map es (r ∷ rs) (suc i) h = at-map es rs i (omega arith)
@@ -245,13 +265,17 @@ module _ (es : List Entry) (rs : List Range) (ne : 0 < length rs) (good : (r : R
   next-rank = rank-first (at es (chosen es rs .best)) (contents es rs) (contents es next) next-count next-below
 
 -- the machine offers in rank
-run-offers : (es : List Entry) (k : ℕ) (rs : List Range) → ((r : Range) → r ∈ rs → Good es r) → map (at es) (run k es rs .offered) ≡ take k (byRank (contents es rs))
+run-offers : (es : List Entry) (k : ℕ) (rs : List Range) → ((r : Range) → r ∈ rs → Good es r)
+    → map (at es) (run k es rs .offered) ≡ take k (byRank (contents es rs))
 unfolding offering
 run-offers es zero rs good = refl
 run-offers es (suc k) [] good = refl
 run-offers es (suc zero) (r ∷ rs) good = rw (next-rank es (r ∷ rs) (omega arith) good)
 run-offers es (suc (suc k)) (r ∷ rs) good =
-    rw (next-rank es (r ∷ rs) (omega arith) good, run-offers es (suc k) (next es (r ∷ rs) (omega arith) good) (next-good es (r ∷ rs) (omega arith) good))
+    rw (
+      next-rank es (r ∷ rs) (omega arith) good,
+      run-offers es (suc k) (next es (r ∷ rs) (omega arith) good) (next-good es (r ∷ rs) (omega arith) good),
+    )
     refl
 
 -- the first open range
@@ -267,7 +291,8 @@ module _ (es : List Entry) (p : List ℕ) (r : rising es ≡ true) where
   start-span =
       by-test (eqb (length (matches p es)) 0)
       (λ t. let z = eqb-true (length (matches p es)) 0 t in let y = nil-of (matches p es) z in rw (t, y))
-      (λ t. let z : firstMatch p es + length (matches p es) - firstMatch p es ≡ length (matches p es) = omega arith in rw (t, z) (sym (matches-span p es r)))
+      (λ t. let z : firstMatch p es + length (matches p es) - firstMatch p es ≡ length (matches p es) = omega arith in
+      rw (t, z) (sym (matches-span p es r)))
     where
       nil-of : (l : List Entry) → length l ≡ 0 → l ≡ []
       nil-of [] h = refl
@@ -278,7 +303,8 @@ module _ (es : List Entry) (p : List ℕ) (r : rising es ≡ true) where
   stop-fits =
       by-test (eqb (length (matches p es)) 0)
       (λ t. let z = eqb-true (length (matches p es)) 0 t in rw t (omega arith))
-      (λ t. rw t (first-fits p es (let z = eqb-false (length (matches p es)) 0 t in positive (length (matches p es)) z)))
+      (λ t. rw t (first-fits p es (let z = eqb-false (length (matches p es)) 0 t in
+      positive (length (matches p es)) z)))
     where
       positive : (n : ℕ) → (n ≡ 0 → ⊥) → 0 < n
       positive zero h = absurd (h refl)
@@ -317,7 +343,8 @@ looks-most es p (suc k) h =
     let b = run-looks es k (openRange es (rangeStart p es) (rangeStart p es + length (matches p es))) in
     omega arith
 
-good-length : (es : List Entry) (rs : List Range) → ((r : Range) → r ∈ rs → Good es r) → length rs ≤ length (contents es rs)
+good-length : (es : List Entry) (rs : List Range) → ((r : Range) → r ∈ rs → Good es r)
+    → length rs ≤ length (contents es rs)
 good-length es [] good = omega arith
 good-length es (r ∷ rs) good =
     let ih = good-length es rs (λ t m. good t (inr m)) in
@@ -361,17 +388,20 @@ run-exact es (suc (suc k)) (r ∷ rs) good h =
     let c = length-append (others (best (bests es (r ∷ rs))) (r ∷ rs)) (parts es (chosen es (r ∷ rs))) in
     omega arith
 
-looks-exact : (es : List Entry) (p : List ℕ) (k : ℕ) → rising es ≡ true → length (matches p es) ≤ k → machine es p k .looks ≡ length (matches p es)
+looks-exact : (es : List Entry) (p : List ℕ) (k : ℕ) → rising es ≡ true → length (matches p es) ≤ k
+    → machine es p k .looks ≡ length (matches p es)
 unfolding machine
 looks-exact es p k r h =
     let e = open-contents es (start es p r) (stop es p r) ∙ start-span es p r in
     let a = ap length e in
-    let b = run-exact es k (openRange es (start es p r) (stop es p r)) (open-good es (start es p r) (stop es p r) (stop-fits es p r)) (omega arith) in
+    let b = run-exact es k (openRange es (start es p r) (stop es p r))
+    (open-good es (start es p r) (stop es p r) (stop-fits es p r)) (omega arith) in
     omega arith
 
 -- what is offered are positions of es
 run-inside :
-    (es : List Entry) (k : ℕ) (rs : List Range) → ((r : Range) → r ∈ rs → Good es r) → (i : ℕ) → i ∈ run k es rs .offered
+    (es : List Entry) (k : ℕ) (rs : List Range) → ((r : Range) → r ∈ rs → Good es r) → (i : ℕ)
+    → i ∈ run k es rs .offered
     → i < length es
 unfolding offering
 run-inside es zero rs good i m = absurd m
@@ -388,7 +418,8 @@ pub machine-inside :
     (es : List Entry) (p : List ℕ) (k : ℕ) → rising es ≡ true → (i : ℕ) → i ∈ machine es p k .offered → i < length es
 unfolding machine
 machine-inside es p k r i m =
-    run-inside es k (openRange es (start es p r) (stop es p r)) (open-good es (start es p r) (stop es p r) (stop-fits es p r)) i m
+    run-inside es k (openRange es (start es p r) (stop es p r))
+    (open-good es (start es p r) (stop es p r) (stop-fits es p r)) i m
 
 pub machine-promise : (es : List Entry) (p : List ℕ) (k : ℕ) → rising es ≡ true → MachineOffers es p k
 machine-promise es p k r =

@@ -8,11 +8,13 @@ use lib.ListN.{length}
 use Rattle.entries.specs.Completion.{completion, maxCount}
 use Rattle.entries.specs.Entries.{Entry}
 use Rattle.entries.specs.Names.{isPrefix}
-use Rattle.book.specs.Answers.{Answer, Offered, Outcome, _when_, entriesBytes, given, refused, writing}
+use Rattle.answer.specs.Answers.{Answer, OfferedCounts, Outcome, _when_, entriesBytes, given, refused, writing}
 use Rattle.book.specs.Book.{inBook, isBook}
 use Rattle.completion.specs.Machine.{machine}
-use Rattle.completion.specs.declared.Completion.{Completion}
-use Rattle.completion.specs.declared.Completion.the-variants as answer
+use Rattle.answer.specs.declared.Completion.{Completion}
+use Rattle.answer.specs.declared.Completion.the-variants as answer
+use Rattle.answer.specs.Reports.{offeredOf}
+use Rattle.completion.specs.declared.Range.{Range}
 
 -- the bytes that the destination must have for each entry asked for
 abbrev pub entryRoom : ℕ
@@ -23,11 +25,11 @@ abbrev pub badCount : ℕ → Bool
 badCount k = eqb k 0 || ltb maxCount k
 
 -- the entries offered, the bytes written and the looks
-abbrev pub offeredAs : List Entry → ℕ → Offered
+abbrev pub offeredAs : List Entry → ℕ → OfferedCounts
 offeredAs l looks = record { offered = length l; bytes = length (entriesBytes l); looks = looks }
 
 -- completion from a book; `ranges` is how many ranges are lent
-unfoldable pub completeBook : List ℕ → List ℕ → ℕ → List ℕ → ℕ → Outcome Offered
+unfoldable pub completeBook : List ℕ → List ℕ → ℕ → List ℕ → ℕ → Outcome OfferedCounts
 completeBook book p k dst ranges =
     let es = inBook book in
     let l = completion es p k in
@@ -46,12 +48,13 @@ abbrev pub Lent : {A R : Type 0} → Answer A → List R → List R → Type 0
 Lent (refused n) before after = after ≡ before
 Lent (given a) before after = length after ≡ length before
 
--- the enum answer as document 01's: the refusal's number, or the three counts
-abbrev pub offeredOf : Completion → Answer Offered
-offeredOf (answer.Refused n) = refused n
-offeredOf (answer.Offered offered bytes looks) = given (record { offered = offered; bytes = bytes; looks = looks })
-
 -- a call that completes answers r and leaves the destination dest, as its definition says
-pub record Completed (o : Outcome Offered) (r : Completion) (dest : List ℕ) : Type 0 where
+pub record Completed (o : Outcome OfferedCounts) (r : Completion) (dest : List ℕ) : Type 0 where
   pub answer : offeredOf r ≡ o .answer
   pub left : dest ≡ o .dest
+
+-- a call that completes answers r, leaves the destination dest, and leaves the lent ranges xs as ys
+pub record CompletedOver (o : Outcome OfferedCounts) (r : Completion) (dest : List ℕ) (xs ys : List Range) : Type 0
+  where
+    pub completed : Completed o r dest
+    pub lent : Lent (o .answer) xs ys

@@ -1,3 +1,3 @@
-pub mod Machine
 pub mod Complete
+pub mod Machine
 pub mod Worked

@@ -41,8 +41,8 @@ pub record Machine : Type 0 where
 unfoldable pub offering : ℕ → ℕ → Machine → Machine
 offering i n m = record { offered = i ∷ m .offered; looks = n + m .looks }
 
--- Offer the best-ranked position of all open ranges. Unless it was the last of the k, its range is replaced by its parts, one look
--- each. Stop when k are offered or no range is open.
+-- Offer the best-ranked position of all open ranges. Unless it was the last of the k, its range is replaced by its
+-- parts, one look each. Stop when k are offered or no range is open.
 abbrev pub run : ℕ → List Entry → List Range → Machine
 run zero es rs = record { offered = []; looks = 0 }
 run (suc k) es [] = record { offered = []; looks = 0 }

@@ -9,10 +9,11 @@ use Rattle.octets.specs.Text.{text}
 use Rattle.entries.specs.Completion.{completion, rangeStart}
 use Rattle.entries.specs.Entries.{Entry, valid}
 use Rattle.entries.specs.Names.{allowedBytes, isName, isPrefix, isScore}
-use Rattle.front_coding.specs.Records.{recordLength, recordName, recordOf}
-use Rattle.book.specs.Answers.{entriesBytes, entryBytes, writing}
-use Rattle.book.specs.Book.{bookImage, entriesIn, imageIn, offset, offsets, peak, peaks, readBook, readIn, recordsAt, scores}
-use Rattle.book.specs.Frame.{countOf, framed, readAs}
+use Rattle.book.specs.Records.{recordLength, recordName, recordOf}
+use Rattle.answer.specs.Answers.{entriesBytes, entryBytes, writing}
+use Rattle.book.specs.Book.{bookImage, entriesIn, imageIn, offset, offsets, peak, peaks, readBook, readIn, recordsAt}
+use Rattle.book.specs.Book.{scores}
+use Rattle.frame.specs.Frame.{countOf, framed, readAs}
 use Rattle.book.specs.Shown.{E, P1, P3, answerEntry, changed, letters, shownOffered, spare}
 use Rattle.completion.specs.Complete.{completeBook}
 use Rattle.completion.specs.Machine.{machine, offering, openRange, others, parts}
@@ -59,7 +60,8 @@ completing =
     (shownOffered (completeBook (P3 ++ spare 3) (text "r") 3 (spare 159) 3)
     gives (0 ∷ 3 ∷ 26 ∷ 3 ∷ answerEntry "rl" 12 ++ answerEntry "rc" 9 ++ answerEntry "rc step" 9 ++ spare 133))
     -- a name completes itself; the empty prefix begins every name; more bytes and ranges than needed
-    ∷ (shownOffered (completeBook P3 (text "rc step") 1 (spare 53) 1) gives (0 ∷ 1 ∷ 12 ∷ 1 ∷ answerEntry "rc step" 9 ++ spare 41))
+    ∷ (shownOffered (completeBook P3 (text "rc step") 1 (spare 53) 1)
+    gives (0 ∷ 1 ∷ 12 ∷ 1 ∷ answerEntry "rc step" 9 ++ spare 41))
     ∷ (shownOffered (completeBook P3 [] 1 (spare 60) 9) gives (0 ∷ 1 ∷ 7 ∷ 1 ∷ answerEntry "rl" 12 ++ spare 53))
     -- equal scores by the earlier name
     ∷ (shownOffered (completeBook (bookImage (scored (3 ∷ 3 ∷ 4 ∷ 3 ∷ []))) [] 3 (spare 159) 3)
@@ -98,5 +100,7 @@ abbrev table : List Row
 table = looking ++ completing ++ refusing
 
 worked : failing 0 table ≡ []
-unfolding be fromBe allowedBytes isPrefix isName isScore valid completion rangeStart recordOf recordName recordLength framed countOf readAs scores peak peaks recordsAt offset offsets imageIn entriesIn readIn bookImage readBook writing entryBytes entriesBytes openRange others parts offering machine completeBook
+unfolding be fromBe allowedBytes isPrefix isName isScore valid completion rangeStart recordOf recordName recordLength
+    framed countOf readAs scores peak peaks recordsAt offset offsets imageIn entriesIn readIn bookImage readBook
+    writing entryBytes entriesBytes openRange others parts offering machine completeBook
 worked = refl

@@ -1,4 +1,4 @@
-// Completion's open ranges and its answer, from a book or from a trie. The rest of this crate is definitions and laws.
+// Completion's open ranges. The rest of this crate is definitions and laws: completion from a book, the range machine.
 
 // An open range of positions: its first, the position and the score of its best, its last.
 #[repr(C)]
@@ -7,14 +7,4 @@ pub struct Range {
     pub best: usize,
     pub score: u32,
     pub last: usize,
-}
-
-// The refusal's number, or the entries offered, the bytes written and the looks.
-pub enum Completion {
-    Refused(u8),
-    Offered {
-        offered: usize,
-        bytes: usize,
-        looks: usize,
-    },
 }

@@ -3,20 +3,22 @@ use Prim.Native.Nat.{_<_, _≤_, ℕ}
 use mathlib.Core.Path.{_∙_, _≡_, ap, refl, sym}
 use mathlib.Core.List.{List, []}
 use lib.ListN.{length}
-use Rattle.front_coding.specs.declared.Cursor.{Cursor}
+use Rattle.book_laws.specs.declared.Cursor.{Cursor}
 use Rattle.book.specs.Book.{layout21, recordsAt}
-use Rattle.book_writer.specs.Calls.{Started}
-use Rattle.book_writer.specs.Writing.{finished}
-use Rattle.book_writer.proofs.Calls.{finish-whole, start-partial}
-use Rattle.edits.specs.Edits.{emptyBook}
-use Rattle.edits.proofs.Empty.{empty-given, empty-length, empty-refused, empty-valid}
-use Rattle.answers.specs.Reports.{Answered}
-use Rattle.answers.specs.declared.Written.the-variants as written
+use Rattle.book_write.specs.Calls.{Started}
+use Rattle.book_write.specs.Writing.{finished}
+use Rattle.book_write.proofs.Calls.{finish-whole, start-partial}
+use Rattle.edit.specs.Edits.{emptyBook}
+use Rattle.edit.proofs.Empty.{empty-given, empty-length, empty-refused, empty-valid}
+use Rattle.answer.specs.Reports.{Answered}
+use Rattle.answer.specs.declared.Written.the-variants as written
 
 pub nothing-refused : (dst : List ℕ) → length dst < 7 → Answered (emptyBook dst) (written.Refused 7) dst
-nothing-refused dst h = let e = empty-refused dst h in record { answer = ap (λ o. o .answer) (sym e); left = ap (λ o. o .dest) (sym e) }
+nothing-refused dst h = let e = empty-refused dst h in
+    record { answer = ap (λ o. o .answer) (sym e); left = ap (λ o. o .dest) (sym e) }
 
-pub nothing-written : (dst left : List ℕ) → 7 ≤ length dst → left ≡ finished 7 0 dst → Answered (emptyBook dst) (written.Wrote 0 7) left
+pub nothing-written : (dst left : List ℕ) → 7 ≤ length dst → left ≡ finished 7 0 dst
+    → Answered (emptyBook dst) (written.Wrote 0 7) left
 nothing-written dst left h p =
     let e = empty-given dst h in
     let c : Cursor = record { at = recordsAt layout21 0; index = 0; name = []; len = 0 } in

@@ -1,2 +1,2 @@
-pub mod Offsets
 pub mod Front
+pub mod Offsets

@@ -1,20 +1,20 @@
--- The entries in front of a position, as a book of another number of entries holds them: the same scores and records, and offsets moved as the
--- records are.
+-- The entries in front of a position, as a book of another number of entries holds them: the same scores and records,
+-- and offsets moved as the records are.
 use Prim.Native.Nat.{_*_, _+_, _-_, _≤_, suc, zero, ℕ}
 use mathlib.Core.Path.{_≡_}
 use mathlib.Core.List.{List}
 use lib.ListN.{drop, take}
 use lib.Seq.{sets}
 use Rattle.octets.specs.Lists.{ceil}
-use Rattle.octets.specs.Octets.{be, numberAt}
+use Rattle.octets.specs.Octets.{be}
 use Rattle.entries.specs.Entries.{maxEntries}
-use Rattle.entries.specs.Names.{longestName}
-use Rattle.front_coding.specs.Cursor.{nameIn}
-use Rattle.front_coding.specs.Records.{bucketSize}
-use Rattle.book.specs.Ahead.{recordAt}
+use Rattle.book_laws.specs.Cursor.{nameIn}
+use Rattle.book.specs.Records.{bucketSize}
+use Rattle.book_laws.specs.Ahead.{recordAt}
 use Rattle.book.specs.Book.{inBook, layout21, recordsAt}
-use Rattle.book.specs.Held.{Held}
-use Rattle.front_coding.specs.declared.Cursor.{Cursor}
+use Rattle.book_laws.specs.Check.{offsetAt, offsetPlace}
+use Rattle.book_laws.specs.Held.{Held}
+use Rattle.book_laws.specs.declared.Cursor.{Cursor}
 
 -- where a record at index `at` of a book of n entries stands in a book of count entries
 abbrev pub movedTo : ℕ → ℕ → ℕ → ℕ
@@ -25,7 +25,7 @@ abbrev pub putOffsets : ℕ → ℕ → ℕ → ℕ → List ℕ → List ℕ �
 putOffsets zero n count j book d = d
 putOffsets (suc m) n count j book d =
     putOffsets m n count (suc j) book
-    (sets d (7 + 4 * count + 2 * j) (be 2 (movedTo n count (numberAt 2 book (7 + 4 * n + 2 * j)))))
+    (sets d (offsetPlace count j) (be 2 (movedTo n count (offsetAt book n j))))
 
 -- the entries in front of position i, whose record begins at index `at`
 unfoldable pub putFront : ℕ → ℕ → ℕ → ℕ → List ℕ → List ℕ → List ℕ

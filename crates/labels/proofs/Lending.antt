@@ -4,8 +4,9 @@ use mathlib.Core.Path.{_∙_, _≡_, refl}
 use mathlib.Core.List.{List}
 use lib.ListN.{drop, length, length-drop}
 use native.Mathlib.Omega.{arith}
-use Rattle.interpreter.specs.Feed.{Console, FeedDone, FeedRoom, keptBytes}
-use Rattle.interpreter.specs.declared.Fed.{Fed}
+use Rattle.program.specs.Console.{Console, keptBytes}
+use Rattle.program_run.specs.Feed.{FeedDone, FeedRoom}
+use Rattle.program_run.specs.declared.Fed.{Fed}
 
 pub record Ready (line₀ first₀ second₀ out₀ line first second out : List ℕ) (kept : ℕ) : Type 0 where
   pub room : FeedRoom kept line out
@@ -14,12 +15,15 @@ pub record Ready (line₀ first₀ second₀ out₀ line first second out : List
   pub secondSize : length second ≡ length second₀
   pub outSize : length out ≡ length out₀
 
-pub ready-start : (first second : List ℕ) {line out : List ℕ} {kept : ℕ} → FeedRoom kept line out → Ready line first second out line first second out kept
+pub ready-start : (first second : List ℕ) {line out : List ℕ} {kept : ℕ} → FeedRoom kept line out
+    → Ready line first second out line first second out kept
 ready-start first second r = record { room = r; lineSize = refl; firstSize = refl; secondSize = refl; outSize = refl }
 
 pub ready-on :
-    {line₀ first₀ second₀ out₀ line first second out : List ℕ} {kept : ℕ} → Ready line₀ first₀ second₀ out₀ line first second out kept
-    → {l one two left : List ℕ} {n : ℕ} → n ≤ keptBytes → length l ≡ length line → length one ≡ length first → length two ≡ length second
+    {line₀ first₀ second₀ out₀ line first second out : List ℕ} {kept : ℕ}
+    → Ready line₀ first₀ second₀ out₀ line first second out kept
+    → {l one two left : List ℕ} {n : ℕ} → n ≤ keptBytes → length l ≡ length line → length one ≡ length first
+    → length two ≡ length second
     → length left ≡ length out → Ready line₀ first₀ second₀ out₀ l one two left n
 ready-on k f a b c e =
     record {

@@ -1,9 +1,15 @@
 // The program `labels`: command lines from standard input, and what they print to standard output.
-// It only reads and writes. What a line prints, and that any input prints what the ledger says, is crate `interpreter`'s.
+// It only reads and writes. What a line prints, and that any input prints what the ledger says, is crate
+// `program_run`'s.
+use limits::BUFFER_LENGTH;
+use limits::KEPT_BYTES;
+use limits::LINE_ROOM;
 ghost use Prim.Native.Nat.{_≤_};
-ghost use Rattle.interpreter.specs.Feed.{FeedRoom, keptBytes};
+ghost use Rattle.program_run.specs.Feed.{FeedRoom};
+ghost use Rattle.program.specs.Console.{keptBytes};
 
-// Between two reads: the bytes kept of the line begun, whether the second buffer holds the book, and whether the input goes on.
+// Between two reads: the bytes kept of the line begun, whether the second buffer holds the book, and whether the input
+// goes on.
 struct State {
     kept: usize,
     turned: bool,
@@ -26,7 +32,7 @@ fn answer_part(
     let mut kept = s.kept;
     let mut turned = s.turned;
     while used < part.len() {
-        let f = interpreter::feed(&part[used..], kept, turned, line, first, second, out);
+        let f = program_run::feed(&part[used..], kept, turned, line, first, second, out);
         let n = f.bytes;
         io::write_all(1, &out[..n]);
         used += f.used;
@@ -64,7 +70,8 @@ fn read_part(
     answer_part(&input[..n], s, line, first, second, out)
 }
 
-// Reads to the end of the input. A proved loop has to end, so it counts its reads down from a number that no run uses up.
+// Reads to the end of the input. A proved loop has to end, so it counts its reads down from a number that no run uses
+// up.
 fn read_all(
     input: &mut [u8],
     line: &mut [u8],
@@ -89,14 +96,14 @@ fn read_all(
 }
 
 fn main() {
-    let mut first = [0u8; 57344];
-    let mut second = [0u8; 57344];
-    let mut line = [0u8; 64];
+    let mut first = [0u8; BUFFER_LENGTH];
+    let mut second = [0u8; BUFFER_LENGTH];
+    let mut line = [0u8; KEPT_BYTES];
     let mut input = [0u8; 65536];
-    let mut out = [0u8; 1024];
-    label_book::empty(&mut first);
+    let mut out = [0u8; LINE_ROOM];
+    edit_calls::empty(&mut first);
     let s = read_all(&mut input, &mut line, &mut first, &mut second, &mut out);
-    let f = interpreter::finish(s.kept, s.turned, &line, &mut first, &mut second, &mut out);
+    let f = program_run::finish(s.kept, s.turned, &line, &mut first, &mut second, &mut out);
     let n = f.bytes;
     io::write_all(1, &out[..n]);
 }

@@ -1,6 +1,6 @@
 -- Demand 3, whole.
 use Prim.Native.Nat.{_*_, _≤_, ℕ}
-use mathlib.Core.Path.{_≡_, ap, refl}
+use mathlib.Core.Path.{_≡_, ap}
 use mathlib.Core.Bool.{true}
 use mathlib.Core.List.{List, []}
 use mathlib.Core.Option.{some}
@@ -15,14 +15,12 @@ use Rattle.entries.specs.Entries.{Entry, at, valid}
 use Rattle.entries.specs.Names.{isPrefix}
 use Rattle.entries.proofs.BestList.{best-list}
 use Rattle.entries.proofs.Valid.{valid-of}
-use Rattle.book.specs.Answers.{Written, given, writing}
-use Rattle.book.specs.Book.{bookImage, inBook, isBook, readBook}
-use Rattle.book.specs.Held.{Held}
-use Rattle.book.proofs.Converting.{converted}
-use Rattle.book.proofs.Frame.{read-of}
-use Rattle.book.proofs.Lookups.{held-stored}
-use Rattle.edits.specs.Edits.{emptyBook}
-use Rattle.edits.proofs.Empty.{empty-refused}
+use Rattle.answer.specs.Answers.{WrittenCounts, given, writing}
+use Rattle.book.specs.Book.{bookImage, readBook}
+use Rattle.answer.proofs.Converting.{converted}
+use Rattle.frame.proofs.Frame.{read-of}
+use Rattle.edit.specs.Edits.{emptyBook}
+use Rattle.edit.proofs.Empty.{empty-refused}
 use Rattle.completion.specs.Complete.{completeBook, entryRoom}
 use Rattle.completion.specs.Machine.{machine}
 use Rattle.trie.specs.Calls.{completeTrie, writeTrie}
@@ -33,10 +31,6 @@ use Rattle.ledger.specs.Demand.{Demand3·all, OffersBest, offersOf}
 use Rattle.ledger.specs.History.{buffersAfter, started}
 use Rattle.ledger.specs.Ledger.{held}
 use Rattle.ledger.proofs.History.{history-answers, history-holds, reads, refused-unchanged, start-holds}
-
--- the entries of a book are valid
-pub valid-in : (book : List ℕ) → isBook book ≡ true → valid (inBook book) ≡ true
-valid-in book t = let h : Held book (length (inBook book)) = record { isIt = t; count = refl } in held-stored h .ok
 
 -- completion from a buffer that is read as es, with long enough buffers
 completes :
@@ -56,7 +50,8 @@ completes book es r p k dst ranges hp lo hi long enough =
 
 trie-completes :
     (trie : List ℕ) (es : List Entry) → readTrie trie ≡ some es → (p : List ℕ) (k : ℕ) (dst : List ℕ)
-    → isPrefix p ≡ true → 1 ≤ k → k ≤ maxCount → entryRoom * k ≤ length dst → completeTrie trie p k dst ≡ offersOf es p k 0 dst
+    → isPrefix p ≡ true → 1 ≤ k → k ≤ maxCount → entryRoom * k ≤ length dst
+    → completeTrie trie p k dst ≡ offersOf es p k 0 dst
 unfolding completeTrie writing
 trie-completes trie es r p k dst hp lo hi long =
     rw (r, hp, ne-eqb k 0 (λ z. omega arith), le-ltb maxCount k hi, le-ltb (length dst) (entryRoom * k) long)
@@ -81,7 +76,7 @@ offers-best es book r ok =
     }
 
 -- "empty" was accepted only where it fits
-empty-fits : (a : List ℕ) (x : Written) → emptyBook a .answer ≡ given x → 7 ≤ length a
+empty-fits : (a : List ℕ) (x : WrittenCounts) → emptyBook a .answer ≡ given x → 7 ≤ length a
 empty-fits a x h =
     by-test (ltb (length a) 7)
     (λ t.

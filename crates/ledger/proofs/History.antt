@@ -11,19 +11,19 @@ use borrow.Author.Tests.{ltb-false, not-false}
 use Rattle.octets.specs.Lists.{all}
 use Rattle.octets.specs.Octets.{overwrite}
 use Rattle.octets.proofs.Coding.{overwrite-length}
-use Rattle.octets.proofs.Tests.{and-true}
+use Rattle.octets.proofs.Tests.{and-true, other}
 use Rattle.entries.specs.Entries.{Entry, entry, valid, with, without}
 use Rattle.entries.specs.Names.{isName}
 use Rattle.entries.proofs.Edits.{valid-with, valid-without}
-use Rattle.book.specs.Answers.{Answer, Written, given, onAnswer, refused, writing, writingImage}
+use Rattle.answer.specs.Answers.{Answer, WrittenCounts, given, onAnswer, refused, writing, writingImage}
 use Rattle.book.specs.Book.{bookImage, readBook}
-use Rattle.book.proofs.Answers.{clear}
+use Rattle.answer.proofs.Answers.{clear}
 use Rattle.book.proofs.Reading.{readBook-of}
-use Rattle.book.proofs.Walk.{other}
-use Rattle.edits.specs.Edits.{setEntry, withdraw}
-use Rattle.edits.proofs.Empty.{empty-given, empty-length, empty-valid}
+use Rattle.edit.specs.Edits.{setEntry, withdrawEntry}
+use Rattle.edit.proofs.Empty.{empty-given, empty-length, empty-valid}
 use Rattle.ledger.specs.History.{Buffers, answers, buffersAfter, call, callStep, started}
-use Rattle.ledger.specs.Ledger.{Edit, held, ledgerAnswer, ledgerAnswers, ledgerChecks, ledgerStep, reported, result, scoreFits, setName, withdrawName}
+use Rattle.ledger.specs.Ledger.{Edit, held, ledgerAnswer, ledgerAnswers, ledgerChecks, ledgerStep, reported}
+use Rattle.ledger.specs.Ledger.{result, scoreFits, setName, withdrawName}
 
 -- buffers of L bytes of which the first holds the book of the entries es
 pub record Holds (L : ℕ) (es : List Entry) (b : Buffers) : Type 0 where
@@ -44,13 +44,14 @@ call-as :
       answer = ledgerAnswer L c es;
       dest = onAnswer (ledgerAnswer L c es) (b .other) (overwrite (b .other) (bookImage (result c es)));
     }
-unfolding setEntry withdraw writingImage writing ledgerAnswer
+unfolding setEntry withdrawEntry writingImage writing ledgerAnswer
 call-as L (setName w s) es b h = rw (reads L es b h, h .otherSize)
 call-as L (withdrawName w) es b h = rw (reads L es b h, h .otherSize)
 
 -- an accepted edit: its result is a valid list, and its image fits
 accepted :
-    (L : ℕ) (c : Edit) (es : List Entry) (x : Written) → valid es ≡ true → scoreFits c ≡ true → ledgerAnswer L c es ≡ given x
+    (L : ℕ) (c : Edit) (es : List Entry) (x : WrittenCounts) → valid es ≡ true → scoreFits c ≡ true
+    → ledgerAnswer L c es ≡ given x
     → (valid (result c es) ≡ true) × (length (bookImage (result c es)) ≤ L)
 unfolding ledgerAnswer
 accepted L (setName w s) es x v f h =
@@ -64,12 +65,13 @@ accepted L (withdrawName w) es x v f h =
 
 -- one call
 step-holds :
-    (L : ℕ) (c : Edit) (es : List Entry) (b : Buffers) → Holds L es b → scoreFits c ≡ true → Holds L (ledgerStep L c es) (callStep c b)
+    (L : ℕ) (c : Edit) (es : List Entry) (b : Buffers) → Holds L es b → scoreFits c ≡ true
+    → Holds L (ledgerStep L c es) (callStep c b)
 unfolding callStep ledgerStep
 step-holds L c es b h f = rw (call-as L c es b h) (go (ledgerAnswer L c es) refl)
   where
     go :
-        (a : Answer Written) → ledgerAnswer L c es ≡ a
+        (a : Answer WrittenCounts) → ledgerAnswer L c es ≡ a
         → Holds L (onAnswer a es (result c es))
         (onAnswer a
         (record { book = b .book; other = onAnswer a (b .other) (overwrite (b .other) (bookImage (result c es))) })
@@ -88,14 +90,16 @@ step-holds L c es b h f = rw (call-as L c es b h) (go (ledgerAnswer L c es) refl
 
 -- a list of calls
 pub history-holds :
-    (L : ℕ) (cs : List Edit) (es : List Entry) (b : Buffers) → Holds L es b → all scoreFits cs ≡ true → Holds L (held L cs es) (buffersAfter cs b)
+    (L : ℕ) (cs : List Edit) (es : List Entry) (b : Buffers) → Holds L es b → all scoreFits cs ≡ true
+    → Holds L (held L cs es) (buffersAfter cs b)
 history-holds L [] es b h f = h
 history-holds L (c ∷ cs) es b h f =
     let a = and-true (scoreFits c) (all scoreFits cs) f in
     history-holds L cs (ledgerStep L c es) (callStep c b) (step-holds L c es b h (a .0)) (a .1)
 
 pub history-answers :
-    (L : ℕ) (cs : List Edit) (es : List Entry) (b : Buffers) → Holds L es b → all scoreFits cs ≡ true → answers cs b ≡ ledgerAnswers L cs es
+    (L : ℕ) (cs : List Edit) (es : List Entry) (b : Buffers) → Holds L es b → all scoreFits cs ≡ true
+    → answers cs b ≡ ledgerAnswers L cs es
 history-answers L [] es b h f = refl
 history-answers L (c ∷ cs) es b h f =
     let a = and-true (scoreFits c) (all scoreFits cs) f in
@@ -117,6 +121,6 @@ start-holds L a b p q h =
 
 -- a refused call changes neither buffer, whatever these hold
 pub refused-unchanged : (c : Edit) (b : Buffers) (n : ℕ) → call c b .answer ≡ refused n → callStep c b ≡ b
-unfolding callStep setEntry withdraw writingImage writing
+unfolding callStep setEntry withdrawEntry writingImage writing
 refused-unchanged (setName w s) b n h = rw h
 refused-unchanged (withdrawName w) b n h = rw h

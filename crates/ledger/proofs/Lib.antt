@@ -1,2 +1,2 @@
-pub mod History
 pub mod Demand
+pub mod History

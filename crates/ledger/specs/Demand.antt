@@ -9,9 +9,9 @@ use Rattle.octets.specs.Octets.{overwrite}
 use Rattle.entries.specs.Completion.{BestList, completion, maxCount}
 use Rattle.entries.specs.Entries.{Entry}
 use Rattle.entries.specs.Names.{isPrefix}
-use Rattle.book.specs.Answers.{Offered, Outcome, Written, entriesBytes, given, refused}
+use Rattle.answer.specs.Answers.{OfferedCounts, Outcome, WrittenCounts, entriesBytes, given, refused}
 use Rattle.book.specs.Book.{bookImage}
-use Rattle.edits.specs.Edits.{emptyBook}
+use Rattle.edit.specs.Edits.{emptyBook}
 use Rattle.completion.specs.Complete.{completeBook, entryRoom, offeredAs}
 use Rattle.completion.specs.Machine.{machine}
 use Rattle.trie.specs.Calls.{completeTrie, writeTrie}
@@ -20,7 +20,7 @@ use Rattle.ledger.specs.History.{answers, buffersAfter, call, callStep, 
 use Rattle.ledger.specs.Ledger.{Edit, held, ledgerAnswers, scoreFits}
 
 -- What completion is to answer and to write for the entries es.
-abbrev pub offersOf : List Entry → List ℕ → ℕ → ℕ → List ℕ → Outcome Offered
+abbrev pub offersOf : List Entry → List ℕ → ℕ → ℕ → List ℕ → Outcome OfferedCounts
 offersOf es p k looks dst =
     let l = completion es p k in
     record { answer = given (offeredAs l looks); dest = overwrite dst (entriesBytes l) }
@@ -57,4 +57,4 @@ pub record Demand3 (L : ℕ) (a b : List ℕ) (h : List Edit) : Type 0 where
 abbrev pub Demand3·all : Type 0
 Demand3·all =
     (L : ℕ) (a b : List ℕ) (h : List Edit) → length a ≡ L → length b ≡ L
-    → (x : Written) → emptyBook a .answer ≡ given x → all scoreFits h ≡ true → Demand3 L a b h
+    → (x : WrittenCounts) → emptyBook a .answer ≡ given x → all scoreFits h ≡ true → Demand3 L a b h

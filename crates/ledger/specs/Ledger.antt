@@ -6,10 +6,11 @@ use lib.Dec.{leb, ltb}
 use lib.ListN.{length}
 use Rattle.entries.specs.Entries.{Entry, entry, holds, maxEntries, with, without}
 use Rattle.entries.specs.Names.{isName, isScore}
-use Rattle.book.specs.Answers.{Answer, Check, Written, _when_, onAnswer, unless}
+use Rattle.answer.specs.Answers.{Answer, Check, WrittenCounts, _when_, onAnswer, unless}
 use Rattle.book.specs.Book.{bookImage}
 
--- One call of a history with its arguments other than the buffers: a set of a name and a score, or a withdraw of a name.
+-- One call of a history with its arguments other than the buffers: a set of a name and a score, or a withdraw of a
+-- name.
 pub data Edit : Type 0 where
   setName : List ℕ → ℕ → Edit
   withdrawName : List ℕ → Edit
@@ -33,10 +34,10 @@ abbrev pub ledgerChecks : ℕ → Edit → List Entry → List Check
 ledgerChecks L c es = refusals c es ++ (7 when ltb L (length (bookImage (result c es))) ∷ [])
 
 -- the answer: the refusal, or how many entries there are and the length of their image
-abbrev pub reported : List Entry → Written
+abbrev pub reported : List Entry → WrittenCounts
 reported es = record { entries = length es; bytes = length (bookImage es) }
 
-unfoldable pub ledgerAnswer : ℕ → Edit → List Entry → Answer Written
+unfoldable pub ledgerAnswer : ℕ → Edit → List Entry → Answer WrittenCounts
 ledgerAnswer L c es = unless (ledgerChecks L c es) (reported (result c es))
 
 -- the entries held afterwards
@@ -48,6 +49,6 @@ abbrev pub held : ℕ → List Edit → List Entry → List Entry
 held L [] es = es
 held L (c ∷ cs) es = held L cs (ledgerStep L c es)
 
-abbrev pub ledgerAnswers : ℕ → List Edit → List Entry → List (Answer Written)
+abbrev pub ledgerAnswers : ℕ → List Edit → List Entry → List (Answer WrittenCounts)
 ledgerAnswers L [] es = []
 ledgerAnswers L (c ∷ cs) es = ledgerAnswer L c es ∷ ledgerAnswers L cs (ledgerStep L c es)

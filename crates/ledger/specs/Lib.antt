@@ -1,5 +1,5 @@
-pub mod Ledger
-pub mod History
 pub mod Demand
-pub mod Worked
+pub mod History
+pub mod Ledger
 pub mod Marked
+pub mod Worked

@@ -1,5 +1,6 @@
--- The cases that document 01 marks P1 to P10, and the unmarked line behind them ("Shown on the bench"): one table, shown to agree
--- with the definitions by one proposition. E and the images P1 to P4 are written out in `Rattle.book.specs.Shown`.
+-- The cases that document 01 marks P1 to P10, and the unmarked line behind them ("Shown on the bench"): one table,
+-- shown to agree with the definitions by one proposition. E and the images P1 to P4 are written out in
+-- `Rattle.book.specs.Shown`.
 use Prim.Native.Nat.{ℕ}
 use mathlib.Core.Path.{_≡_, refl}
 use mathlib.Core.List.{List, [], _++_, _∷_}
@@ -11,19 +12,22 @@ use Rattle.octets.specs.Text.{text}
 use Rattle.entries.specs.Completion.{completion, rangeStart}
 use Rattle.entries.specs.Entries.{Entry, entry, valid}
 use Rattle.entries.specs.Names.{allowedBytes, isName, isPrefix, isScore}
-use Rattle.front_coding.specs.Records.{recordLength, recordName, recordOf}
-use Rattle.book.specs.Answers.{entriesBytes, entryBytes, writing, writingImage}
-use Rattle.book.specs.Book.{bookImage, entriesIn, imageIn, offset, offsets, peak, peaks, readBook, readIn, recordsAt, scores}
-use Rattle.book.specs.Frame.{countOf, framed, readAs}
-use Rattle.book.specs.Shown.{E, P1, P2, P3, P4, answerEntry, letters, listed, shownOffered, shownRead, shownWritten, spare}
-use Rattle.edits.specs.Edits.{emptyBook, setEntry, withdraw}
+use Rattle.book.specs.Records.{recordLength, recordName, recordOf}
+use Rattle.answer.specs.Answers.{entriesBytes, entryBytes, writing, writingImage}
+use Rattle.book.specs.Book.{bookImage, entriesIn, imageIn, offset, offsets, peak, peaks, readBook, readIn, recordsAt}
+use Rattle.book.specs.Book.{scores}
+use Rattle.frame.specs.Frame.{countOf, framed, readAs}
+use Rattle.book.specs.Shown.{E, P1, P2, P3, P4, answerEntry, letters, listed, shownOffered, shownRead, shownWritten}
+use Rattle.book.specs.Shown.{spare}
+use Rattle.edit.specs.Edits.{emptyBook, setEntry, withdrawEntry}
 use Rattle.completion.specs.Complete.{completeBook}
 use Rattle.completion.specs.Machine.{machine, offering, openRange, others, parts}
 use Rattle.trie.specs.Calls.{completeTrie, writeTrie}
-use Rattle.trie.specs.Reading.{behindSibling, childSize, labelLength, lastMark, readTrie, scoreSize, siblingOf, trieEntries}
+use Rattle.trie.specs.Reading.{behindSibling, childSize, labelLength, lastMark, readTrie, scoreSize, siblingOf}
+use Rattle.trie.specs.Reading.{trieEntries}
 use Rattle.trie.specs.Trie.{groupBytes, headerByte, nodeBytes, nodeOf, otherBytes, trieImage}
 use Rattle.ledger.specs.History.{buffersAfter, callStep, started}
-use Rattle.ledger.specs.Ledger.{Edit, ledgerAnswer, withdrawName, setName}
+use Rattle.ledger.specs.Ledger.{Edit, ledgerAnswer, setName, withdrawName}
 
 -- sets that make E, in an order that is not name order, on two buffers of 60 bytes
 abbrev setsOfE : List Edit
@@ -113,9 +117,9 @@ lengths =
     ∷ (bookImage P10 gives P10book)
     ∷ (length P10book ∷ [] gives (167 ∷ []))
     -- P10 by a withdrawal from P9: in 130 bytes and in 166 it gives 7, in 167 it is accepted
-    ∷ (shownWritten (withdraw P9book (text "1") (spare 130)) gives (7 ∷ 0 ∷ 0 ∷ spare 130))
-    ∷ (shownWritten (withdraw P9book (text "1") (spare 166)) gives (7 ∷ 0 ∷ 0 ∷ spare 166))
-    ∷ (shownWritten (withdraw P9book (text "1") (spare 167)) gives (0 ∷ 9 ∷ 167 ∷ P10book))
+    ∷ (shownWritten (withdrawEntry P9book (text "1") (spare 130)) gives (7 ∷ 0 ∷ 0 ∷ spare 130))
+    ∷ (shownWritten (withdrawEntry P9book (text "1") (spare 166)) gives (7 ∷ 0 ∷ 0 ∷ spare 166))
+    ∷ (shownWritten (withdrawEntry P9book (text "1") (spare 167)) gives (0 ∷ 9 ∷ 167 ∷ P10book))
     ∷ (ledgerSays 130 (withdrawName (text "1")) P9 gives (7 ∷ 0 ∷ 0 ∷ []))
     ∷ (ledgerSays 166 (withdrawName (text "1")) P9 gives (7 ∷ 0 ∷ 0 ∷ []))
     ∷ (ledgerSays 167 (withdrawName (text "1")) P9 gives (0 ∷ 9 ∷ 167 ∷ []))
@@ -125,7 +129,8 @@ abbrev bounds : List Row
 bounds =
     -- a name of 48 bytes is accepted, 49 gives 2
     (shownWritten (setEntry P1 (replicate 48 0x78) 1 (spare 64))
-    gives (0 ∷ 1 ∷ 64 ∷ 0x21 ∷ 0x00 ∷ 0x00 ∷ 0x00 ∷ 64 ∷ 0x00 ∷ 1 ∷ 0x00 ∷ 0x00 ∷ 0x00 ∷ 1 ∷ 0x00 ∷ 15 ∷ 0x00 ∷ 0 ∷ 48 ∷ replicate 48 0x78))
+    gives (0 ∷ 1 ∷ 64 ∷ 0x21 ∷ 0x00 ∷ 0x00 ∷ 0x00 ∷ 64 ∷ 0x00 ∷ 1 ∷ 0x00 ∷ 0x00 ∷ 0x00 ∷ 1 ∷ 0x00 ∷ 15 ∷ 0x00 ∷ 0 ∷ 48
+    ∷ replicate 48 0x78))
     ∷ (shownWritten (setEntry P1 (replicate 49 0x78) 1 (spare 65)) gives (2 ∷ 0 ∷ 0 ∷ spare 65))
     ∷ (ledgerSays 64 (setName (replicate 48 0x78) 1) [] gives (0 ∷ 1 ∷ 64 ∷ []))
     ∷ (ledgerSays 65 (setName (replicate 49 0x78) 1) [] gives (2 ∷ 0 ∷ 0 ∷ []))
@@ -133,12 +138,15 @@ bounds =
     ∷ (shownOffered (completeBook P3 (replicate 48 0x78) 1 (spare 53) 1) gives (0 ∷ 0 ∷ 0 ∷ 0 ∷ spare 53))
     ∷ (shownOffered (completeBook P3 (replicate 49 0x78) 1 (spare 53) 1) gives (2 ∷ 0 ∷ 0 ∷ 0 ∷ spare 53))
     -- k 16 is accepted, 17 gives 3
-    ∷ (shownOffered (completeBook P3 (text "rl") 16 (spare 848) 16) gives (0 ∷ 1 ∷ 7 ∷ 1 ∷ answerEntry "rl" 12 ++ spare 841))
+    ∷ (shownOffered (completeBook P3 (text "rl") 16 (spare 848) 16)
+    gives (0 ∷ 1 ∷ 7 ∷ 1 ∷ answerEntry "rl" 12 ++ spare 841))
     ∷ (shownOffered (completeBook P3 (text "rl") 17 (spare 901) 17) gives (3 ∷ 0 ∷ 0 ∷ 0 ∷ spare 901))
-    ∷ (shownOffered (completeTrie P4 (text "rl") 16 (spare 848)) gives (0 ∷ 1 ∷ 7 ∷ 0 ∷ answerEntry "rl" 12 ++ spare 841))
+    ∷ (shownOffered (completeTrie P4 (text "rl") 16 (spare 848))
+    gives (0 ∷ 1 ∷ 7 ∷ 0 ∷ answerEntry "rl" 12 ++ spare 841))
     ∷ (shownOffered (completeTrie P4 (text "rl") 17 (spare 901)) gives (3 ∷ 0 ∷ 0 ∷ 0 ∷ spare 901))
     -- a 7-byte lone name is one node, 8 bytes two
-    ∷ (trieImage (entry (text "abcdefg") 0 ∷ []) gives (0x31 ∷ 0x00 ∷ 0x00 ∷ 0x00 ∷ 15 ∷ 0x00 ∷ 1 ∷ 0x0F ∷ text "abcdefg"))
+    ∷ (trieImage (entry (text "abcdefg") 0 ∷ [])
+    gives (0x31 ∷ 0x00 ∷ 0x00 ∷ 0x00 ∷ 15 ∷ 0x00 ∷ 1 ∷ 0x0F ∷ text "abcdefg"))
     ∷ (trieImage (entry (text "abcdefgh") 0 ∷ [])
     gives (0x31 ∷ 0x00 ∷ 0x00 ∷ 0x00 ∷ 18 ∷ 0x00 ∷ 1 ∷ 0x1F ∷ 0x09 ∷ text "abcdefg" ++ (0x09 ∷ text "h")))
     ∷ []
@@ -148,5 +156,10 @@ table = images ++ completions ++ lengths ++ bounds
 
 -- every marked case agrees with the definitions
 pub marked : failing 0 table ≡ []
-unfolding be fromBe allowedBytes isPrefix isName isScore valid completion rangeStart recordOf recordName recordLength framed countOf readAs scores peak peaks recordsAt offset offsets imageIn entriesIn readIn bookImage readBook writing writingImage entryBytes entriesBytes emptyBook setEntry withdraw openRange others parts offering machine completeBook headerByte nodeBytes otherBytes groupBytes nodeOf trieImage scoreSize childSize lastMark labelLength siblingOf behindSibling trieEntries readTrie writeTrie completeTrie ledgerAnswer callStep
+unfolding be fromBe allowedBytes isPrefix isName isScore valid completion rangeStart recordOf recordName recordLength
+    framed countOf readAs scores peak peaks recordsAt offset offsets imageIn entriesIn readIn bookImage readBook
+    writing writingImage entryBytes entriesBytes emptyBook setEntry withdrawEntry openRange others parts offering
+    machine
+    completeBook headerByte nodeBytes otherBytes groupBytes nodeOf trieImage scoreSize childSize lastMark labelLength
+    siblingOf behindSibling trieEntries readTrie writeTrie completeTrie ledgerAnswer callStep
 marked = refl

@@ -1,4 +1,5 @@
--- Worked cases of the ledger and of a history on two buffers: one table, one proposition. The marked cases are in `Marked`.
+-- Worked cases of the ledger and of a history on two buffers: one table, one proposition. The marked cases are in
+-- `Marked`.
 use Prim.Native.Nat.{ℕ}
 use mathlib.Core.Path.{_≡_, refl}
 use mathlib.Core.List.{List, [], _++_, _∷_}
@@ -9,17 +10,18 @@ use Rattle.octets.specs.Table.{Row, _gives_, failing}
 use Rattle.octets.specs.Text.{text}
 use Rattle.entries.specs.Entries.{entry, valid}
 use Rattle.entries.specs.Names.{allowedBytes, isName, isPrefix, isScore}
-use Rattle.front_coding.specs.Records.{recordLength, recordName, recordOf}
-use Rattle.book.specs.Answers.{Answer, Written, writing, writingImage}
-use Rattle.book.specs.Book.{bookImage, entriesIn, imageIn, offset, offsets, peak, peaks, readBook, readIn, recordsAt, scores}
-use Rattle.book.specs.Frame.{countOf, framed, readAs}
+use Rattle.book.specs.Records.{recordLength, recordName, recordOf}
+use Rattle.answer.specs.Answers.{Answer, WrittenCounts, writing, writingImage}
+use Rattle.book.specs.Book.{bookImage, entriesIn, imageIn, offset, offsets, peak, peaks, readBook, readIn, recordsAt}
+use Rattle.book.specs.Book.{scores}
+use Rattle.frame.specs.Frame.{countOf, framed, readAs}
 use Rattle.book.specs.Shown.{E, P1, P3, changed, crowd, listed, shownWritten, spare}
-use Rattle.edits.specs.Edits.{emptyBook, setEntry, withdraw}
+use Rattle.edit.specs.Edits.{emptyBook, setEntry, withdrawEntry}
 use Rattle.ledger.specs.History.{answers, buffersAfter, callStep, started}
-use Rattle.ledger.specs.Ledger.{Edit, held, ledgerAnswer, ledgerAnswers, ledgerStep, withdrawName, setName}
+use Rattle.ledger.specs.Ledger.{Edit, held, ledgerAnswer, ledgerAnswers, ledgerStep, setName, withdrawName}
 
 -- an answer as numbers: the refusal or 0, then the counts
-abbrev shownAnswer : Answer Written → List ℕ
+abbrev shownAnswer : Answer WrittenCounts → List ℕ
 shownAnswer a = shownWritten (record { answer = a; dest = [] })
 
 -- E is set, name by name, into 44 bytes, which P3 fills; three calls are refused; then the best score falls
@@ -89,5 +91,7 @@ abbrev table : List Row
 table = histories ++ limits
 
 worked : failing 0 table ≡ []
-unfolding be fromBe allowedBytes isPrefix isName isScore valid recordOf recordName recordLength framed countOf readAs scores peak peaks recordsAt offset offsets imageIn entriesIn readIn bookImage readBook writing writingImage emptyBook setEntry withdraw ledgerAnswer ledgerStep callStep
+unfolding be fromBe allowedBytes isPrefix isName isScore valid recordOf recordName recordLength framed countOf readAs
+    scores peak peaks recordsAt offset offsets imageIn entriesIn readIn bookImage readBook writing writingImage
+    emptyBook setEntry withdrawEntry ledgerAnswer ledgerStep callStep
 worked = refl

@@ -4,13 +4,16 @@ use mathlib.Core.Bool.{Bool, _&&_, _||_, not}
 use mathlib.Core.List.{List, [], _++_, _∷_}
 use lib.Dec.{eqb, leb}
 use lib.ListN.{length, replicate, take}
+use mathlib.Core.Path.{_≡_}
 use Rattle.octets.specs.Lists.{any, if_then_else_}
 use Rattle.entries.specs.Completion.{completion}
 use Rattle.entries.specs.Entries.{Entry, at}
 use Rattle.entries.specs.Names.{isPrefix, longestName}
-use Rattle.book.specs.Answers.{Answer, _when_, onAnswer, unless}
+use Rattle.answer.specs.Answers.{Answer, _when_, onAnswer, unless}
 use Rattle.book.specs.Book.{inBook, isBook}
 use Rattle.panel.specs.declared.Panel.{Panel}
+use Rattle.answer.specs.declared.Pressed.{Pressed}
+use Rattle.answer.specs.Reports.{pressedOf}
 
 -- what a key works on: the typed text and the highlighted row
 pub record Typing : Type 0 where
@@ -111,3 +114,8 @@ press book p key =
     (new .rows)
     in
     record { answer = answer; panel = onAnswer answer p new }
+
+-- a key answers r and leaves the panel `left`, as its definition says
+pub record PressedAs (o : AfterKey) (r : Pressed) (left : Panel) : Type 0 where
+  pub answer : pressedOf r ≡ o .answer
+  pub leaves : left ≡ o .panel

@@ -9,9 +9,10 @@ use Rattle.octets.specs.Text.{text}
 use Rattle.entries.specs.Completion.{completion}
 use Rattle.entries.specs.Entries.{valid}
 use Rattle.entries.specs.Names.{allowedBytes, isName, isPrefix, isScore}
-use Rattle.front_coding.specs.Records.{recordLength, recordName, recordOf}
-use Rattle.book.specs.Book.{bookImage, entriesIn, imageIn, offset, offsets, peak, peaks, readBook, readIn, recordsAt, scores}
-use Rattle.book.specs.Frame.{countOf, framed, readAs}
+use Rattle.book.specs.Records.{recordLength, recordName, recordOf}
+use Rattle.book.specs.Book.{bookImage, entriesIn, imageIn, offset, offsets, peak, peaks, readBook, readIn, recordsAt}
+use Rattle.book.specs.Book.{scores}
+use Rattle.frame.specs.Frame.{countOf, framed, readAs}
 use Rattle.book.specs.Shown.{P1, P3, changed, letters, shownLength, spare}
 use Rattle.panel.specs.declared.Panel.{Panel}
 use Rattle.panel.specs.Panel.{acts, lowered, panelOf, press}
@@ -31,7 +32,8 @@ shownPanel p = p .len ∷ p .highlight ∷ p .rows ∷ p .text
 abbrev key : List ℕ → Panel → ℕ → List ℕ
 key book p c = shownLength (press book p c .answer) ++ shownPanel (press book p c .panel)
 
--- an accepted key leaves this text, row and rows, zeros behind the text, and reports the rows; a refused one leaves the panel
+-- an accepted key leaves this text, row and rows, zeros behind the text, and reports the rows; a refused one leaves the
+-- panel
 abbrev leaves : List ℕ → ℕ → ℕ → List ℕ
 leaves w row rows = 0 ∷ rows ∷ length w ∷ row ∷ rows ∷ w ++ replicate (48 - length w) 0
 
@@ -115,5 +117,7 @@ abbrev table : List Row
 table = moving ++ typingKeys ++ refusing
 
 worked : failing 0 table ≡ []
-unfolding be fromBe allowedBytes isPrefix isName isScore valid completion recordOf recordName recordLength framed countOf readAs scores peak peaks recordsAt offset offsets imageIn entriesIn readIn bookImage readBook lowered acts panelOf press
+unfolding be fromBe allowedBytes isPrefix isName isScore valid completion recordOf recordName recordLength framed
+    countOf readAs scores peak peaks recordsAt offset offsets imageIn entriesIn readIn bookImage readBook lowered acts
+    panelOf press
 worked = refl

@@ -1,2 +1,2 @@
-pub mod Typing
 pub mod Rows
+pub mod Typing

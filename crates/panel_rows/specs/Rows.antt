@@ -9,7 +9,7 @@ use Rattle.panel.specs.declared.Panel.{Panel}
 use Rattle.panel.specs.Panel.{offeredFor, typedIn}
 
 -- a panel whose rows are counted and whose highlight is one of them, 0 without rows
-pub record Counted (es : List Entry) (p : Panel) : Type 0 where
+pub record RowsCounted (es : List Entry) (p : Panel) : Type 0 where
   pub short : p .len ≤ longestName
   pub counted : p .rows ≡ length (offeredFor es (typedIn p))
   pub onRow : p .highlight ≤ p .rows - 1

@@ -1,13 +1,15 @@
 // The panel's rows: counted, the highlight among them, and the name of the highlighted one taken.
+use limits::LONGEST_NAME;
+use limits::PANEL_COUNT;
 ghost use mathlib.Core.Path.{_≡_};
 ghost use Prim.Native.Nat.{_≤_};
 ghost use lib.ListN.{length};
 ghost use Rattle.entries.specs.Names.{longestName};
 ghost use Rattle.book.specs.Book.{inBook};
-ghost use Rattle.book.specs.Held.{Held};
+ghost use Rattle.book_laws.specs.Held.{Held};
 ghost use Rattle.panel.specs.Panel.{lowered, movedDown, nameTaken, offeredFor, panelOf, typingIn};
 ghost use Rattle.panel_typing.specs.Typing.{Typed};
-ghost use Rattle.panel_rows.specs.Rows.{Counted};
+ghost use Rattle.panel_rows.specs.Rows.{RowsCounted};
 
 // How many rows are offered for a text.
 fn count_rows(book: &[u8], n: usize, text: &[u8]) -> usize
@@ -20,8 +22,8 @@ fn count_rows(book: &[u8], n: usize, text: &[u8]) -> usize
         return 0;
     }
     let matches = end - first;
-    if 5 < matches {
-        return 5;
+    if PANEL_COUNT < matches {
+        return PANEL_COUNT;
     }
     matches
 }
@@ -34,8 +36,8 @@ pub fn settle(book: &[u8], n: usize, p: panel::Panel) -> panel::Panel
     let len = p.len;
     let mut text = p.text;
     let rows = count_rows(book, n, &text[..len]);
-    let zeros = [0; 48];
-    octets::copy(&mut text, len, &zeros);
+    let zeros = [0; LONGEST_NAME];
+    octets_code::copy(&mut text, len, &zeros);
     panel::Panel {
         text: text,
         len: len,
@@ -46,7 +48,7 @@ pub fn settle(book: &[u8], n: usize, p: panel::Panel) -> panel::Panel
 
 // Moves the highlight down, stopping at the last row.
 pub fn down(book: &[u8], p: panel::Panel) -> panel::Panel
-    requires { ⌜ Counted (inBook (now book)) p ⌝ }
+    requires { ⌜ RowsCounted (inBook (now book)) p ⌝ }
     ensures { λ r. ⌜ Typed (movedDown (inBook (now (book .entry))) (typingIn p)) r ⌝ }
 {
     let row = p.highlight;
@@ -60,7 +62,7 @@ pub fn down(book: &[u8], p: panel::Panel) -> panel::Panel
 
 // Replaces the text by the highlighted name, if there are rows.
 pub fn take_name(book: &[u8], n: usize, p: panel::Panel) -> panel::Panel
-    requires { ⌜ Held (now book) n × Counted (inBook (now book)) p ⌝ }
+    requires { ⌜ Held (now book) n × RowsCounted (inBook (now book)) p ⌝ }
     ensures { λ r. ⌜ Typed (nameTaken (inBook (now (book .entry))) (typingIn p)) r ⌝ }
 {
     if p.rows == 0 {
@@ -69,7 +71,7 @@ pub fn take_name(book: &[u8], n: usize, p: panel::Panel) -> panel::Panel
     let chosen = p.highlight;
     let len = p.len;
     let text = p.text;
-    let s = book_complete::offers(book, n, &text[..len], 5);
+    let s = completion_book::offers(book, n, &text[..len], PANEL_COUNT);
     let offered = s.offered;
     let c = book_find::cursor_at(book, n, offered[chosen]);
     let name = c.name;

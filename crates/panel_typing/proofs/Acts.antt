@@ -18,10 +18,12 @@ module _ (p : Panel) (long : length (p .text) ≡ longestName) where
 
   pub appends-to :
       (key rows : ℕ) → p .len < longestName
-      → Typed (appended key (typingIn p)) (record { text = set (p .text) (p .len) key; len = p .len + 1; highlight = 0; rows = rows })
+      → Typed (appended key (typingIn p))
+      (record { text = set (p .text) (p .len) key; len = p .len + 1; highlight = 0; rows = rows })
   appends-to key rows h =
       let z : p .len + 1 ≡ suc (p .len) = omega arith in
-      let e : take (p .len + 1) (set (p .text) (p .len) key) ≡ typedIn p ++ (key ∷ []) = rw z (take-suc-set (p .text) (p .len) key (omega (arith, long))) in
+      let e : take (p .len + 1) (set (p .text) (p .len) key) ≡ typedIn p
+      ++ (key ∷ []) = rw z (take-suc-set (p .text) (p .len) key (omega (arith, long))) in
       record { holds = rw e; short = omega arith }
 
   pub erases-none : p .len ≡ 0 → Typed (erased (typingIn p)) p
@@ -34,7 +36,8 @@ module _ (p : Panel) (long : length (p .text) ≡ longestName) where
       → Typed (erased (typingIn p)) (record { text = p .text; len = p .len - 1; highlight = 0; rows = rows })
   erases-last rows h some =
       let n = typed-length h in
-      let e : take (p .len - 1) (typedIn p) ≡ take (p .len - 1) (p .text) = take-take (p .len - 1) (p .len) (p .text) (omega arith) in
+      let e : take (p .len - 1) (typedIn p) ≡ take (p .len - 1) (p .text) = take-take (p .len - 1) (p .len) (p .text)
+      (omega arith) in
       record { holds = rw (ne-eqb (length (typedIn p)) 0 (λ q. some (sym n ∙ q)), n, e); short = omega arith }
 
 -- the acts on the highlight
@@ -43,5 +46,6 @@ module _ (p : Panel) (short : p .len ≤ longestName) where
   raises-none h = let z : p .highlight - 1 ≡ p .highlight = omega arith in record { holds = rw z; short = short }
 
   pub raises-one :
-      (rows : ℕ) → Typed (raised (typingIn p)) (record { text = p .text; len = p .len; highlight = p .highlight - 1; rows = rows })
+      (rows : ℕ) → Typed (raised (typingIn p))
+      (record { text = p .text; len = p .len; highlight = p .highlight - 1; rows = rows })
   raises-one rows = record { holds = refl; short = short }

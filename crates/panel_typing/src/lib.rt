@@ -1,6 +1,12 @@
 // The panel's keys as far as they need no book: which are listed, what they do to the typed text and the highlight.
+use limits::FIRST_ALLOWED;
+use limits::KEY_DOWN;
+use limits::KEY_ERASE;
+use limits::KEY_TAKE;
+use limits::LAST_ALLOWED;
+use limits::LONGEST_NAME;
 ghost use mathlib.Core.Path.{_≡_};
-ghost use Prim.Native.Nat.{_<_, _≤_, _-_, min};
+ghost use Prim.Native.Nat.{_-_, _<_, _≤_, min};
 ghost use Rattle.entries.specs.Names.{longestName};
 ghost use Rattle.panel.specs.Panel.{appended, appends, erased, isListed, isTyped, raised, typingIn};
 ghost use Rattle.panel_typing.specs.Typing.{Typed, isFull};
@@ -10,21 +16,21 @@ pub fn is_typed(p: panel::Panel) -> bool
     ensures { λ r. ⌜ r ≡ isTyped p ⌝ }
 {
     let len = p.len;
-    if 48 < len {
+    if LONGEST_NAME < len {
         return false;
     }
     let text = p.text;
-    entries::is_prefix(&text[..len])
+    entries_check::is_prefix(&text[..len])
 }
 
 // Whether a key appends: 20 to 7E.
 pub fn appends(key: u8) -> bool
     ensures { λ r. ⌜ r ≡ appends key ⌝ }
 {
-    if key < 0x20 {
+    if key < FIRST_ALLOWED {
         return false;
     }
-    key <= 0x7E
+    key <= LAST_ALLOWED
 }
 
 // Whether a key is listed.
@@ -34,13 +40,14 @@ pub fn is_listed(key: u8) -> bool
     if appends(key) {
         return true;
     }
-    if key == 0x08 {
+    if key == KEY_ERASE {
         return true;
     }
-    if key == 0x0D {
+    if key == KEY_TAKE {
         return true;
     }
-    key <= 0x02
+    // counted again, up, down
+    key <= KEY_DOWN
 }
 
 // Whether a key appends at 48 bytes.
@@ -50,7 +57,7 @@ pub fn is_full(p: panel::Panel, key: u8) -> bool
     if !appends(key) {
         return false;
     }
-    48 <= p.len
+    LONGEST_NAME <= p.len
 }
 
 // A row past the last, lowered to it.

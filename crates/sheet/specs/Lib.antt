@@ -1,4 +1,2 @@
 pub mod Sheet
-pub mod Check
-pub mod Held
 pub mod Worked

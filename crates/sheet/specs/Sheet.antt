@@ -1,4 +1,5 @@
--- The sheet (document 01, "Sheet, finding, panel, program"): its image, its reading, and the two calls between sheet and book.
+-- The sheet (document 01, "Sheet, finding, panel, program"): its image, its reading, and the two calls between sheet
+-- and book.
 use Prim.Native.Nat.{_≤_, suc, zero, ℕ}
 use mathlib.Core.Path.{_≡_}
 use mathlib.Core.List.{List, [], _∷_}
@@ -6,9 +7,9 @@ use mathlib.Core.Option.{Option, some}
 use lib.ListN.{drop, getD, length, take}
 use Rattle.octets.specs.Octets.{fromBe, overwrite}
 use Rattle.entries.specs.Entries.{Entry, entry}
-use Rattle.book.specs.Answers.{Outcome, Written, converting, entriesBytes, entriesOf}
+use Rattle.answer.specs.Answers.{Outcome, WrittenCounts, converting, entriesBytes}
+use Rattle.frame.specs.Frame.{countOf, entriesOf, framed, readAs}
 use Rattle.book.specs.Book.{bookImage, readBook}
-use Rattle.book.specs.Frame.{countOf, framed, readAs}
 
 unfoldable pub sheetImage : List Entry → List ℕ
 sheetImage es = framed 0x11 (length es) (entriesBytes es)
@@ -33,11 +34,11 @@ abbrev pub inSheet : List ℕ → List Entry
 inSheet buf = entriesOf (readSheet buf)
 
 -- build a book from a sheet
-unfoldable pub buildBook : List ℕ → List ℕ → Outcome Written
+unfoldable pub buildBook : List ℕ → List ℕ → Outcome WrittenCounts
 buildBook sheet dst = converting readSheet bookImage sheet dst
 
 -- list a book into a sheet
-unfoldable pub listBook : List ℕ → List ℕ → Outcome Written
+unfoldable pub listBook : List ℕ → List ℕ → Outcome WrittenCounts
 listBook book dst = converting readBook sheetImage book dst
 
 -- Sheet to book to sheet, and book to sheet to book, with long enough destinations: the same bytes.

@@ -9,10 +9,11 @@ use Rattle.octets.specs.Table.{Row, _gives_, failing}
 use Rattle.octets.specs.Text.{text}
 use Rattle.entries.specs.Entries.{entry, valid}
 use Rattle.entries.specs.Names.{allowedBytes, isName, isPrefix, isScore}
-use Rattle.front_coding.specs.Records.{recordLength, recordName, recordOf}
-use Rattle.book.specs.Answers.{entriesBytes, entriesOf, entryBytes, writing, writingImage}
-use Rattle.book.specs.Book.{bookImage, entriesIn, imageIn, offset, offsets, peak, peaks, readBook, readIn, recordsAt, scores}
-use Rattle.book.specs.Frame.{countOf, framed, readAs}
+use Rattle.book.specs.Records.{recordLength, recordName, recordOf}
+use Rattle.answer.specs.Answers.{entriesBytes, entryBytes, writing, writingImage}
+use Rattle.frame.specs.Frame.{countOf, entriesOf, framed, readAs}
+use Rattle.book.specs.Book.{bookImage, entriesIn, imageIn, offset, offsets, peak, peaks, readBook, readIn, recordsAt}
+use Rattle.book.specs.Book.{scores}
 use Rattle.book.specs.Shown.{E, P1, P3, answerEntry, changed, crowd, listed, shownRead, shownWritten, spare}
 use Rattle.sheet.specs.Sheet.{buildBook, listBook, readSheet, sheetEntries, sheetImage}
 
@@ -35,7 +36,8 @@ lone n = 0x11 ∷ 0x00 ∷ 0x00 ∷ 0x00 ∷ (12 + n) ∷ 0x00 ∷ 0x01 ∷ n �
 -- a sheet of two entries of score 1, in the order given
 abbrev pair : String → String → List ℕ
 pair v w =
-    0x11 ∷ 0x00 ∷ 0x00 ∷ 0x00 ∷ (17 + length (text v) + length (text w)) ∷ 0x00 ∷ 0x02 ∷ answerEntry v 1 ++ answerEntry w 1
+    0x11 ∷ 0x00 ∷ 0x00 ∷ 0x00 ∷ (17 + length (text v) + length (text w)) ∷ 0x00 ∷ 0x02 ∷ answerEntry v 1
+    ++ answerEntry w 1
 
 -- what building a book from a sheet leaves, and what that is after refusal 1
 abbrev builtFrom : List ℕ → List ℕ
@@ -105,5 +107,7 @@ abbrev table : List Row
 table = images ++ building ++ listing
 
 worked : failing 0 table ≡ []
-unfolding be fromBe allowedBytes isPrefix isName isScore valid recordOf recordName recordLength framed countOf readAs scores peak peaks recordsAt offset offsets imageIn entriesIn readIn bookImage readBook writing writingImage entryBytes entriesBytes sheetImage sheetEntries readSheet buildBook listBook
+unfolding be fromBe allowedBytes isPrefix isName isScore valid recordOf recordName recordLength framed countOf readAs
+    scores peak peaks recordsAt offset offsets imageIn entriesIn readIn bookImage readBook writing writingImage
+    entryBytes entriesBytes sheetImage sheetEntries readSheet buildBook listBook
 worked = refl

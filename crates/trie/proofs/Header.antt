@@ -1,5 +1,5 @@
 -- The sizes of fields and the four fields of a header byte.
-use Prim.Native.Nat.{_%_, _*_, _+_, _/_, _<_, _^_, ℕ}
+use Prim.Native.Nat.{_%_, _*_, _+_, _/_, _<_, _^_, _≤_, suc, zero, ℕ}
 use mathlib.Core.Path.{_∙_, _≡_, ap, refl}
 use mathlib.Core.Bool.{Bool, false}
 use lib.Dec.{eqb, ltb}
@@ -67,7 +67,67 @@ sizeOf-nonzero v a =
 pub ownSize-size : (r : ℕ) → Size (ownSize r)
 ownSize-size r =
     by-test (ltb (r + 1) 256) (λ a. rw a (record { back = refl; small = omega arith }))
-    (λ a. by-test (ltb (r + 2) 65536) (λ b. rw (a, b) (record { back = refl; small = omega arith })) (λ b. rw (a, b) (record { back = refl; small = omega arith })))
+    (λ a. by-test (ltb (r + 2) 65536) (λ b. rw (a, b) (record { back = refl; small = omega arith }))
+    (λ b. rw (a, b) (record { back = refl; small = omega arith })))
 
 pub ownSize-nonzero : (r : ℕ) → eqb (ownSize r) 0 ≡ false
-ownSize-nonzero r = by-test (ltb (r + 1) 256) (λ a. rw a) (λ a. by-test (ltb (r + 2) 65536) (λ b. rw (a, b)) (λ b. rw (a, b)))
+ownSize-nonzero r = by-test (ltb (r + 1) 256) (λ a. rw a)
+    (λ a. by-test (ltb (r + 2) 65536) (λ b. rw (a, b)) (λ b. rw (a, b)))
+
+-- at most 4 bytes
+pub sizeOf-most : (v : ℕ) → sizeOf v ≤ 4
+sizeOf-most v =
+    by-test (eqb v 0) (λ a. rw a (omega arith))
+    (λ a. by-test (ltb v 256) (λ b. rw (a, b) (omega arith))
+    (λ b. by-test (ltb v 65536) (λ c. rw (a, b, c) (omega arith)) (λ c. rw (a, b, c) (omega arith))))
+
+pub ownSize-most : (r : ℕ) → ownSize r ≤ 4
+ownSize-most r = by-test (ltb (r + 1) 256) (λ a. rw a (omega arith))
+    (λ a. by-test (ltb (r + 2) 65536) (λ b. rw (a, b) (omega arith)) (λ b. rw (a, b) (omega arith)))
+
+-- sizes that a header says
+pub record Said (c : ℕ) : Type 0 where
+  pub size : Size (sizeAt c)
+  pub code : codeOf (sizeAt c) ≡ c
+  pub most : sizeAt c ≤ 4
+  pub four : sizeAt c ≡ 3 → ⊥
+
+pub said : (c : ℕ) → c < 4 → Said c
+said zero h = record {
+  size = record { back = refl; small = omega arith };
+  code = refl;
+  most = omega arith;
+  four = λ q. omega arith;
+}
+said (suc zero) h = record {
+  size = record { back = refl; small = omega arith };
+  code = refl;
+  most = omega arith;
+  four = λ q. omega arith;
+}
+said (suc (suc zero)) h = record {
+  size = record { back = refl; small = omega arith };
+  code = refl;
+  most = omega arith;
+  four = λ q. omega arith;
+}
+said (suc (suc (suc zero))) h = record {
+  size = record { back = refl; small = omega arith };
+  code = refl;
+  most = omega arith;
+  four = λ q. omega arith;
+}
+said (suc (suc (suc (suc c)))) h = absurd (omega arith)
+
+-- how large the fields of a header can be
+pub score-most : (h : ℕ) → h < 256 → (scoreSize h ≤ 4) × (scoreSize h ≡ 3 → ⊥)
+unfolding scoreSize
+score-most h l = let a = said (h / 64) (omega arith) in (a .most, a .four)
+
+pub child-most : (h : ℕ) → (childSize h ≤ 4) × (childSize h ≡ 3 → ⊥)
+unfolding childSize
+child-most h = let a = said (h / 16 % 4) (omega arith) in (a .most, a .four)
+
+pub label-most : (h : ℕ) → labelLength h < 8
+unfolding labelLength
+label-most h = omega arith

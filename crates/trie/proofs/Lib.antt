@@ -1,4 +1,4 @@
-pub mod Sets
-pub mod Keys
+pub mod Bound
 pub mod Header
+pub mod Sets
 pub mod Trie

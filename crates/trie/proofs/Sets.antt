@@ -38,11 +38,11 @@ in-flat e s [] m n = absurd n
 in-flat e s (t ∷ ss) m (inl q) = in-append-left e t (flat ss) (rw q at m)
 in-flat e s (t ∷ ss) m (inr n) = in-append-right e t (flat ss) (in-flat e s ss m n)
 
-pub different-left : (xs ys : List Entry) → different (xs ++ ys) → different xs
+different-left : (xs ys : List Entry) → different (xs ++ ys) → different xs
 different-left [] ys d = tt
 different-left (x ∷ xs) ys d = ((λ f m. d .0 f (in-append-left f xs ys m)), different-left xs ys (d .1))
 
-pub different-right : (xs ys : List Entry) → different (xs ++ ys) → different ys
+different-right : (xs ys : List Entry) → different (xs ++ ys) → different ys
 different-right [] ys d = d
 different-right (x ∷ xs) ys d = different-right xs ys (d .1)
 
@@ -53,7 +53,8 @@ different-flat s (t ∷ ss) d (inr n) = different-flat s ss (different-right t (
 
 -- a set has a suffix, and all begin with the same byte or are empty
 pub data OneFirst : List Entry → Type 0 where
-  one-first : (e : Entry) (es : List Entry) → ((f : Entry) → f ∈ es → sameFirst (e .name) (f .name) ≡ true) → OneFirst (e ∷ es)
+  one-first : (e : Entry) (es : List Entry) → ((f : Entry) → f ∈ es → sameFirst (e .name) (f .name) ≡ true)
+      → OneFirst (e ∷ es)
 
 sameFirst-trans : (u v w : List ℕ) → sameFirst u v ≡ true → sameFirst v w ≡ true → sameFirst u w ≡ true
 sameFirst-trans [] [] w h k = k
@@ -62,14 +63,17 @@ sameFirst-trans (x ∷ u) [] w h k = cc
 sameFirst-trans (x ∷ u) (y ∷ v) [] h k = k
 sameFirst-trans (x ∷ u) (y ∷ v) (z ∷ w) h k = eq-eqb x z (eqb-true x y h ∙ eqb-true y z k)
 
-join-run : (e : Entry) (ss : List (List Entry)) → ((s : List Entry) → s ∈ ss → OneFirst s) → (s : List Entry) → s ∈ joinFirst e ss → OneFirst s
+join-run : (e : Entry) (ss : List (List Entry)) → ((s : List Entry) → s ∈ ss → OneFirst s) → (s : List Entry)
+    → s ∈ joinFirst e ss → OneFirst s
 join-run e [] h s (inl q) = rw q (one-first e [] (λ f m. absurd m))
 join-run e [] h s (inr m) = absurd m
 join-run e ([] ∷ ss) h s (inl q) = rw q (one-first e [] (λ f m. absurd m))
 join-run e ([] ∷ ss) h s (inr m) = h s (inr m)
-join-run e ((f ∷ fs) ∷ ss) h s m = by-test (sameFirst (e .name) (f .name)) (λ t. joined t (rw t at m)) (λ t. apart (rw t at m))
+join-run e ((f ∷ fs) ∷ ss) h s m = by-test (sameFirst (e .name) (f .name)) (λ t. joined t (rw t at m))
+    (λ t. apart (rw t at m))
   where
-    all-same : OneFirst (f ∷ fs) → sameFirst (e .name) (f .name) ≡ true → (g : Entry) → g ∈ (f ∷ fs) → sameFirst (e .name) (g .name) ≡ true
+    all-same : OneFirst (f ∷ fs) → sameFirst (e .name) (f .name) ≡ true → (g : Entry) → g ∈ (f ∷ fs)
+        → sameFirst (e .name) (g .name) ≡ true
     all-same r t g (inl q) = rw q t
     all-same (one-first f′ fs′ k) t g (inr n) = sameFirst-trans (e .name) (f′ .name) (g .name) t (k g n)
 
@@ -90,12 +94,15 @@ commonPrefix-begins [] e m = absurd m
 commonPrefix-begins (f ∷ []) e (inl q) = rw q (begins-self (f .name))
 commonPrefix-begins (f ∷ []) e (inr m) = absurd m
 commonPrefix-begins (f ∷ g ∷ es) e (inl q) =
-    rw (q, common-take (commonPrefix (g ∷ es)) (f .name)) (begins-take (common (commonPrefix (g ∷ es)) (f .name)) (f .name) (f .name) (begins-self (f .name)))
+    rw (q, common-take (commonPrefix (g ∷ es)) (f .name))
+    (begins-take (common (commonPrefix (g ∷ es)) (f .name)) (f .name) (f .name) (begins-self (f .name)))
 commonPrefix-begins (f ∷ g ∷ es) e (inr m) =
-    begins-take (common (commonPrefix (g ∷ es)) (f .name)) (commonPrefix (g ∷ es)) (e .name) (commonPrefix-begins (g ∷ es) e m)
+    begins-take (common (commonPrefix (g ∷ es)) (f .name)) (commonPrefix (g ∷ es)) (e .name) (commonPrefix-begins (g
+    ∷ es) e m)
 
 pub label-split : (es : List Entry) (e : Entry) → e ∈ es → e .name ≡ labelOf es ++ drop (length (labelOf es)) (e .name)
-label-split es e m = begins-split (labelOf es) (e .name) (begins-take 7 (commonPrefix es) (e .name) (commonPrefix-begins es e m))
+label-split es e m = begins-split (labelOf es) (e .name)
+    (begins-take 7 (commonPrefix es) (e .name) (commonPrefix-begins es e m))
 
 pub label-short : (es : List Entry) → length (labelOf es) < 8
 label-short es = rw length-take (omega arith)
@@ -112,7 +119,8 @@ starts-common x (y ∷ p) (z ∷ w) h k =
     let b : x ≡ z = eqb-true x z (and-true (eqb x z) true k .0) in
     rw (eq-eqb y z (sym a ∙ b)) h
 
-pub starts-prefix : (x : ℕ) (e : Entry) (es : List Entry) → ((f : Entry) → f ∈ (e ∷ es) → starts x (f .name) ≡ true) → starts x (commonPrefix (e ∷ es)) ≡ true
+pub starts-prefix : (x : ℕ) (e : Entry) (es : List Entry) → ((f : Entry) → f ∈ (e ∷ es) → starts x (f .name) ≡ true)
+    → starts x (commonPrefix (e ∷ es)) ≡ true
 starts-prefix x e [] h = h e (inl refl)
 starts-prefix x e (f ∷ es) h =
     starts-common x (commonPrefix (f ∷ es)) (e .name) (starts-prefix x f es (λ g m. h g (inr m))) (h e (inl refl))
@@ -125,17 +133,20 @@ pub sameFirst-starts : (x : ℕ) (w v : List ℕ) → sameFirst (x ∷ w) v ≡ 
 sameFirst-starts x w [] h = h
 sameFirst-starts x w (y ∷ v) h = rw h
 
-pub sameFirst-empty : (v : List ℕ) → sameFirst [] v ≡ true → v ≡ []
+sameFirst-empty : (v : List ℕ) → sameFirst [] v ≡ true → v ≡ []
 sameFirst-empty [] h = refl
 sameFirst-empty (y ∷ v) h = cc
 
 -- a set that is no used-up suffix has a label
-pub label-progress : (s : List Entry) → OneFirst s → different s → usedUp (length (labelOf s)) s ≡ false → 0 < length (labelOf s)
+pub label-progress : (s : List Entry) → OneFirst s → different s → usedUp (length (labelOf s)) s ≡ false
+    → 0 < length (labelOf s)
 label-progress s (one-first e es k) d u = go (e .name) refl
   where
-    lone : (fs : List Entry) → ((f : Entry) → f ∈ fs → sameFirst (e .name) (f .name) ≡ true) → different (e ∷ fs) → usedUp (length (labelOf (e ∷ fs))) (e ∷ fs) ≡ false → e .name ≡ [] → ⊥
+    lone : (fs : List Entry) → ((f : Entry) → f ∈ fs → sameFirst (e .name) (f .name) ≡ true) → different (e ∷ fs)
+        → usedUp (length (labelOf (e ∷ fs))) (e ∷ fs) ≡ false → e .name ≡ [] → ⊥
     lone [] k′ d′ u′ q = let z : _≡_ {A = Bool} true false = rw q at u′ in false≢true (sym z)
-    lone (f ∷ fs) k′ d′ u′ q = let z : sameFirst [] (f .name) ≡ true = rw q at (k′ f (inl refl)) in d′ .0 f (inl refl) (q ∙ sym (sameFirst-empty (f .name) z))
+    lone (f ∷ fs) k′ d′ u′ q = let z : sameFirst [] (f .name) ≡ true = rw q at (k′ f (inl refl)) in
+        d′ .0 f (inl refl) (q ∙ sym (sameFirst-empty (f .name) z))
 
     each : (x : ℕ) (w : List ℕ) → e .name ≡ x ∷ w → (f : Entry) → f ∈ (e ∷ es) → starts x (f .name) ≡ true
     each x w q f (inl r) = rw (r, q) (rw (eqb-self x))
@@ -149,9 +160,13 @@ label-progress s (one-first e es k) d u = go (e .name) refl
 abbrev pub stripped : ℕ → Entry → Entry
 stripped k e = entry (drop k (e .name)) (e .score)
 
-pub different-remains : (l : List ℕ) (s : List Entry) → ((e : Entry) → e ∈ s → e .name ≡ l ++ drop (length l) (e .name)) → different s → different (remains (length l) s)
+pub different-remains : (l : List ℕ) (s : List Entry)
+    → ((e : Entry) → e ∈ s → e .name ≡ l ++ drop (length l) (e .name)) → different s → different (remains (length l) s)
 different-remains l [] h d = tt
-different-remains l (e ∷ s) h d = ((λ f m. apart f (map-in (stripped (length l)) f s m)), different-remains l s (λ f m. h f (inr m)) (d .1))
+different-remains l (e ∷ s) h d = (
+  (λ f m. apart f (map-in (stripped (length l)) f s m)),
+  different-remains l s (λ f m. h f (inr m)) (d .1),
+)
   where
     apart : (f : Entry) → (x : Entry) × (x ∈ s) × (f ≡ stripped (length l) x) → drop (length l) (e .name) ≡ f .name → ⊥
     apart f r q =

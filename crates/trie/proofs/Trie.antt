@@ -2,7 +2,7 @@
 use Prim.Native.Nat.{_+_, _-_, _<_, _^_, _≤_, max, suc, zero, ℕ}
 use mathlib.Core.Path.{_∙_, _≡_, ap, refl, sym}
 use mathlib.Core.Logic.{inl, inr}
-use mathlib.Core.Bool.{Bool, false, not, true}
+use mathlib.Core.Bool.{Bool, false, false≢true, not, true}
 use mathlib.Core.List.{List, [], _++_, _∷_, append-assoc, append-nil, map}
 use lib.Dec.{eqb}
 use lib.ListN.{drop, length, length-append, length-map}
@@ -21,22 +21,26 @@ use Rattle.entries.specs.Names.{isName, isScore}
 use Rattle.entries.proofs.BestList.{different-rising, falling-head, falling-sort}
 use Rattle.entries.proofs.Same.{entry-eq, sort-to}
 use Rattle.entries.proofs.Valid.{Valid, name-length}
-use Rattle.book.specs.Frame.{Exact, framed}
-use Rattle.book.proofs.Frame.{exact, framed-body, framed-count}
-use Rattle.trie.specs.Reading.{Found, Sibling, behindSibling, childSize, foundUnder, groupFrom, lastMark, oneMore, prefixed, readTrie, scoreFrom, scoreSize, siblingOf, siblingsFrom, trieEntries}
-use Rattle.trie.specs.Trie.{Node, byFirst, firstScore, groupBytes, groupOf, headerByte, highest, isLast, isLeaf, joinFirst, labelOf, levels, nodeBytes, nodeOf, otherBytes, ownSize, remains, sameFirst, siblings, sizeOf, standsBefore, trieImage, usedUp}
-use Rattle.trie.proofs.Header.{Size, header-child, header-label, header-last, header-score, ownSize-nonzero, ownSize-size, sizeOf-fits, sizeOf-nonzero, sizeOf-size}
-use Rattle.trie.proofs.Sets.{OneFirst, byFirst-flat, byFirst-run, different-flat, different-remains, flat, highest-below, highest-remains, in-flat, label-progress, label-short, label-split, length-remains, one-first, stripped, used-up}
+use Rattle.frame.specs.Frame.{Exact, framed}
+use Rattle.frame.proofs.Frame.{exact, framed-body, framed-count}
+use Rattle.trie.specs.Reading.{FoundSuffixes, Sibling, behindSibling, childSize, foundUnder, groupFrom, lastMark}
+use Rattle.trie.specs.Reading.{oneMore, prefixed, readTrie, scoreFrom, scoreSize, siblingOf, siblingsFrom}
+use Rattle.trie.specs.Reading.{trieEntries}
+use Rattle.trie.specs.Trie.{Node, byFirst, firstScore, groupBytes, groupOf, headerByte, highest, isLast, isLeaf}
+use Rattle.trie.specs.Trie.{joinFirst, labelOf, levels, nodeBytes, nodeOf, otherBytes, ownSize, remains}
+use Rattle.trie.specs.Trie.{sameFirst, siblings, sizeOf, standsBefore, trieImage, usedUp}
+use Rattle.trie.proofs.Header.{Size, header-child, header-label, header-last, header-score, ownSize-nonzero}
+use Rattle.trie.proofs.Header.{ownSize-size, sizeOf-fits, sizeOf-nonzero, sizeOf-size}
+use Rattle.trie.proofs.Sets.{OneFirst, byFirst-flat, byFirst-run, different-flat, different-remains, flat}
+use Rattle.trie.proofs.Sets.{highest-below, highest-remains, in-flat, label-progress, label-short, label-split}
+use Rattle.trie.proofs.Sets.{length-remains, one-first, stripped, used-up}
 
 -- one node read back
 abbrev toSibling : Node → Sibling
 toSibling x = record { label = x .label; score = x .score; inner = not (isLeaf x) }
 
--- the bytes of a node behind its header
-afterHeader : Node → ℕ → ℕ → ℕ → List ℕ
-afterHeader x s c cs = be (sizeOf s) s ++ (be cs c ++ x .label)
-
-pub node-split : (x : Node) (s c cs : ℕ) (last : Bool) (r : List ℕ) → nodeBytes x s c cs last ++ r ≡ headerByte (sizeOf s) cs last (length (x .label)) ∷ (be (sizeOf s) s ++ (be cs c ++ (x .label ++ r)))
+pub node-split : (x : Node) (s c cs : ℕ) (last : Bool) (r : List ℕ) → nodeBytes x s c cs last
+    ++ r ≡ headerByte (sizeOf s) cs last (length (x .label)) ∷ (be (sizeOf s) s ++ (be cs c ++ (x .label ++ r)))
 unfolding nodeBytes
 node-split x s c cs last r = simp append-assoc
 
@@ -56,12 +60,16 @@ module _ (x : Node) (s c cs : ℕ) (last : Bool) (r : List ℕ) (z : Size cs) (l
         drop-at (be cs c) (x .label ++ r) cs (length-be cs c),
       )
 
-  pub behind-of : behindSibling hd tl ≡ r
+  behind-of : behindSibling hd tl ≡ r
   unfolding behindSibling
   behind-of =
-      rw (to-label, header-label (sizeOf s) cs last (length (x .label)) (sizeOf-size s) z l, drop-append-seam (x .label) r)
+      rw (
+        to-label,
+        header-label (sizeOf s) cs last (length (x .label)) (sizeOf-size s) z l,
+        drop-append-seam (x .label) r,
+      )
 
-  pub sibling-of :
+  sibling-of :
       (isFirst : Bool) (prev : ℕ) → s < 2 ^ 32 → scoreFrom isFirst prev s ≡ x .score → eqb cs 0 ≡ isLeaf x
       → siblingOf isFirst prev hd tl ≡ toSibling x
   unfolding siblingOf
@@ -85,7 +93,8 @@ record Step (s back size : ℕ) (x : Node) (xs : List Node) : Type 0 where
   cs : ℕ
   back′ : ℕ
   size′ : ℕ
-  eq : siblings s back size (x ∷ xs) ≡ nodeBytes x s c cs (isLast xs) ++ siblings (x .score - firstScore xs) back′ size′ xs
+  eq : siblings s back size (x ∷ xs) ≡ nodeBytes x s c cs (isLast xs)
+      ++ siblings (x .score - firstScore xs) back′ size′ xs
   z : Size cs
   leaf : eqb cs 0 ≡ isLeaf x
   z′ : Size size′
@@ -94,7 +103,17 @@ record Step (s back size : ℕ) (x : Node) (xs : List Node) : Type 0 where
 step : (s back size : ℕ) (x : Node) (xs : List Node) → Size size → eqb size 0 ≡ false → Step s back size x xs
 step s back size x xs z ne =
     by-test (isLeaf x)
-    (λ t. record { c = 0; cs = 0; back′ = back; size′ = size; eq = rw t; z = record { back = refl; small = omega arith }; leaf = sym t; z′ = z; ne′ = ne })
+    (λ t. record {
+      c = 0;
+      cs = 0;
+      back′ = back;
+      size′ = size;
+      eq = rw t;
+      z = record { back = refl; small = omega arith };
+      leaf = sym t;
+      z′ = z;
+      ne′ = ne;
+    })
     (λ t.
     record {
       c = back;
@@ -117,21 +136,31 @@ toEntry x = entry (x .label) (x .score)
 
 from-last :
     (d : ℕ) (isFirst : Bool) (prev h : ℕ) (bs : List ℕ) → lastMark h ≡ true
-    → siblingsFrom (suc d) isFirst prev (h ∷ bs) ≡ record { nodes = siblingOf isFirst prev h bs ∷ []; behind = behindSibling h bs }
+    → siblingsFrom (suc d) isFirst prev (h ∷ bs) ≡ record {
+      nodes = siblingOf isFirst prev h bs
+          ∷ [];
+      behind = behindSibling h bs;
+    }
 from-last d isFirst prev h bs e = rw (e, siblingsFrom)
 
 from-more :
     (d : ℕ) (isFirst : Bool) (prev h : ℕ) (bs : List ℕ) → lastMark h ≡ false
     → siblingsFrom (suc d) isFirst prev (h ∷ bs)
-    ≡ oneMore (siblingOf isFirst prev h bs) (siblingsFrom d false (siblingOf isFirst prev h bs .score) (behindSibling h bs))
+    ≡ oneMore (siblingOf isFirst prev h bs)
+    (siblingsFrom d false (siblingOf isFirst prev h bs .score) (behindSibling h bs))
 from-more d isFirst prev h bs e = rw (e, siblingsFrom)
 
 -- reading the first of the siblings
 module _
-    (d : ℕ) (isFirst : Bool) (prev : ℕ) (x : Node) (s c cs : ℕ) (r : List ℕ) (z : Size cs) (g : GoodNode x) (fits : s < 2 ^ 32)
+    (d : ℕ) (isFirst : Bool) (prev : ℕ) (x : Node) (s c cs : ℕ) (r : List ℕ) (z : Size cs) (g : GoodNode x)
+    (fits : s < 2 ^ 32)
     (sc : scoreFrom isFirst prev s ≡ x .score) (leaf : eqb cs 0 ≡ isLeaf x)
   where
-    head-last : siblingsFrom (suc d) isFirst prev (nodeBytes x s c cs true ++ r) ≡ record { nodes = toSibling x ∷ []; behind = r }
+    head-last : siblingsFrom (suc d) isFirst prev (nodeBytes x s c cs true ++ r) ≡ record {
+      nodes = toSibling x
+          ∷ [];
+      behind = r;
+    }
     head-last =
         rw (
           node-split x s c cs true r,
@@ -142,7 +171,8 @@ module _
         )
         refl
 
-    head-more : siblingsFrom (suc d) isFirst prev (nodeBytes x s c cs false ++ r) ≡ oneMore (toSibling x) (siblingsFrom d false (x .score) r)
+    head-more : siblingsFrom (suc d) isFirst prev (nodeBytes x s c cs false
+        ++ r) ≡ oneMore (toSibling x) (siblingsFrom d false (x .score) r)
     head-more =
         rw (
           node-split x s c cs false r,
@@ -155,9 +185,11 @@ module _
 
 siblings-of :
     (d : ℕ) (x : Node) (xs : List Node) (s back size : ℕ) (isFirst : Bool) (prev : ℕ) (r : List ℕ)
-    → length xs < d → ((y : Node) → y ∈ (x ∷ xs) → GoodNode y) → falling (map toEntry (x ∷ xs)) → Size size → eqb size 0 ≡ false
+    → length xs < d → ((y : Node) → y ∈ (x ∷ xs) → GoodNode y) → falling (map toEntry (x ∷ xs)) → Size size
+    → eqb size 0 ≡ false
     → s < 2 ^ 32 → scoreFrom isFirst prev s ≡ x .score
-    → siblingsFrom d isFirst prev (siblings s back size (x ∷ xs) ++ r) ≡ record { nodes = map toSibling (x ∷ xs); behind = r }
+    → siblingsFrom d isFirst prev (siblings s back size (x ∷ xs)
+    ++ r) ≡ record { nodes = map toSibling (x ∷ xs); behind = r }
 siblings-of zero x xs s back size isFirst prev r h g f z ne fits sc = absurd (omega arith)
 siblings-of (suc d) x [] s back size isFirst prev r h g f z ne fits sc =
     let st = step s back size x [] z ne in
@@ -168,13 +200,16 @@ siblings-of (suc d) x (y ∷ ys) s back size isFirst prev r h g f z ne fits sc =
     let lower : y .score ≤ x .score = f .0 in
     let high = g x (inl refl) .fits in
     let ih =
-    siblings-of d y ys (x .score - y .score) (st .back′) (st .size′) false (x .score) r (omega arith) (λ w m. g w (inr m)) (f .1) (st .z′)
+    siblings-of d y ys (x .score - y .score) (st .back′) (st .size′) false (x .score) r (omega arith)
+    (λ w m. g w (inr m)) (f .1) (st .z′)
     (st .ne′) (omega arith) (omega arith)
     in
     rw (
       st .eq,
-      append-assoc (nodeBytes x s (st .c) (st .cs) false) (siblings (x .score - y .score) (st .back′) (st .size′) (y ∷ ys)) r,
-      head-more d isFirst prev x s (st .c) (st .cs) (siblings (x .score - y .score) (st .back′) (st .size′) (y ∷ ys) ++ r) (st .z) (g x (inl refl)) fits sc (st .leaf),
+      append-assoc (nodeBytes x s (st .c) (st .cs) false) (siblings (x .score - y .score) (st .back′) (st .size′) (y
+          ∷ ys)) r,
+      head-more d isFirst prev x s (st .c) (st .cs) (siblings (x .score - y .score) (st .back′) (st .size′) (y ∷ ys)
+          ++ r) (st .z) (g x (inl refl)) fits sc (st .leaf),
       ih,
     )
     refl
@@ -185,7 +220,8 @@ sortedSets d es = sortBy (λ a b. standsBefore (nodeOf (groupOf d 0) a) (nodeOf 
 -- what a set is found as, where `found` is what its remains are found as
 unfoldable foundOf : (List Entry → List Entry) → List Entry → List Entry
 foundOf found s =
-    if usedUp (length (labelOf s)) s then (entry (labelOf s) (highest s) ∷ []) else prefixed (labelOf s) (found (remains (length (labelOf s)) s))
+    if usedUp (length (labelOf s)) s then (entry (labelOf s) (highest s)
+    ∷ []) else prefixed (labelOf s) (found (remains (length (labelOf s)) s))
 
 abbrev found : ℕ → List Entry → List Entry
 found zero es = []
@@ -193,14 +229,23 @@ found (suc d) es = concatMap (foundOf (found d)) (sortedSets d es)
 
 -- reading what stands under siblings
 under-leaf :
-    (g : ℕ → List ℕ → Found) (x : Sibling) (xs : List Sibling) (bs : List ℕ) → x .inner ≡ false
-    → foundUnder g (x ∷ xs) bs ≡ record { entries = entry (x .label) (x .score) ∷ foundUnder g xs bs .entries; behind = foundUnder g xs bs .behind }
+    (g : ℕ → List ℕ → FoundSuffixes) (x : Sibling) (xs : List Sibling) (bs : List ℕ) → x .inner ≡ false
+    → foundUnder g (x ∷ xs) bs ≡ record {
+      entries = entry (x .label) (x .score)
+          ∷ foundUnder g xs bs .entries;
+      behind = foundUnder g xs bs .behind;
+    }
 under-leaf g x xs bs e = rw (e, foundUnder)
 
 under-inner :
-    (g : ℕ → List ℕ → Found) (x : Sibling) (xs : List Sibling) (bs r : List ℕ) (es : List Entry) → x .inner ≡ true
+    (g : ℕ → List ℕ → FoundSuffixes) (x : Sibling) (xs : List Sibling) (bs r : List ℕ) (es : List Entry)
+    → x .inner ≡ true
     → g (x .score) bs ≡ record { entries = es; behind = r }
-    → foundUnder g (x ∷ xs) bs ≡ record { entries = prefixed (x .label) es ++ foundUnder g xs r .entries; behind = foundUnder g xs r .behind }
+    → foundUnder g (x ∷ xs) bs ≡ record {
+      entries = prefixed (x .label) es
+          ++ foundUnder g xs r .entries;
+      behind = foundUnder g xs r .behind;
+    }
 under-inner g x xs bs r es e q = rw (e, foundUnder) (rw q)
 
 -- a set whose group is read back
@@ -208,13 +253,16 @@ record Reads (d : ℕ) (s : List Entry) : Type 0 where
   some : usedUp (length (labelOf s)) s ≡ false → eqb (length (groupOf d 0 (remains (length (labelOf s)) s))) 0 ≡ false
   back :
       usedUp (length (labelOf s)) s ≡ false → (r : List ℕ)
-      → groupFrom d (highest s) (groupOf d 0 (remains (length (labelOf s)) s) ++ r) ≡ record { entries = found d (remains (length (labelOf s)) s); behind = r }
+      → groupFrom d (highest s) (groupOf d 0 (remains (length (labelOf s)) s)
+      ++ r) ≡ record { entries = found d (remains (length (labelOf s)) s); behind = r }
 
-pub node-leaf : (b : List Entry → List ℕ) (s : List Entry) → usedUp (length (labelOf s)) s ≡ true → nodeOf b s .under ≡ []
+pub node-leaf : (b : List Entry → List ℕ) (s : List Entry) → usedUp (length (labelOf s)) s ≡ true
+    → nodeOf b s .under ≡ []
 unfolding nodeOf
 node-leaf b s t = rw (t, nodeOf)
 
-pub node-inner : (b : List Entry → List ℕ) (s : List Entry) → usedUp (length (labelOf s)) s ≡ false → nodeOf b s .under ≡ b (remains (length (labelOf s)) s)
+pub node-inner : (b : List Entry → List ℕ) (s : List Entry) → usedUp (length (labelOf s)) s ≡ false
+    → nodeOf b s .under ≡ b (remains (length (labelOf s)) s)
 unfolding nodeOf
 node-inner b s t = rw (t, nodeOf)
 
@@ -234,7 +282,8 @@ unders xs = concatMap (λ x. x .under) xs
 
 under-of :
     (d : ℕ) (ss : List (List Entry)) (r : List ℕ) → ((s : List Entry) → s ∈ ss → Reads d s)
-    → foundUnder (groupFrom d) (map toSibling (nodes d ss)) (unders (nodes d ss) ++ r) ≡ record { entries = concatMap (foundOf (found d)) ss; behind = r }
+    → foundUnder (groupFrom d) (map toSibling (nodes d ss)) (unders (nodes d ss)
+    ++ r) ≡ record { entries = concatMap (foundOf (found d)) ss; behind = r }
 unfolding foundOf
 under-of d [] r h = refl
 under-of d (s ∷ ss) r h =
@@ -248,23 +297,66 @@ under-of d (s ∷ ss) r h =
     (λ t.
     let u = node-inner (groupOf d 0) s t in
     let k = h s (inl refl) in
-    under-inner (groupFrom d) (toSibling x) (map toSibling (nodes d ss)) (unders (nodes d (s ∷ ss)) ++ r) (unders (nodes d ss) ++ r) (found d (remains (length (labelOf s)) s))
+    under-inner (groupFrom d) (toSibling x) (map toSibling (nodes d ss)) (unders (nodes d (s ∷ ss))
+    ++ r) (unders (nodes d ss) ++ r) (found d (remains (length (labelOf s)) s))
     (rw (u, k .some t))
-    (rw (u, append-assoc (groupOf d 0 (remains (length (labelOf s)) s)) (unders (nodes d ss)) r, node-score) (k .back t (unders (nodes d ss) ++ r)))
+    (rw (
+      u,
+      append-assoc (groupOf d 0 (remains (length (labelOf s)) s)) (unders (nodes d ss)) r,
+      node-score,
+    ) (k .back t (unders (nodes d ss) ++ r)))
     ∙ rw (ih, t, node-label))
 
 -- a group of nodes read back
-pub node-length : (x : Node) (s c cs : ℕ) (last : Bool) → 1 ≤ length (nodeBytes x s c cs last)
+pub node-size : (x : Node) (s c cs : ℕ) (last : Bool)
+    → length (nodeBytes x s c cs last) ≡ 1 + sizeOf s + cs + length (x .label)
 unfolding nodeBytes
-node-length x s c cs last = omega arith
+node-size x s c cs last =
+    let a = length-append (be (sizeOf s) s) (be cs c ++ x .label) in
+    let b = length-append (be cs c) (x .label) in
+    let e = length-be (sizeOf s) s in
+    let f = length-be cs c in
+    omega arith
 
-pub siblings-leaf : (s b z : ℕ) (x : Node) (xs : List Node) → isLeaf x ≡ true → siblings s b z (x ∷ xs) ≡ nodeBytes x s 0 0 (isLast xs) ++ siblings (x .score - firstScore xs) b z xs
+pub siblings-leaf : (s b z : ℕ) (x : Node) (xs : List Node) → isLeaf x ≡ true
+    → siblings s b z (x ∷ xs) ≡ nodeBytes x s 0 0 (isLast xs) ++ siblings (x .score - firstScore xs) b z xs
 siblings-leaf s b z x xs t = rw t
 
 pub siblings-inner :
     (s b z : ℕ) (x : Node) (xs : List Node) → isLeaf x ≡ false
-    → siblings s b z (x ∷ xs) ≡ nodeBytes x s b z (isLast xs) ++ siblings (x .score - firstScore xs) (length (x .under)) (sizeOf (length (x .under))) xs
+    → siblings s b z (x ∷ xs) ≡ nodeBytes x s b z (isLast xs)
+    ++ siblings (x .score - firstScore xs) (length (x .under)) (sizeOf (length (x .under))) xs
 siblings-inner s b z x xs t = rw t
+
+-- does a node have children?
+abbrev pub anyInner : List Node → Bool
+anyInner [] = false
+anyInner (x ∷ xs) = if isLeaf x then anyInner xs else true
+
+-- the first child field of a group is of `z` bytes, and the others do not depend on it
+pub siblings-own : (f b z : ℕ) (xs : List Node) → anyInner xs ≡ true
+    → length (siblings f b z xs) ≡ length (siblings f 0 0 xs) + z
+siblings-own f b z [] h = absurd (false≢true h)
+siblings-own f b z (x ∷ xs) h =
+    by-test (isLeaf x)
+    (λ t.
+    let ih = siblings-own (x .score - firstScore xs) b z xs (rw t at h) in
+    let a = ap length (siblings-leaf f b z x xs t) in
+    let b′ = ap length (siblings-leaf f 0 0 x xs t) in
+    let c = length-append (nodeBytes x f 0 0 (isLast xs)) (siblings (x .score - firstScore xs) b z xs) in
+    let d = length-append (nodeBytes x f 0 0 (isLast xs)) (siblings (x .score - firstScore xs) 0 0 xs) in
+    omega arith)
+    (λ t.
+    let r = siblings (x .score - firstScore xs) (length (x .under)) (sizeOf (length (x .under))) xs in
+    let a = ap length (siblings-inner f b z x xs t) in
+    let b′ = ap length (siblings-inner f 0 0 x xs t) in
+    let c = length-append (nodeBytes x f b z (isLast xs))
+    (siblings (x .score - firstScore xs) (length (x .under)) (sizeOf (length (x .under))) xs) in
+    let d = length-append (nodeBytes x f 0 0 (isLast xs))
+    (siblings (x .score - firstScore xs) (length (x .under)) (sizeOf (length (x .under))) xs) in
+    let e = node-size x f b z (isLast xs) in
+    let g = node-size x f 0 0 (isLast xs) in
+    omega arith)
 
 pub siblings-length : (s b z : ℕ) (xs : List Node) → length xs ≤ length (siblings s b z xs)
 siblings-length s b z [] = omega arith
@@ -272,18 +364,25 @@ siblings-length s b z (x ∷ xs) =
     by-test (isLeaf x)
     (λ t.
     let ih = siblings-length (x .score - firstScore xs) b z xs in
-    let n = node-length x s 0 0 (isLast xs) in
-    rw (siblings-leaf s b z x xs t, length-append (nodeBytes x s 0 0 (isLast xs)) (siblings (x .score - firstScore xs) b z xs)) (omega arith))
+    let n = node-size x s 0 0 (isLast xs) in
+    rw (
+      siblings-leaf s b z x xs t,
+      length-append (nodeBytes x s 0 0 (isLast xs)) (siblings (x .score - firstScore xs) b z xs),
+    ) (omega arith))
     (λ t.
     let ih = siblings-length (x .score - firstScore xs) (length (x .under)) (sizeOf (length (x .under))) xs in
-    let n = node-length x s b z (isLast xs) in
-    rw (siblings-inner s b z x xs t, length-append (nodeBytes x s b z (isLast xs)) (siblings (x .score - firstScore xs) (length (x .under)) (sizeOf (length (x .under))) xs)) (omega arith))
+    let n = node-size x s b z (isLast xs) in
+    rw (
+      siblings-inner s b z x xs t,
+      length-append (nodeBytes x s b z (isLast xs))
+          (siblings (x .score - firstScore xs) (length (x .under)) (sizeOf (length (x .under))) xs),
+    ) (omega arith))
 
-abbrev pub own : ℕ → List Node → ℕ
-own s xs = ownSize (otherBytes s xs)
+abbrev pub ownField : ℕ → List Node → ℕ
+ownField s xs = ownSize (otherBytes s xs)
 
 abbrev pub ownSiblings : ℕ → List Node → List ℕ
-ownSiblings s xs = siblings s (otherBytes s xs + own s xs) (own s xs) xs
+ownSiblings s xs = siblings s (otherBytes s xs + ownField s xs) (ownField s xs) xs
 
 pub group-split : (s : ℕ) (xs : List Node) (r : List ℕ) → groupBytes s xs ++ r ≡ ownSiblings s xs ++ (unders xs ++ r)
 unfolding groupBytes
@@ -299,14 +398,17 @@ group-nodes x xs s prev r g f fits sc =
     let long = siblings-length s (o + ownSize o) (ownSize o) (x ∷ xs) in
     let a = length-append (ownSiblings s (x ∷ xs)) (unders (x ∷ xs) ++ r) in
     rw (group-split s (x ∷ xs) r)
-    (siblings-of (length (ownSiblings s (x ∷ xs) ++ (unders (x ∷ xs) ++ r))) x xs s (o + ownSize o) (ownSize o) true prev (unders (x ∷ xs) ++ r) (omega arith) g f
+    (siblings-of (length (ownSiblings s (x ∷ xs)
+    ++ (unders (x ∷ xs) ++ r))) x xs s (o + ownSize o) (ownSize o) true prev (unders (x ∷ xs) ++ r) (omega arith) g f
     (ownSize-size o) (ownSize-nonzero o) fits sc)
 
 read-group :
     (d : ℕ) (t : List Entry) (ts : List (List Entry)) (s prev : ℕ) (r : List ℕ)
-    → ((y : Node) → y ∈ nodes d (t ∷ ts) → GoodNode y) → falling (map toEntry (nodes d (t ∷ ts))) → s < 2 ^ 32 → prev + s ≡ highest t
+    → ((y : Node) → y ∈ nodes d (t ∷ ts) → GoodNode y) → falling (map toEntry (nodes d (t ∷ ts))) → s < 2 ^ 32
+    → prev + s ≡ highest t
     → ((u : List Entry) → u ∈ (t ∷ ts) → Reads d u)
-    → groupFrom (suc d) prev (groupBytes s (nodes d (t ∷ ts)) ++ r) ≡ record { entries = concatMap (foundOf (found d)) (t ∷ ts); behind = r }
+    → groupFrom (suc d) prev (groupBytes s (nodes d (t ∷ ts))
+    ++ r) ≡ record { entries = concatMap (foundOf (found d)) (t ∷ ts); behind = r }
 read-group d t ts s prev r g f fits sc h =
     let q = group-nodes (nodeOf (groupOf d 0) t) (nodes d ts) s prev r g f fits (rw node-score sc) in
     rw q (under-of d (t ∷ ts) r h)
@@ -328,7 +430,8 @@ set-different es s d m = different-flat s (byFirst es) (rw (byFirst-flat es) d) 
 pub run-some : (s : List Entry) → OneFirst s → 0 < length s
 run-some s (one-first e es k) = omega arith
 
-pub set-fit : (d : ℕ) (es s : List Entry) → Fit (suc d) es → s ∈ byFirst es → usedUp (length (labelOf s)) s ≡ false → Fit d (remains (length (labelOf s)) s)
+pub set-fit : (d : ℕ) (es s : List Entry) → Fit (suc d) es → s ∈ byFirst es → usedUp (length (labelOf s)) s ≡ false
+    → Fit d (remains (length (labelOf s)) s)
 set-fit d es s h m u =
     let ds = set-different es s (h .apart) m in
     let r = byFirst-run es s m in
@@ -354,7 +457,8 @@ set-fit d es s h m u =
 join-some : (e : Entry) (ss : List (List Entry)) → 0 < length (joinFirst e ss)
 join-some e [] = omega arith
 join-some e ([] ∷ ss) = omega arith
-join-some e ((f ∷ fs) ∷ ss) = by-test (sameFirst (e .name) (f .name)) (λ t. rw t (omega arith)) (λ t. rw t (omega arith))
+join-some e ((f ∷ fs) ∷ ss) = by-test (sameFirst (e .name) (f .name)) (λ t. rw t (omega arith))
+    (λ t. rw t (omega arith))
 
 pub byFirst-some : (es : List Entry) → 0 < length es → 0 < length (byFirst es)
 byFirst-some [] h = absurd (omega arith)
@@ -389,7 +493,8 @@ pub highest-append : (xs ys : List Entry) → highest (xs ++ ys) ≡ max (highes
 highest-append [] ys = omega arith
 highest-append (x ∷ xs) ys = let ih = highest-append xs ys in omega arith
 
-pub highest-flat : (b : ℕ) (ss : List (List Entry)) → ((s : List Entry) → s ∈ ss → highest s ≤ b) → highest (flat ss) ≤ b
+pub highest-flat : (b : ℕ) (ss : List (List Entry)) → ((s : List Entry) → s ∈ ss → highest s ≤ b)
+    → highest (flat ss) ≤ b
 highest-flat b [] h = omega arith
 highest-flat b (s ∷ ss) h =
     let a = h s (inl refl) in
@@ -397,7 +502,8 @@ highest-flat b (s ∷ ss) h =
     let e = highest-append s (flat ss) in
     omega arith
 
-highest-insert : (r : List Entry → List Entry → Bool) (s : List Entry) (ss : List (List Entry)) → highest (flat (insertBy r s ss)) ≡ max (highest s) (highest (flat ss))
+highest-insert : (r : List Entry → List Entry → Bool) (s : List Entry) (ss : List (List Entry))
+    → highest (flat (insertBy r s ss)) ≡ max (highest s) (highest (flat ss))
 highest-insert r s [] = highest-append s []
 highest-insert r s (t ∷ ts) =
     let ih = highest-insert r s ts in
@@ -406,7 +512,8 @@ highest-insert r s (t ∷ ts) =
     let c = highest-append s (t ++ flat ts) in
     by-test (r t s) (λ q. rw q (omega arith)) (λ q. rw q (omega arith))
 
-pub highest-sort : (r : List Entry → List Entry → Bool) (ss : List (List Entry)) → highest (flat (sortBy r ss)) ≡ highest (flat ss)
+pub highest-sort : (r : List Entry → List Entry → Bool) (ss : List (List Entry))
+    → highest (flat (sortBy r ss)) ≡ highest (flat ss)
 highest-sort r [] = refl
 highest-sort r (s ∷ ss) =
     let ih = highest-sort r ss in
@@ -415,7 +522,8 @@ highest-sort r (s ∷ ss) =
     omega arith
 
 -- the first sibling's score is the highest of all
-first-highest : (d : ℕ) (t : List Entry) (ts : List (List Entry)) → falling (map toEntry (nodes d (t ∷ ts))) → highest (flat (t ∷ ts)) ≡ highest t
+first-highest : (d : ℕ) (t : List Entry) (ts : List (List Entry)) → falling (map toEntry (nodes d (t ∷ ts)))
+    → highest (flat (t ∷ ts)) ≡ highest t
 first-highest d t ts f =
     let a = highest-flat (highest t) ts each in
     let b = highest-append t (flat ts) in
@@ -423,7 +531,9 @@ first-highest d t ts f =
   where
     each : (s : List Entry) → s ∈ ts → highest s ≤ highest t
     each s m =
-        let q = falling-head (toEntry (nodeOf (groupOf d 0) t)) (map toEntry (nodes d ts)) f (toEntry (nodeOf (groupOf d 0) s)) (in-map toEntry (nodeOf (groupOf d 0) s) (nodes d ts) (in-map (nodeOf (groupOf d 0)) s ts m)) in
+        let q = falling-head (toEntry (nodeOf (groupOf d 0) t)) (map toEntry (nodes d ts)) f
+        (toEntry (nodeOf (groupOf d 0) s))
+        (in-map toEntry (nodeOf (groupOf d 0) s) (nodes d ts) (in-map (nodeOf (groupOf d 0)) s ts m)) in
         let x = node-score (groupOf d 0) s in
         let y = node-score (groupOf d 0) t in
         omega arith
@@ -439,19 +549,25 @@ set-good d es u h m =
 abbrev Back : ℕ → List Entry → Type 0
 Back d t =
     usedUp (length (labelOf t)) t ≡ false → (q : List ℕ)
-    → groupFrom d (highest t) (groupOf d 0 (remains (length (labelOf t)) t) ++ q) ≡ record { entries = found d (remains (length (labelOf t)) t); behind = q }
+    → groupFrom d (highest t) (groupOf d 0 (remains (length (labelOf t)) t)
+    ++ q) ≡ record { entries = found d (remains (length (labelOf t)) t); behind = q }
 
 sets-group :
     (d : ℕ) (es : List Entry) (s prev : ℕ) (r : List ℕ) → Fit (suc d) es → s < 2 ^ 32 → prev + s ≡ highest es
-    → (ss : List (List Entry)) → 0 < length ss → ((t : List Entry) → t ∈ ss → t ∈ byFirst es) → falling (map toEntry (nodes d ss))
+    → (ss : List (List Entry)) → 0 < length ss → ((t : List Entry) → t ∈ ss → t ∈ byFirst es)
+    → falling (map toEntry (nodes d ss))
     → highest (flat ss) ≡ highest es → ((t : List Entry) → t ∈ ss → Back d t)
-    → groupFrom (suc d) prev (groupBytes s (nodes d ss) ++ r) ≡ record { entries = concatMap (foundOf (found d)) ss; behind = r }
+    → groupFrom (suc d) prev (groupBytes s (nodes d ss)
+    ++ r) ≡ record { entries = concatMap (foundOf (found d)) ss; behind = r }
 sets-group d es s prev r h fits sc [] ne from f top ih = absurd (omega arith)
 sets-group d es s prev r h fits sc (t ∷ ts) ne from f top ih =
     read-group d t ts s prev r
     (λ y m. good y (map-in (nodeOf (groupOf d 0)) y (t ∷ ts) m))
     f fits (sc ∙ sym top ∙ first-highest d t ts f)
-    (λ u m. record { some = λ q. group-some d (remains (length (labelOf u)) u) (set-fit d es u h (from u m) q); back = ih u m })
+    (λ u m. record {
+      some = λ q. group-some d (remains (length (labelOf u)) u) (set-fit d es u h (from u m) q);
+      back = ih u m;
+    })
   where
     good : (y : Node) → (u : List Entry) × (u ∈ (t ∷ ts)) × (y ≡ nodeOf (groupOf d 0) u) → GoodNode y
     good y q = rw (q .2) (set-good d es (q .0) h (from (q .0) (q .1)))
@@ -468,18 +584,25 @@ group-of (suc d) es s prev r h fits sc =
     (sets-group d es s prev r h fits sc (sortedSets d es) (omega arith)
     (λ t m. sort-in (λ a b. standsBefore (nodeOf (groupOf d 0) a) (nodeOf (groupOf d 0) b)) t (byFirst es) m)
     (nodes-falling d es)
-    (highest-sort (λ a b. standsBefore (nodeOf (groupOf d 0) a) (nodeOf (groupOf d 0) b)) (byFirst es) ∙ ap highest (byFirst-flat es))
+    (highest-sort (λ a b. standsBefore (nodeOf (groupOf d 0) a) (nodeOf (groupOf d 0) b)) (byFirst es)
+    ∙ ap highest (byFirst-flat es))
     (λ t m u q.
     group-of d (remains (length (labelOf t)) t) 0 (highest t) q
-    (set-fit d es t h (sort-in (λ a b. standsBefore (nodeOf (groupOf d 0) a) (nodeOf (groupOf d 0) b)) t (byFirst es) m) u)
+    (set-fit d es t h (sort-in (λ a b. standsBefore (nodeOf (groupOf d 0) a) (nodeOf (groupOf d 0) b)) t (byFirst es)
+    m) u)
     (omega arith)
     (let z = highest-remains (length (labelOf t)) t in omega arith)))
 
 -- what is found is what was written, counted by any test
-put-back : (s : List Entry) (e : Entry) → e ∈ s → entry (labelOf s ++ drop (length (labelOf s)) (e .name)) (e .score) ≡ e
-put-back s e m = entry-eq (entry (labelOf s ++ drop (length (labelOf s)) (e .name)) (e .score)) e (sym (label-split s e m)) refl
+put-back : (s : List Entry) (e : Entry) → e ∈ s
+    → entry (labelOf s ++ drop (length (labelOf s)) (e .name)) (e .score) ≡ e
+put-back s e m = entry-eq (entry (labelOf s
+    ++ drop (length (labelOf s)) (e .name)) (e .score)) e (sym (label-split s e m)) refl
 
-found-set : (d : ℕ) (q : Entry → Bool) (s : List Entry) → (usedUp (length (labelOf s)) s ≡ false → (p : Entry → Bool) → count p (found d (remains (length (labelOf s)) s)) ≡ count p (remains (length (labelOf s)) s)) → count q (foundOf (found d) s) ≡ count q s
+found-set : (d : ℕ) (q : Entry → Bool) (s : List Entry)
+    → (usedUp (length (labelOf s)) s ≡ false → (p : Entry → Bool)
+    → count p (found d (remains (length (labelOf s)) s)) ≡ count p (remains (length (labelOf s)) s))
+    → count q (foundOf (found d) s) ≡ count q s
 unfolding foundOf
 found-set d q s ih =
     by-test (usedUp (length (labelOf s)) s)
@@ -496,8 +619,10 @@ found-set d q s ih =
 found-count : (d : ℕ) (es : List Entry) → Fit d es → (q : Entry → Bool) → count q (found d es) ≡ count q es
 found-count zero es h q = absurd (fit-positive es h)
 found-count (suc d) es h q =
-    count-concat-sort (foundOf (found d)) q (λ a b. standsBefore (nodeOf (groupOf d 0) a) (nodeOf (groupOf d 0) b)) (byFirst es)
-    ∙ count-concat-ext (foundOf (found d)) (λ s. s) q (byFirst es) (λ s m. found-set d q s (λ u p. found-count d (remains (length (labelOf s)) s) (set-fit d es s h m u) p))
+    count-concat-sort (foundOf (found d)) q (λ a b. standsBefore (nodeOf (groupOf d 0) a) (nodeOf (groupOf d 0) b))
+    (byFirst es)
+    ∙ count-concat-ext (foundOf (found d)) (λ s. s) q (byFirst es)
+    (λ s m. found-set d q s (λ u p. found-count d (remains (length (labelOf s)) s) (set-fit d es s h m u) p))
     ∙ ap (count q) (byFirst-flat es)
 
 pub valid-fit : (es : List Entry) → Valid es → 0 < length es → Fit levels es
@@ -512,11 +637,13 @@ valid-fit es v ne =
 
 trieEntries-of : (es : List Entry) (rest : List ℕ) → Valid es → trieEntries (trieImage es ++ rest) ≡ es
 unfolding trieEntries trieImage
-trieEntries-of es rest v = rw (framed-count 0x31 (length es) (groupOf levels (highest es) es) rest (omega (arith, v .few))) (go es refl)
+trieEntries-of es rest v = rw (framed-count 0x31 (length es) (groupOf levels (highest es) es) rest
+    (omega (arith, v .few))) (go es refl)
   where
     go :
         (fs : List Entry) → es ≡ fs
-        → (if eqb (length es) 0 then [] else sortBy nameBelow (groupFrom levels 0 (drop 7 (framed 0x31 (length es) (groupOf levels (highest es) es) ++ rest)) .entries))
+        → (if eqb (length es) 0 then [] else sortBy nameBelow
+        (groupFrom levels 0 (drop 7 (framed 0x31 (length es) (groupOf levels (highest es) es) ++ rest)) .entries))
         ≡ es
     go [] q = rw q
     go (f ∷ fs) q =

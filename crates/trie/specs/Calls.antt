@@ -6,18 +6,19 @@ use lib.Dec.{ltb}
 use lib.ListN.{length}
 use Rattle.entries.specs.Completion.{completion}
 use Rattle.entries.specs.Names.{isPrefix}
-use Rattle.book.specs.Answers.{Offered, Outcome, Written, _when_, converting, entriesBytes, entriesOf, isRead, writing}
+use Rattle.answer.specs.Answers.{OfferedCounts, Outcome, WrittenCounts, _when_, converting, entriesBytes, writing}
+use Rattle.frame.specs.Frame.{entriesOf, isRead}
 use Rattle.book.specs.Book.{readBook}
 use Rattle.completion.specs.Complete.{badCount, entryRoom, offeredAs}
 use Rattle.trie.specs.Reading.{readTrie}
 use Rattle.trie.specs.Trie.{trieImage}
 
 -- write the trie of a book's entries
-unfoldable pub writeTrie : List ℕ → List ℕ → Outcome Written
+unfoldable pub writeTrie : List ℕ → List ℕ → Outcome WrittenCounts
 writeTrie book dst = converting readBook trieImage book dst
 
 -- completion from a trie: it takes no ranges and reports looks 0
-unfoldable pub completeTrie : List ℕ → List ℕ → ℕ → List ℕ → Outcome Offered
+unfoldable pub completeTrie : List ℕ → List ℕ → ℕ → List ℕ → Outcome OfferedCounts
 completeTrie trie p k dst =
     let l = completion (entriesOf (readTrie trie)) p k in
     writing

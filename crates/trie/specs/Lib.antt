@@ -1,4 +1,4 @@
-pub mod Trie
-pub mod Reading
 pub mod Calls
+pub mod Reading
+pub mod Trie
 pub mod Worked

@@ -9,7 +9,7 @@ use lib.ListN.{drop, length, take}
 use Rattle.octets.specs.Lists.{if_then_else_, sortBy}
 use Rattle.octets.specs.Octets.{fromBe}
 use Rattle.entries.specs.Entries.{Entry, entry, nameBelow}
-use Rattle.book.specs.Frame.{countOf, readAs}
+use Rattle.frame.specs.Frame.{countOf, readAs}
 use Rattle.trie.specs.Trie.{levels, trieImage}
 
 -- Reading. The four fields of a header byte.
@@ -64,11 +64,12 @@ siblingsFrom (suc d) isFirst prev [] = record { nodes = []; behind = [] }
 siblingsFrom (suc d) isFirst prev (h ∷ bs) =
     elim (lastMark h) [
       | true ↦ record { nodes = siblingOf isFirst prev h bs ∷ []; behind = behindSibling h bs }
-      | false ↦ oneMore (siblingOf isFirst prev h bs) (siblingsFrom d false (siblingOf isFirst prev h bs .score) (behindSibling h bs))
+      | false ↦ oneMore (siblingOf isFirst prev h bs)
+          (siblingsFrom d false (siblingOf isFirst prev h bs .score) (behindSibling h bs))
     ]
 
 -- suffixes found, and what stands behind them
-pub record Found : Type 0 where
+pub record FoundSuffixes : Type 0 where
   pub entries : List Entry
   pub behind : List ℕ
 
@@ -76,7 +77,7 @@ abbrev pub prefixed : List ℕ → List Entry → List Entry
 prefixed w es = map (λ e. entry (w ++ e .name) (e .score)) es
 
 -- what siblings stand for, where `group` reads the group of a node of a score
-abbrev pub foundUnder : (ℕ → List ℕ → Found) → List Sibling → List ℕ → Found
+abbrev pub foundUnder : (ℕ → List ℕ → FoundSuffixes) → List Sibling → List ℕ → FoundSuffixes
 foundUnder group [] bs = record { entries = []; behind = bs }
 foundUnder group (x ∷ xs) bs =
     elim (x .inner) [
@@ -89,7 +90,7 @@ foundUnder group (x ∷ xs) bs =
           record { entries = entry (x .label) (x .score) ∷ r .entries; behind = r .behind }
     ]
 
-abbrev pub groupFrom : ℕ → ℕ → List ℕ → Found
+abbrev pub groupFrom : ℕ → ℕ → List ℕ → FoundSuffixes
 groupFrom zero prev bs = record { entries = []; behind = bs }
 groupFrom (suc d) prev bs =
     let g = siblingsFrom (length bs) true prev bs in

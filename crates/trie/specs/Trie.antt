@@ -8,7 +8,7 @@ use Rattle.octets.specs.Lists.{concatMap, if_then_else_, sortBy}
 use Rattle.octets.specs.Octets.{be, common}
 use Rattle.entries.specs.Entries.{Entry, entry, outranks}
 use Rattle.entries.specs.Names.{longestName}
-use Rattle.book.specs.Frame.{framed}
+use Rattle.frame.specs.Frame.{framed}
 
 -- Suffixes are entries whose name is what is left of a name. A set of them is in name order.
 -- Do two suffixes begin with the same byte, or are both empty?
@@ -41,7 +41,8 @@ abbrev pub highest : List Entry → ℕ
 highest [] = 0
 highest (e ∷ es) = max (e .score) (highest es)
 
--- A node of a sibling group: its label, its score, the bytes of the group below it with all descendants (none for a leaf).
+-- A node of a sibling group: its label, its score, the bytes of the group below it with all descendants (none for a
+-- leaf).
 pub record Node : Type 0 where
   pub label : List ℕ
   pub score : ℕ
@@ -75,17 +76,18 @@ abbrev pub isLast : List Node → Bool
 isLast [] = true
 isLast (x ∷ xs) = false
 
--- Siblings in order. s is the first one's score field. `back` and `size` are the child field of the next node that has children: counted
--- from the first child of the nearest earlier one with children, it is the length of what stands under that one, as the groups under
--- the nodes follow in order.
+-- Siblings in order. s is the first one's score field. `back` and `size` are the child field of the next node that has
+-- children: counted from the first child of the nearest earlier one with children, it is the length of what stands
+-- under that one, as the groups under the nodes follow in order.
 abbrev pub siblings : ℕ → ℕ → ℕ → List Node → List ℕ
 siblings s back size [] = []
 siblings s back size (x ∷ xs) =
     nodeBytes x s (if isLeaf x then 0 else back) (if isLeaf x then 0 else size) (isLast xs)
-    ++ siblings (x .score - firstScore xs) (if isLeaf x then back else length (x .under)) (if isLeaf x then size else sizeOf (length (x .under))) xs
+    ++ siblings (x .score - firstScore xs) (if isLeaf x then back else length (x .under))
+    (if isLeaf x then size else sizeOf (length (x .under))) xs
 
--- The child field that counts from where the group begins counts its own bytes: with `rest` other bytes in the group, the smallest
--- size that holds the sum.
+-- The child field that counts from where the group begins counts its own bytes: with `rest` other bytes in the group,
+-- the smallest size that holds the sum.
 abbrev pub ownSize : ℕ → ℕ
 ownSize rest = if ltb (rest + 1) 256 then 1 else if ltb (rest + 2) 65536 then 2 else 4
 
@@ -96,7 +98,8 @@ otherBytes s xs = length (siblings s 0 0 xs)
 -- a group whose first score field is s, and behind it the groups of its nodes in order, each with all its descendants
 unfoldable pub groupBytes : ℕ → List Node → List ℕ
 groupBytes s xs =
-    siblings s (otherBytes s xs + ownSize (otherBytes s xs)) (ownSize (otherBytes s xs)) xs ++ concatMap (λ x. x .under) xs
+    siblings s (otherBytes s xs + ownSize (otherBytes s xs)) (ownSize (otherBytes s xs)) xs
+    ++ concatMap (λ x. x .under) xs
 
 -- siblings stand in falling score, at equal scores by label
 abbrev pub standsBefore : Node → Node → Bool

@@ -10,13 +10,16 @@ use Rattle.octets.specs.Text.{text}
 use Rattle.entries.specs.Completion.{completion}
 use Rattle.entries.specs.Entries.{Entry, entry, valid}
 use Rattle.entries.specs.Names.{allowedBytes, isName, isPrefix, isScore}
-use Rattle.front_coding.specs.Records.{recordLength, recordName, recordOf}
-use Rattle.book.specs.Answers.{entriesBytes, entryBytes, writing, writingImage}
-use Rattle.book.specs.Book.{bookImage, entriesIn, imageIn, offset, offsets, peak, peaks, readBook, readIn, recordsAt, scores}
-use Rattle.book.specs.Frame.{countOf, framed, readAs}
-use Rattle.book.specs.Shown.{E, P1, P2, P3, P4, answerEntry, changed, letters, listed, shownOffered, shownRead, shownWritten, spare}
+use Rattle.book.specs.Records.{recordLength, recordName, recordOf}
+use Rattle.answer.specs.Answers.{entriesBytes, entryBytes, writing, writingImage}
+use Rattle.book.specs.Book.{bookImage, entriesIn, imageIn, offset, offsets, peak, peaks, readBook, readIn, recordsAt}
+use Rattle.book.specs.Book.{scores}
+use Rattle.frame.specs.Frame.{countOf, framed, readAs}
+use Rattle.book.specs.Shown.{E, P1, P2, P3, P4, answerEntry, changed, letters, listed, shownOffered, shownRead}
+use Rattle.book.specs.Shown.{shownWritten, spare}
 use Rattle.trie.specs.Calls.{completeTrie, writeTrie}
-use Rattle.trie.specs.Reading.{behindSibling, childSize, labelLength, lastMark, readTrie, scoreSize, siblingOf, trieEntries}
+use Rattle.trie.specs.Reading.{behindSibling, childSize, labelLength, lastMark, readTrie, scoreSize, siblingOf}
+use Rattle.trie.specs.Reading.{trieEntries}
 use Rattle.trie.specs.Trie.{groupBytes, headerByte, nodeBytes, nodeOf, otherBytes, trieImage}
 
 -- 31 names behind p, each of 7 bytes and of score 0: leaves of 8 bytes each
@@ -91,10 +94,13 @@ images =
     ∷ (trieImage (entry (replicate 15 0x78) 0 ∷ [])
     gives trieOf 1 (0x1F ∷ 0x09 ∷ replicate 7 0x78 ++ (0x1F ∷ 0x09 ∷ replicate 7 0x78) ++ (0x09 ∷ 0x78 ∷ [])))
     ∷ (trieImage (entry (text "abcdefgh1") 2 ∷ entry (text "abcdefgh2") 1 ∷ [])
-    gives trieOf 2 (0x5F ∷ 0x02 ∷ 0x0A ∷ text "abcdefg" ++ (0x19 ∷ 0x03 ∷ text "h") ++ (0x01 ∷ text "1" ++ (0x49 ∷ 0x01 ∷ text "2"))))
+    gives trieOf 2 (0x5F ∷ 0x02 ∷ 0x0A ∷ text "abcdefg" ++ (0x19 ∷ 0x03 ∷ text "h")
+    ++ (0x01 ∷ text "1" ++ (0x49 ∷ 0x01 ∷ text "2"))))
     -- falling score, at equal scores by label
-    ∷ (trieImage (letters 0x61 (1 ∷ 1 ∷ 2 ∷ [])) gives trieOf 3 (0x41 ∷ 0x02 ∷ 0x63 ∷ 0x41 ∷ 0x01 ∷ 0x61 ∷ 0x09 ∷ 0x62 ∷ []))
-    ∷ (trieImage (letters 0x61 (44 ∷ 300 ∷ [])) gives trieOf 2 (0x81 ∷ 0x01 ∷ 0x2C ∷ 0x62 ∷ 0x89 ∷ 0x01 ∷ 0x00 ∷ 0x61 ∷ []))
+    ∷ (trieImage (letters 0x61 (1 ∷ 1 ∷ 2 ∷ [])) gives trieOf 3 (0x41 ∷ 0x02 ∷ 0x63 ∷ 0x41 ∷ 0x01 ∷ 0x61 ∷ 0x09 ∷ 0x62
+    ∷ []))
+    ∷ (trieImage (letters 0x61 (44 ∷ 300 ∷ [])) gives trieOf 2 (0x81 ∷ 0x01 ∷ 0x2C ∷ 0x62 ∷ 0x89 ∷ 0x01 ∷ 0x00 ∷ 0x61
+    ∷ []))
     -- the smallest score field that holds the value
     ∷ (alone 0 gives (0x09 ∷ 0x61 ∷ []))
     ∷ (alone 255 gives (0x49 ∷ 0xFF ∷ 0x61 ∷ []))
@@ -134,7 +140,8 @@ readings =
     gives listed (entry (text "ab") 0 ∷ entry (text "ac") 0 ∷ []))
     ∷ (shownRead (readTrie (trieOf 2 (0x29 ∷ 0x00 ∷ 0x04 ∷ 0x61 ∷ 0x01 ∷ 0x62 ∷ 0x09 ∷ 0x63 ∷ []))) gives [])
     -- a first sibling with a score field
-    ∷ (shownRead (readTrie (trieOf 2 (0x59 ∷ 0x05 ∷ 0x04 ∷ 0x61 ∷ 0x41 ∷ 0x01 ∷ 0x62 ∷ 0x49 ∷ 0x01 ∷ 0x63 ∷ []))) gives [])
+    ∷ (shownRead (readTrie (trieOf 2 (0x59 ∷ 0x05 ∷ 0x04 ∷ 0x61 ∷ 0x41 ∷ 0x01 ∷ 0x62 ∷ 0x49 ∷ 0x01 ∷ 0x63 ∷ []))) gives
+    [])
     -- siblings of equal scores, not by label; with one label; with one first byte; the last without its mark
     ∷ (shownRead (readTrie (trieOf 2 (0x01 ∷ 0x62 ∷ 0x09 ∷ 0x61 ∷ []))) gives [])
     ∷ (shownRead (readTrie (trieOf 2 (0x01 ∷ 0x61 ∷ 0x09 ∷ 0x61 ∷ []))) gives [])
@@ -146,7 +153,8 @@ readings =
     -- an empty name; a byte that is not allowed; 48 bytes and 49
     ∷ (shownRead (readTrie (trieOf 1 (0x08 ∷ []))) gives [])
     ∷ (shownRead (readTrie (trieOf 1 (0x09 ∷ 0x7F ∷ []))) gives [])
-    ∷ (shownRead (readTrie (trieImage (entry (replicate 48 0x78) 1 ∷ []))) gives listed (entry (replicate 48 0x78) 1 ∷ []))
+    ∷ (shownRead (readTrie (trieImage (entry (replicate 48 0x78) 1 ∷ []))) gives listed (entry (replicate 48 0x78) 1
+    ∷ []))
     ∷ (shownRead (readTrie (trieImage (entry (replicate 49 0x78) 1 ∷ []))) gives [])
     ∷ []
 
@@ -164,7 +172,8 @@ calls =
     -- completion: "rc" is not lost; a prefix that ends within a label; none; the empty trie with bytes behind it
     ∷ (shownOffered (completeTrie (P4 ++ spare 3) (text "rc") 5 (spare 265))
     gives (0 ∷ 2 ∷ 19 ∷ 0 ∷ answerEntry "rc" 9 ++ answerEntry "rc step" 9 ++ spare 246))
-    ∷ (shownOffered (completeTrie P4 (text "rc s") 1 (spare 53)) gives (0 ∷ 1 ∷ 12 ∷ 0 ∷ answerEntry "rc step" 9 ++ spare 41))
+    ∷ (shownOffered (completeTrie P4 (text "rc s") 1 (spare 53))
+    gives (0 ∷ 1 ∷ 12 ∷ 0 ∷ answerEntry "rc step" 9 ++ spare 41))
     ∷ (shownOffered (completeTrie P4 [] 1 (spare 54)) gives (0 ∷ 1 ∷ 7 ∷ 0 ∷ answerEntry "rl" 12 ++ spare 47))
     ∷ (shownOffered (completeTrie P4 (text "q") 1 (spare 53)) gives (0 ∷ 0 ∷ 0 ∷ 0 ∷ spare 53))
     ∷ (shownOffered (completeTrie (P2 ++ spare 9) [] 16 (spare 848)) gives (0 ∷ 0 ∷ 0 ∷ 0 ∷ spare 848))
@@ -186,5 +195,8 @@ abbrev table : List Row
 table = images ++ readings ++ calls
 
 worked : failing 0 table ≡ []
-unfolding be fromBe allowedBytes isPrefix isName isScore valid completion recordOf recordName recordLength framed countOf readAs scores peak peaks recordsAt offset offsets imageIn entriesIn readIn bookImage readBook writing writingImage entryBytes entriesBytes headerByte nodeBytes otherBytes groupBytes nodeOf trieImage scoreSize childSize lastMark labelLength siblingOf behindSibling trieEntries readTrie writeTrie completeTrie
+unfolding be fromBe allowedBytes isPrefix isName isScore valid completion recordOf recordName recordLength framed
+    countOf readAs scores peak peaks recordsAt offset offsets imageIn entriesIn readIn bookImage readBook writing
+    writingImage entryBytes entriesBytes headerByte nodeBytes otherBytes groupBytes nodeOf trieImage scoreSize
+    childSize lastMark labelLength siblingOf behindSibling trieEntries readTrie writeTrie completeTrie
 worked = refl

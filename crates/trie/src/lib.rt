@@ -1,1 +1,1 @@
-// Definitions in specs/, laws in proofs/; no functions.
+// The trie image, trie writing and completion from a trie: definitions in specs/, laws in proofs/.

@@ -10,28 +10,30 @@ use native.Mathlib.Omega.{arith}
 use borrow.Author.Tests.{eq-eqb, ne-eqb}
 use Rattle.octets.proofs.Numbers.{Bytes}
 use Rattle.octets.proofs.Tests.{by-test}
-use Rattle.book_check.specs.Checked.{endedAs}
+use Rattle.frame_code.specs.Image.{endedAs}
 use Rattle.trie.specs.Trie.{longestLabel}
-use Rattle.trie_walk.specs.Walk.{afterInner, afterNode, begin, behindGroup, beneath, endAfter, endOf, headOf, inNode, inRest, into, nodeOn, nodeThen, noneSeen, onward, reachedBy, scoreOf, stands, walkOf}
-use Rattle.trie_walk.proofs.Sound.{end-past}
-use Rattle.trie_walk.proofs.Stand.{Stands, stands-true}
-use Rattle.trie_fields.specs.Known.{EndIs, EndKnown}
-use Rattle.trie_fields.proofs.Heads.{Read}
-use Rattle.trie_check.specs.Known.{Ahead, GroupIs, NodeIs, Onward}
-use Rattle.book_check.specs.declared.Ended.the-variants as ended
-use Rattle.book_check.specs.declared.Ended.{Ended}
-use Rattle.trie_walk.specs.declared.Fields.{Fields}
-use Rattle.trie_walk.specs.declared.Head.the-variants as head
-use Rattle.trie_walk.specs.declared.Head.{Head}
-use Rattle.trie_walk.specs.declared.Place.{Place}
-use Rattle.trie_walk.specs.declared.Reached.the-variants as reached
-use Rattle.trie_walk.specs.declared.Reached.{Reached}
-use Rattle.trie_walk.specs.declared.Step.the-variants.{Bad, Next}
-use Rattle.trie_walk.specs.declared.Step.{Step}
+use Rattle.trie_check_laws.specs.Walk.{afterInner, afterNode, andThen, beginGroup, behindGroup, beneath, endAfter}
+use Rattle.trie_check_laws.specs.Walk.{groupEnd, headOf, inNode, inRest, into, nodeOn, nodeThen, noneSeen, reachedBy}
+use Rattle.trie_check_laws.specs.Walk.{scoreOf, stands, walkOf}
+use Rattle.trie_check_laws.proofs.Sound.{end-past}
+use Rattle.trie_check_laws.proofs.Stand.{FieldsStand, stands-true}
+use Rattle.trie_check_fields.specs.Known.{EndIs, EndKnown}
+use Rattle.trie_check_fields.proofs.Heads.{Read}
+use Rattle.trie_check.specs.Known.{GroupIs, GroupKnown, NodeIs, NodeKnown}
+use Rattle.frame_code.specs.declared.Ended.the-variants as ended
+use Rattle.frame_code.specs.declared.Ended.{Ended}
+use Rattle.trie_check_laws.specs.declared.Fields.{Fields}
+use Rattle.trie_check_laws.specs.declared.Head.the-variants as head
+use Rattle.trie_check_laws.specs.declared.Head.{Head}
+use Rattle.trie_check_laws.specs.declared.Among.{Among}
+use Rattle.trie_check_laws.specs.declared.BehindNode.the-variants as reached
+use Rattle.trie_check_laws.specs.declared.BehindNode.{BehindNode}
+use Rattle.trie_check_laws.specs.declared.WalkEnd.the-variants.{Bad, Next}
+use Rattle.trie_check_laws.specs.declared.WalkEnd.{WalkEnd}
 
 -- A node that stands in its place, and what is below it.
-module _ (p : Place) (n : Fields) (ok : stands p n ≡ true) where
-  stood : Stands p n
+module _ (p : Among) (n : Fields) (ok : stands p n ≡ true) where
+  stood : FieldsStand p n
   stood = stands-true p n ok
 
   pub falls : p .first ≡ false → n .field ≤ p .score
@@ -43,65 +45,72 @@ module _ (p : Place) (n : Fields) (ok : stands p n ≡ true) where
   pub path-short : p .path + n .len ≤ 48
   path-short = stood .within
 
-module _ (s : List ℕ) (p : Place) (n : Fields) where
-  pub node-leaf : n .size ≡ 0 → {q : Place} → q ≡ afterNode p n (p .next) (p .back) (p .own) (p .left - 1) → NodeIs s p n (reached.At q)
+module _ (s : List ℕ) (p : Among) (n : Fields) where
+  pub node-leaf : n .size ≡ 0 → {q : Among} → q ≡ afterNode p n (p .next) (p .back) (p .own) (p .left - 1)
+      → NodeIs s p n (reached.At q)
   node-leaf z e k lt = rw (eq-eqb (n .size) 0 z) (ap reached.At e)
 
-  module _ (ne : n .size ≡ 0 → ⊥) {v : ℕ} (vi : v ≡ scoreOf p n) {w : Step} (g : GroupIs s (p .next) (p .path + n .len) v (eqb (n .len) longestLabel) (p .left) w) where
+  module _ (ne : n .size ≡ 0 → ⊥) {v : ℕ} (vi : v ≡ scoreOf p n) {w : WalkEnd}
+      (g : GroupIs s (p .next) (p .path + n .len) v (eqb (n .len) longestLabel) (p .left) w) where
     walked : (k : ℕ) → 4 * (length s - p .next) < k → w ≡ walkOf s k (beneath p n)
     walked = subst (λ u. GroupIs s (p .next) (p .path + n .len) u (eqb (n .len) longestLabel) (p .left) w) vi g
 
     pub node-bad : w ≡ Bad → NodeIs s p n reached.Bad
     node-bad e k lt = rw (ne-eqb (n .size) 0 ne, ← walked k lt, e)
 
-    pub node-more : {m left : ℕ} → w ≡ Next m left → {q : Place} → q ≡ afterNode p n m (m - p .next) false left → NodeIs s p n (reached.At q)
+    pub node-more : {m left : ℕ} → w ≡ Next m left → {q : Among} → q ≡ afterNode p n m (m - p .next) false left
+        → NodeIs s p n (reached.At q)
     node-more e c k lt = rw (ne-eqb (n .size) 0 ne, ← walked k lt, e) (ap reached.At c)
 
 -- where the next group is to begin behind a node
 pub onward-to :
-    (p : Place) (n : Fields) (nx bk lf : ℕ) (ow : Bool) (l : ℕ) {q : Place} → q ≡ afterNode p n nx bk ow lf → p .next ≤ nx → nx ≤ l
-    → Onward (reached.At q) (p .next) l
+    (p : Among) (n : Fields) (nx bk lf : ℕ) (ow : Bool) (l : ℕ) {q : Among} → q ≡ afterNode p n nx bk ow lf
+    → p .next ≤ nx → nx ≤ l
+    → NodeKnown (reached.At q) (p .next) l
 onward-to p n nx bk lf ow l e a b = rw e (a, b)
 
-pub ahead-of : {w : Step} {m left at n : ℕ} → w ≡ Next m left → Ahead w at n → (at < m) × (m ≤ n)
-ahead-of {at = at} {n = n} e a = subst (λ x. Ahead x at n) e a
+pub ahead-of : {w : WalkEnd} {m left at n : ℕ} → w ≡ Next m left → GroupKnown w at n → (at < m) × (m ≤ n)
+ahead-of {at = at} {n = n} e a = subst (λ x. GroupKnown x at n) e a
 
-pub onward-of : {w : Reached} {q : Place} {p n : ℕ} → w ≡ reached.At q → Onward w p n → (p ≤ q .next) × (q .next ≤ n)
-onward-of {p = p} {n = n} e a = subst (λ x. Onward x p n) e a
+onward-of : {w : BehindNode} {q : Among} {p n : ℕ} → w ≡ reached.At q → NodeKnown w p n → (p ≤ q .next)
+    × (q .next ≤ n)
+onward-of {p = p} {n = n} e a = subst (λ x. NodeKnown x p n) e a
 
 pub end-of : {w : Ended} {e at n : ℕ} → w ≡ ended.At e → EndKnown w at n → (at < e) × (e ≤ n)
 end-of {at = at} {n = n} q a = subst (λ x. EndKnown x at n) q a
 
 -- The node in a place and the siblings behind it.
-abbrev pub RestIs : List ℕ → Place → List ℕ → Step → Type 0
+abbrev pub RestIs : List ℕ → Among → List ℕ → WalkEnd → Type 0
 RestIs s p seen r = (k : ℕ) → 2 * (length s - p .at) + 2 * (length s - p .next) < k → r ≡ walkOf s k (inNode p seen)
 
-pub rest-cut : (s : List ℕ) (p : Place) (seen : List ℕ) {w : Head} → w ≡ headOf s (p .at) → w ≡ head.Cut → RestIs s p seen Bad
+pub rest-cut : (s : List ℕ) (p : Among) (seen : List ℕ) {w : Head} → w ≡ headOf s (p .at) → w ≡ head.Cut
+    → RestIs s p seen Bad
 unfolding walkOf
 rest-cut s p seen e q zero lt = absurd (omega arith)
 rest-cut s p seen e q (suc k) lt = sym (ap (λ x. nodeThen x p seen (walkOf s k)) (sym e ∙ q))
 
 -- what follows a node, from the place behind it
-abbrev then : Reached → (Place → Step) → Step
+abbrev then : BehindNode → (Among → WalkEnd) → WalkEnd
 then reached.Bad f = Bad
 then (reached.At q) f = f q
 
-by-group : (p : Place) (n : Fields) (v : Step) (f : Place → Step) → onward v (λ m left. f (afterInner p n m left)) ≡ then (behindGroup v p n) f
+by-group : (p : Among) (n : Fields) (v : WalkEnd) (f : Among → WalkEnd)
+    → andThen v (λ m left. f (afterInner p n m left)) ≡ then (behindGroup v p n) f
 by-group p n Bad f = refl
 by-group p n (Next m left) f = refl
 
 -- the place behind a node is where it ends
-reached-end : (p : Place) (n : Fields) (v : Step) {q : Place} → reached.At q ≡ reachedBy p n v → q .at ≡ n .end
+reached-end : (p : Among) (n : Fields) (v : WalkEnd) {q : Among} → reached.At q ≡ reachedBy p n v → q .at ≡ n .end
 reached-end p n v e = by-test (eqb (n .size) 0) (λ t. leaf (rw t at e)) (λ t. inner v (rw t at e))
   where
-    leaf : {q r : Place} → reached.At q ≡ reached.At r → q .at ≡ r .at
+    leaf : {q r : Among} → reached.At q ≡ reached.At r → q .at ≡ r .at
     leaf h = cc
 
-    inner : {q : Place} (w : Step) → reached.At q ≡ behindGroup w p n → q .at ≡ n .end
+    inner : {q : Among} (w : WalkEnd) → reached.At q ≡ behindGroup w p n → q .at ≡ n .end
     inner Bad h = absurd (let z : _≡_ {A = ℕ} 0 1 = cc in omega arith)
     inner (Next m left) h = leaf h
 
-module _ (s : List ℕ) (p : Place) (seen : List ℕ) (n : Fields) (r : Read s (p .at) n) where
+module _ (s : List ℕ) (p : Among) (seen : List ℕ) (n : Fields) (r : Read s (p .at) n) where
   pub rest-out : stands p n ≡ false → RestIs s p seen Bad
   unfolding walkOf
   rest-out t zero lt = absurd (omega arith)
@@ -111,40 +120,48 @@ module _ (s : List ℕ) (p : Place) (seen : List ℕ) (n : Fields) (r : Read s (
     pub rest-twice : (getD seen (n .key) 0 ≡ 0 → ⊥) → RestIs s p seen Bad
     unfolding walkOf
     rest-twice g zero lt = absurd (omega arith)
-    rest-twice g (suc k) lt = sym (ap (λ x. nodeThen x p seen (walkOf s k)) (r .head) ∙ rw (ok, ne-eqb (getD seen (n .key) 0) 0 g))
+    rest-twice g (suc k) lt = sym (ap (λ x. nodeThen x p seen (walkOf s k)) (r .head)
+        ∙ rw (ok, ne-eqb (getD seen (n .key) 0) 0 g))
 
-    module _ (new : getD seen (n .key) 0 ≡ 0) (before : p .at < p .next) (within : p .next ≤ length s) {w : Reached} (i : NodeIs s p n w) where
+    module _ (new : getD seen (n .key) 0 ≡ 0) (before : p .at < p .next) (within : p .next ≤ length s) {w : BehindNode}
+        (i : NodeIs s p n w) where
       abbrev marked : List ℕ
       marked = set seen (n .key) 1
 
-      by-place : (k : ℕ) → nodeOn (eqb (n .size) 0) p seen n (walkOf s k) ≡ then (reachedBy p n (walkOf s k (beneath p n))) (λ q. walkOf s k (inRest q marked (n .last)))
-      by-place k = by-test (eqb (n .size) 0) (λ t. rw t) (λ t. rw t (by-group p n (walkOf s k (beneath p n)) (λ q. walkOf s k (inRest q marked (n .last)))))
+      by-place : (k : ℕ) → nodeOn (eqb (n .size) 0) p seen n (walkOf s k) ≡ then
+          (reachedBy p n (walkOf s k (beneath p n))) (λ q. walkOf s k (inRest q marked (n .last)))
+      by-place k = by-test (eqb (n .size) 0) (λ t. rw t)
+          (λ t. rw t (by-group p n (walkOf s k (beneath p n)) (λ q. walkOf s k (inRest q marked (n .last)))))
 
-      step : (k : ℕ) → 4 * (length s - p .next) < k → walkOf s (suc k) (inNode p seen) ≡ then w (λ q. walkOf s k (inRest q marked (n .last)))
+      step : (k : ℕ) → 4 * (length s - p .next) < k
+          → walkOf s (suc k) (inNode p seen) ≡ then w (λ q. walkOf s k (inRest q marked (n .last)))
       unfolding walkOf
       step k lt =
           ap (λ x. nodeThen x p seen (walkOf s k)) (r .head)
           ∙ rw (ok, eq-eqb (getD seen (n .key) 0) 0 new) (by-place k)
           ∙ ap (λ x. then x (λ q. walkOf s k (inRest q marked (n .last)))) (sym (i k lt))
 
-      pub rest-bad : w ≡ reached.Bad → RestIs s p seen Bad
+      rest-bad : w ≡ reached.Bad → RestIs s p seen Bad
       rest-bad e zero lt = absurd (omega arith)
-      rest-bad e (suc k) lt = sym (step k (omega arith) ∙ ap (λ x. then x (λ q. walkOf s k (inRest q marked (n .last)))) e)
+      rest-bad e (suc k) lt = sym (step k (omega arith)
+          ∙ ap (λ x. then x (λ q. walkOf s k (inRest q marked (n .last)))) e)
 
-      module _ {q : Place} (e : w ≡ reached.At q) where
-        at-rest : (k : ℕ) → 4 * (length s - p .next) < k → walkOf s (suc k) (inNode p seen) ≡ walkOf s k (inRest q marked (n .last))
+      module _ {q : Among} (e : w ≡ reached.At q) where
+        at-rest : (k : ℕ) → 4 * (length s - p .next) < k
+            → walkOf s (suc k) (inNode p seen) ≡ walkOf s k (inRest q marked (n .last))
         at-rest k lt = step k lt ∙ ap (λ x. then x (λ q. walkOf s k (inRest q marked (n .last)))) e
 
-        pub next-at : q .at ≡ n .end
-        next-at = reached-end p n (walkOf s (suc (4 * length s)) (beneath p n)) (sym e ∙ i (suc (4 * length s)) (omega arith))
+        next-at : q .at ≡ n .end
+        next-at = reached-end p n (walkOf s (suc (4 * length s)) (beneath p n)) (sym e
+            ∙ i (suc (4 * length s)) (omega arith))
 
-        pub rest-last : n .last ≡ true → RestIs s p seen (Next (q .next) (q .left))
+        rest-last : n .last ≡ true → RestIs s p seen (Next (q .next) (q .left))
         unfolding walkOf
         rest-last t zero lt = absurd (omega arith)
         rest-last t (suc zero) lt = absurd (let a = r .past in let b = r .within in omega arith)
         rest-last t (suc (suc k)) lt = sym (at-rest (suc k) (omega arith) ∙ rw t)
 
-        pub rest-more : n .last ≡ false → p .next ≤ q .next → {d : Step} → RestIs s q marked d → RestIs s p seen d
+        rest-more : n .last ≡ false → p .next ≤ q .next → {d : WalkEnd} → RestIs s q marked d → RestIs s p seen d
         unfolding walkOf
         rest-more t on i zero lt = absurd (omega arith)
         rest-more t on i (suc zero) lt = absurd (let a = r .past in let b = r .within in omega arith)
@@ -156,7 +173,7 @@ module _ (s : List ℕ) (p : Place) (seen : List ℕ) (n : Fields) (r : Read s (
 
 -- A group. It ends at e, with some number of turns.
 abbrev Stops : List ℕ → ℕ → ℕ → Type 0
-Stops s at e = (m : ℕ) × (endOf s m at ≡ some e)
+Stops s at e = (m : ℕ) × (groupEnd s m at ≡ some e)
 
 no-end : {e : ℕ} → none ≡ some e → ⊥
 no-end h = let z : _≡_ {A = ℕ} 0 1 = cc in omega arith
@@ -166,40 +183,45 @@ told-at none h = absurd (let z : _≡_ {A = ℕ} 0 1 = cc in omega arith)
 told-at (some x) h = cc
 
 stops-on : (s : List ℕ) (at e : ℕ) (n : Fields) → Stops s at e → Read s at n → n .last ≡ false → Stops s (n .end) e
-unfolding endOf
+unfolding groupEnd
 stops-on s at e n h r t = go (h .0) (h .1)
   where
-    go : (m : ℕ) → endOf s m at ≡ some e → Stops s (n .end) e
+    go : (m : ℕ) → groupEnd s m at ≡ some e → Stops s (n .end) e
     go zero q = absurd (no-end q)
-    go (suc m) q = (m, sym (ap (λ x. endAfter x (endOf s m)) (r .head) ∙ rw t) ∙ q)
+    go (suc m) q = (m, sym (ap (λ x. endAfter x (groupEnd s m)) (r .head) ∙ rw t) ∙ q)
 
 pub group-bad :
-    (s : List ℕ) (at path score : ℕ) (full : Bool) (left : ℕ) {w : Ended} → EndIs s at w → w ≡ ended.Damaged → GroupIs s at path score full left Bad
+    (s : List ℕ) (at path score : ℕ) (full : Bool) (left : ℕ) {w : Ended} → EndIs s at w → w ≡ ended.Damaged
+    → GroupIs s at path score full left Bad
 unfolding walkOf
 group-bad s at path score full left i q zero lt = absurd (omega arith)
 group-bad s at path score full left i q (suc k) lt =
-    sym (ap (λ o. into o (λ e. walkOf s k (inNode (begin at e path score full left) noneSeen))) (told-none (endOf s (suc k) at) (sym (i (suc k) (omega arith)) ∙ q)))
+    sym (ap (λ o. into o (λ e. walkOf s k (inNode (beginGroup at e path score full left) noneSeen)))
+    (told-none (groupEnd s (suc k) at) (sym (i (suc k) (omega arith)) ∙ q)))
   where
     told-none : (o : Option ℕ) → endedAs o ≡ ended.Damaged → o ≡ none
     told-none none h = refl
     told-none (some x) h = absurd (let z : _≡_ {A = ℕ} 0 1 = cc in omega arith)
 
--- Among the siblings of the group at `at`, which ends at e: what is walked from the place p on gives the walk over the whole group.
-pub record Going (s : List ℕ) (at path score : ℕ) (full : Bool) (left e : ℕ) (p : Place) (seen : List ℕ) : Type 0 where
-  pub array : length seen ≡ 128
-  pub onto : (r : Step) → RestIs s p seen r → GroupIs s at path score full left r
-  pub stops : Stops s (p .at) e
-  pub past : at < e
-  pub on : e ≤ p .next
-  pub within : p .next ≤ length s
+-- Among the siblings of the group at `at`, which ends at e: what is walked from the place p on gives the walk over the
+-- whole group.
+pub record GroupGoing (s : List ℕ) (at path score : ℕ) (full : Bool) (left e : ℕ) (p : Among) (seen : List ℕ) : Type 0
+  where
+    pub array : length seen ≡ 128
+    pub onto : (r : WalkEnd) → RestIs s p seen r → GroupIs s at path score full left r
+    pub stops : Stops s (p .at) e
+    pub past : at < e
+    pub on : e ≤ p .next
+    pub within : p .next ≤ length s
 
 pub going-start :
-    (s : List ℕ) (at path score : ℕ) (full : Bool) (left e : ℕ) {w : Ended} → EndIs s at w → w ≡ ended.At e → EndKnown w at (length s)
-    → {p : Place} → p ≡ begin at e path score full left → Going s at path score full left e p noneSeen
+    (s : List ℕ) (at path score : ℕ) (full : Bool) (left e : ℕ) {w : Ended} → EndIs s at w → w ≡ ended.At e
+    → EndKnown w at (length s)
+    → {p : Among} → p ≡ beginGroup at e path score full left → GroupGoing s at path score full left e p noneSeen
 unfolding walkOf
 going-start s at path score full left e {w} i q known {p} b =
     let m = end-of q known in
-    subst (λ x. Going s at path score full left e x noneSeen) (sym b)
+    subst (λ x. GroupGoing s at path score full left e x noneSeen) (sym b)
     (record {
       array = length-replicate {A = ℕ} 128 0;
       onto = onto;
@@ -209,41 +231,47 @@ going-start s at path score full left e {w} i q known {p} b =
       within = m .1;
     })
   where
-    ends : (k : ℕ) → length s - at < k → endOf s k at ≡ some e
-    ends k lt = told-at (endOf s k at) (sym (i k lt) ∙ q)
+    ends : (k : ℕ) → length s - at < k → groupEnd s k at ≡ some e
+    ends k lt = told-at (groupEnd s k at) (sym (i k lt) ∙ q)
 
-    onto : (r : Step) → RestIs s (begin at e path score full left) noneSeen r → GroupIs s at path score full left r
+    onto : (r : WalkEnd) → RestIs s (beginGroup at e path score full left) noneSeen r
+        → GroupIs s at path score full left r
     onto r j zero lt = absurd (omega arith)
     onto r j (suc k) lt =
         let m = end-of q known in
         j k (omega (arith, m .0, m .1))
-        ∙ sym (ap (λ o. into o (λ c. walkOf s k (inNode (begin at c path score full left) noneSeen))) (ends (suc k) (omega arith)))
+        ∙ sym (ap (λ o. into o (λ c. walkOf s k (inNode (beginGroup at c path score full left) noneSeen)))
+        (ends (suc k) (omega arith)))
 
-module _ {s : List ℕ} {at path score : ℕ} {full : Bool} {left e : ℕ} {p : Place} {seen : List ℕ} (g : Going s at path score full left e p seen) where
-  pub going-before : Bytes s → p .at < p .next
+module _ {s : List ℕ} {at path score : ℕ} {full : Bool} {left e : ℕ} {p : Among} {seen : List ℕ}
+    (g : GroupGoing s at path score full left e p seen) where
+  going-before : Bytes s → p .at < p .next
   going-before b = let a = end-past s b (g .stops .0) (p .at) e (g .stops .1) in omega (arith, a .0, g .on)
 
   module _
-      (b : Bytes s) {n : Fields} (r : Read s (p .at) n) (ok : stands p n ≡ true) (new : getD seen (n .key) 0 ≡ 0) {w : Reached}
-      (i : NodeIs s p n w) (o : Onward w (p .next) (length s))
+      (b : Bytes s) {n : Fields} (r : Read s (p .at) n) (ok : stands p n ≡ true) (new : getD seen (n .key) 0 ≡ 0)
+      {w : BehindNode}
+      (i : NodeIs s p n w) (o : NodeKnown w (p .next) (length s))
     where
       pub going-bad : w ≡ reached.Bad → GroupIs s at path score full left Bad
       going-bad q = g .onto Bad (rest-bad s p seen n r ok new (going-before b) (g .within) i q)
 
-      module _ {q : Place} (h : w ≡ reached.At q) where
+      module _ {q : Among} (h : w ≡ reached.At q) where
         pub going-last : n .last ≡ true → GroupIs s at path score full left (Next (q .next) (q .left))
-        going-last t = g .onto (Next (q .next) (q .left)) (rest-last s p seen n r ok new (going-before b) (g .within) i h t)
+        going-last t = g .onto (Next (q .next) (q .left))
+            (rest-last s p seen n r ok new (going-before b) (g .within) i h t)
 
-        pub going-ahead : Ahead (Next (q .next) (q .left)) at (length s)
+        pub going-ahead : GroupKnown (Next (q .next) (q .left)) at (length s)
         going-ahead = let a = onward-of h o in (omega (arith, g .past, g .on, a .0), a .1)
 
-        pub going-on : n .last ≡ false → Going s at path score full left e q (set seen (n .key) 1)
+        pub going-on : n .last ≡ false → GroupGoing s at path score full left e q (set seen (n .key) 1)
         going-on t =
             let a = onward-of h o in
             record {
               array = length-set seen (n .key) 1 ∙ g .array;
               onto = λ d j. g .onto d (rest-more s p seen n r ok new (going-before b) (g .within) i h t (a .0) j);
-              stops = subst (λ x. Stops s x e) (sym (next-at s p seen n r ok new (going-before b) (g .within) i h)) (stops-on s (p .at) e n (g .stops) r t);
+              stops = subst (λ x. Stops s x e) (sym (next-at s p seen n r ok new (going-before b) (g .within) i h))
+                  (stops-on s (p .at) e n (g .stops) r t);
               past = g .past;
               on = omega (arith, g .on, a .0);
               within = a .1;
@@ -251,4 +279,5 @@ module _ {s : List ℕ} {at path score : ℕ} {full : Bool} {left e : ℕ} {p : 
 
         -- the bytes from the place on are fewer
         pub going-less : length s - q .at < length s - p .at
-        going-less = let c = next-at s p seen n r ok new (going-before b) (g .within) i h in omega (arith, c, r .past, r .within)
+        going-less = let c = next-at s p seen n r ok new (going-before b) (g .within) i h in
+            omega (arith, c, r .past, r .within)

@@ -1,21 +1,35 @@
-// The check of a trie image: group and node call each other down the tree, and each rule of the layout is tested where it applies.
+// The check of a trie image: group and node call each other down the tree, and each rule of the layout is tested where
+// it applies.
+use frame_code::Ended;
+use frame_code::Frame;
+use frame_code::Image;
+use limits::FRAME_LENGTH;
+use limits::LONGEST_LABEL;
+use limits::TRIE_VERSION;
 ghost use mathlib.Core.Path.{_≡_};
 ghost use mathlib.Core.Bool.{true};
 ghost use Prim.Native.Nat.{_≤_};
 ghost use lib.ListN.{length};
-ghost use Rattle.book_check.specs.Checked.{checkedAs};
+ghost use Rattle.frame_code.specs.Image.{imageAs};
 ghost use Rattle.trie.specs.Reading.{readTrie};
-ghost use Rattle.trie_walk.specs.Walk.{stands};
-ghost use Rattle.trie_check.specs.Known.{Ahead, GroupIs, NodeIs, Onward};
+ghost use Rattle.trie_check_laws.specs.Walk.{stands};
+ghost use Rattle.trie_check.specs.Known.{GroupIs, GroupKnown, NodeIs, NodeKnown};
+
+// The keys of labels: 0 for the empty one, else one more than a byte from 20 to 7E.
+const KEYS: usize = 128;
 
 // A node that stands in its place, with all that stands below it: the place behind it.
-fn node(buf: &[u8], p: trie_walk::Place, n: trie_walk::Fields) -> trie_walk::Reached
+fn node(
+    buf: &[u8],
+    p: trie_check_laws::Among,
+    n: trie_check_laws::Fields,
+) -> trie_check_laws::BehindNode
     requires { ⌜ (p .next ≤ length (now buf)) × (stands p n ≡ true) ⌝ }
     ensures is { λ r. ⌜ NodeIs (now (buf .entry)) p n r ⌝ }
-    ensures known { λ r. ⌜ Onward r (p .next) (length (now (buf .entry))) ⌝ }
+    ensures known { λ r. ⌜ NodeKnown r (p .next) (length (now (buf .entry))) ⌝ }
 {
     if n.size == 0 {
-        return trie_walk::Reached::At(trie_place::after_node(
+        return trie_check_laws::BehindNode::At(trie_check_rules::after_node(
             p,
             n,
             p.next,
@@ -24,18 +38,25 @@ fn node(buf: &[u8], p: trie_walk::Place, n: trie_walk::Fields) -> trie_walk::Rea
             p.left - 1,
         ));
     }
-    let score = trie_place::new_score(p, n);
-    let trie_walk::Step::Next(end, left) = group(
+    let score = trie_check_rules::new_score(p, n);
+    let trie_check_laws::WalkEnd::Next(end, left) = group(
         buf,
         p.next,
         p.path + n.len,
         score,
-        n.len == 7,
+        n.len == LONGEST_LABEL,
         p.left,
     ) else {
-        return trie_walk::Reached::Bad;
+        return trie_check_laws::BehindNode::Bad;
     };
-    trie_walk::Reached::At(trie_place::after_node(p, n, end, end - p.next, false, left))
+    trie_check_laws::BehindNode::At(trie_check_rules::after_node(
+        p,
+        n,
+        end,
+        end - p.next,
+        false,
+        left,
+    ))
 }
 
 // The group at a position, with all its descendants. `seen` has a mark for each key of the siblings before.
@@ -46,69 +67,59 @@ fn group(
     score: usize,
     full: bool,
     left: usize,
-) -> trie_walk::Step
+) -> trie_check_laws::WalkEnd
     ensures is { λ r. ⌜ GroupIs (now (buf .entry)) at path score full left r ⌝ }
-    ensures known { λ r. ⌜ Ahead r at (length (now (buf .entry))) ⌝ }
+    ensures known { λ r. ⌜ GroupKnown r at (length (now (buf .entry))) ⌝ }
 {
-    let book_check::Ended::At(next) = trie_fields::group_end(buf, at) else {
-        return trie_walk::Step::Bad;
+    let Ended::At(next) = trie_check_fields::group_end(buf, at) else {
+        return trie_check_laws::WalkEnd::Bad;
     };
-    let mut p = trie_place::begin_at(at, next, path, score, full, left);
-    let mut seen = [0u8; 128];
+    let mut p = trie_check_rules::begin_at(at, next, path, score, full, left);
+    let mut seen = [0u8; KEYS];
     loop {
-        let trie_walk::Head::Node(n) = trie_fields::head_at(buf, p.at) else {
-            return trie_walk::Step::Bad;
+        let trie_check_laws::Head::Node(n) = trie_check_fields::head_at(buf, p.at) else {
+            return trie_check_laws::WalkEnd::Bad;
         };
-        if !trie_place::fits_here(p, n) {
-            return trie_walk::Step::Bad;
+        if !trie_check_rules::fits_here(p, n) {
+            return trie_check_laws::WalkEnd::Bad;
         }
         let key = n.key;
         if seen[key] != 0 {
-            return trie_walk::Step::Bad;
+            return trie_check_laws::WalkEnd::Bad;
         }
         seen[key] = 1;
-        let trie_walk::Reached::At(q) = node(buf, p, n) else {
-            return trie_walk::Step::Bad;
+        let trie_check_laws::BehindNode::At(q) = node(buf, p, n) else {
+            return trie_check_laws::WalkEnd::Bad;
         };
         if n.last {
-            return trie_walk::Step::Next(q.next, q.left);
+            return trie_check_laws::WalkEnd::Next(q.next, q.left);
         }
         p = q;
     }
 }
 
 // Checks the trie at the front of a buffer: how many entries it has.
-pub fn check(buf: &[u8]) -> book_check::Checked
-    ensures { λ r. ⌜ r ≡ checkedAs (readTrie (now (buf .entry))) ⌝ }
+pub fn check(buf: &[u8]) -> Image
+    ensures { λ r. ⌜ r ≡ imageAs (readTrie (now (buf .entry))) ⌝ }
 {
-    if buf.len() < 7 {
-        return book_check::Checked::Damaged;
-    }
-    if buf[0] != 0x31 {
-        return book_check::Checked::Damaged;
-    }
-    let n = numbers::read_u16(buf, 5) as usize;
-    if 1024 < n {
-        return book_check::Checked::Damaged;
-    }
-    let total = numbers::read_u32(buf, 1) as usize;
-    if buf.len() < total {
-        return book_check::Checked::Damaged;
-    }
-    if n == 0 {
-        if total != 7 {
-            return book_check::Checked::Damaged;
+    let Frame::Holds { entries, total } = frame_code::check_frame(buf, TRIE_VERSION) else {
+        return Image::Damaged;
+    };
+    if entries == 0 {
+        if total != FRAME_LENGTH {
+            return Image::Damaged;
         }
-        return book_check::Checked::Book(0);
+        return Image::Entries(0);
     }
-    let trie_walk::Step::Next(end, left) = group(buf, 7, 0, 0, true, n) else {
-        return book_check::Checked::Damaged;
+    let trie_check_laws::WalkEnd::Next(end, left) = group(buf, FRAME_LENGTH, 0, 0, true, entries)
+    else {
+        return Image::Damaged;
     };
     if end != total {
-        return book_check::Checked::Damaged;
+        return Image::Damaged;
     }
     if left != 0 {
-        return book_check::Checked::Damaged;
+        return Image::Damaged;
     }
-    book_check::Checked::Book(n)
+    Image::Entries(entries)
 }

@@ -11,7 +11,7 @@ use Rattle.octets.proofs.Tests.{by-test}
 use Rattle.trie.specs.Trie.{codeOf, headerByte}
 
 -- a code takes two bits
-pub code-small : (size : ℕ) → size ≤ 4 → codeOf size < 4
+code-small : (size : ℕ) → size ≤ 4 → codeOf size < 4
 code-small size h = by-test (eqb size 4) (λ t. rw t (lit< tt)) (λ t. rw t (let q = eqb-false size 4 t in omega arith))
 
 -- the score's code s, the child's c, the mark m, the label's length l
@@ -20,7 +20,8 @@ packed :
     → bitOr (s * 64 % 256) (bitOr (c * 16 % 256) (bitOr m l)) ≡ s * 64 + c * 16 + (if last then 8 else 0) + l
 packed s c last m l hs hc hl e = go last e
   where
-    one : (t : ℕ) → t < 2 → m ≡ t * 8 → bitOr (s * 64 % 256) (bitOr (c * 16 % 256) (bitOr m l)) ≡ s * 64 + (c * 16 + (t * 8 + l))
+    one : (t : ℕ) → t < 2 → m ≡ t * 8
+        → bitOr (s * 64 % 256) (bitOr (c * 16 % 256) (bitOr m l)) ≡ s * 64 + (c * 16 + (t * 8 + l))
     one t ht q =
         let ms : s * 64 % 256 ≡ s * 64 = omega (arith, hs) in
         let mc : c * 16 % 256 ≡ c * 16 = omega (arith, hc) in
@@ -29,7 +30,8 @@ packed s c last m l hs hc hl e = go last e
         ∙ ap (bitOr (s * 64)) (or-shifted c 4 (t * 8 + l) (omega (arith, ht, hl)))
         ∙ or-shifted s 6 (c * 16 + (t * 8 + l)) (omega (arith, hc, ht, hl))
 
-    go : (b : Bool) → m ≡ (if b then 8 else 0) → bitOr (s * 64 % 256) (bitOr (c * 16 % 256) (bitOr m l)) ≡ s * 64 + c * 16 + (if b then 8 else 0) + l
+    go : (b : Bool) → m ≡ (if b then 8 else 0)
+        → bitOr (s * 64 % 256) (bitOr (c * 16 % 256) (bitOr m l)) ≡ s * 64 + c * 16 + (if b then 8 else 0) + l
     go true q = one 1 (lit< tt) q ∙ omega arith
     go false q = one 0 (lit< tt) q ∙ omega arith
 

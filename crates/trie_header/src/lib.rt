@@ -1,7 +1,10 @@
-// The header byte of a trie node and the sizes of its fields: written and read by shifts and masks.
+// A trie node: its header byte and the sizes of its fields, written and read by shifts and masks; a field and the label
+// read where they lie.
 ghost use mathlib.Core.Path.{_≡_};
-ghost use Prim.Native.Nat.{_<_, _≤_};
+ghost use Prim.Native.Nat.{_+_, _<_, _≤_};
+ghost use lib.ListN.{drop, length, take};
 ghost use Rattle.octets.specs.Lists.{if_then_else_};
+ghost use Rattle.octets.specs.Octets.{numberAt};
 ghost use Rattle.trie.specs.Reading.{childSize, labelLength, lastMark, scoreSize, sizeAt};
 ghost use Rattle.trie.specs.Trie.{codeOf, headerByte, ownSize, sizeOf};
 
@@ -102,4 +105,30 @@ pub fn label_length(h: u8) -> usize
     ensures { λ r. ⌜ r ≡ labelLength h ⌝ }
 {
     (h & 7) as usize
+}
+
+// The number in a field of 0, 1, 2 or 4 bytes.
+pub fn field_at(buf: &[u8], at: usize, size: usize) -> u32
+    requires { ⌜ (at + size ≤ length (now buf)) × (size ≤ 4) × (size ≡ 3 → ⊥) ⌝ }
+    ensures { λ r. ⌜ r ≡ numberAt size (now (buf .entry)) at ⌝ }
+{
+    if size == 0 {
+        return 0;
+    }
+    if size == 1 {
+        return buf[at] as u32;
+    }
+    if size == 2 {
+        return octets_code::read_u16(buf, at) as u32;
+    }
+    octets_code::read_u32(buf, at)
+}
+
+// The label of so many bytes at an index, a part of the buffer.
+pub fn label_part<'a>(buf: &'a [u8], at: usize, len: usize) -> &'a [u8]
+    requires { ⌜ at + len ≤ length (now buf) ⌝ }
+    ensures { λ r. ⌜ now r ≡ take len (drop at (now (buf .entry))) ⌝ }
+{
+    let end = at + len;
+    &buf[at..end]
 }

@@ -1,9 +1,9 @@
--- `book_best::best_in` meets its contract. The loop's invariant: nothing from `first` to before `i` outranks `b` (specs/Best).
--- The measure is the number of positions left. Assumes nothing.
+-- `book_best::best_in` meets its contract. The loop's invariant: nothing from `first` to before `i` outranks `b`
+-- (specs/Best). The measure is the number of positions left. Assumes nothing.
 use Prim.Native.Nat.{_-_}
 use native.Mathlib.Omega.{arith}
 use Rattle.book.specs.Book.{inBook}
-use Rattle.book.proofs.Lookups.{held-few}
+use Rattle.book_laws.proofs.Held.{held-few}
 use Rattle.book_best.specs.Best.{Tops}
 use Rattle.book_best.proofs.Tops.{tops-best, tops-turn}
 use Rattle.book_best.proofs.best_in.Statement.{statement}

@@ -1,47 +1,26 @@
 -- `book_check::offset_is` meets its contract: its tests are those of `offsetIs`.
 -- No loop, so no invariant. Assumes nothing.
 use native.Mathlib.Omega.{arith}
-use borrow.Author.Needs.{needs}
-use borrow.Author.Tests.{eq-eqb, ne-eqb}
-use Rattle.book.specs.Check.{offsetIs}
+use borrow.Author.Tests.{not-false, not-true}
+use Rattle.book_laws.specs.Check.{offsetIs}
 use Rattle.book_check.proofs.offset_is.Statement.{statement}
 use Rattle.book_check.proofs.offset_is.Tie as tie
 
+is-head-requires : tie.Need-is-head-requires
+is-head-requires c κs = tt
+
 returns : tie.Need-returns
 unfolding offsetIs
-returns c = rw (ne-eqb _ _ (c .if1 .taken))
+returns c = rw (← c .before .is-head .ensures, not-true (c .before .is-head .result) (c .if1 .taken))
 
-mul-read-u16 : tie.Need-mul-read-u16
-mul-read-u16 c = omega arith
-
-add-read-u16 : tie.Need-add-read-u16
-add-read-u16 c = omega arith
-
-mul-read-u16-2 : tie.Need-mul-read-u16-2
-mul-read-u16-2 c = omega arith
-
-add-read-u16-2 : tie.Need-add-read-u16-2
-add-read-u16-2 c = omega arith
-
-read-u16-requires : tie.Need-read-u16-requires
-read-u16-requires c κs = search needs
-
-cast-result : tie.Need-cast-result
-cast-result c = search needs
+offset-at-requires : tie.Need-offset-at-requires
+offset-at-requires c κs = omega arith
 
 returns-2 : tie.Need-returns-2
 unfolding offsetIs
-returns-2 c = rw (eq-eqb _ _ (c .before .if1 .left), ← c .read-u16 .ensures)
+returns-2 c =
+    let h = c .before .before .is-head in
+    rw (← h .ensures, not-false (h .result) (c .before .if1 .left), ← c .offset-at .ensures)
 
 pub offset-is-spec : {M : Type 1} → statement M
-offset-is-spec =
-    tie.close
-    (tie.spec
-    returns
-    mul-read-u16
-    add-read-u16
-    mul-read-u16-2
-    add-read-u16-2
-    read-u16-requires
-    cast-result
-    returns-2)
+offset-is-spec = tie.close (tie.spec is-head-requires returns offset-at-requires returns-2)

@@ -13,8 +13,8 @@ Inv-loop buf n blocks j₀ j = Peaks buf n j
 abbrev μ-loop : tie.MeasureT-loop
 μ-loop buf n blocks j₀ j = blocks - j
 
-add-blocks : tie.Need-add-blocks Inv-loop μ-loop
-add-blocks c = omega arith
+blocks-requires : tie.Need-blocks-requires Inv-loop μ-loop
+blocks-requires c κs = omega arith
 
 loop-holds : tie.Need-loop-holds Inv-loop μ-loop
 loop-holds c = peaks-start _ _
@@ -25,7 +25,7 @@ peak-is-requires c κs = omega arith
 returns : tie.Need-returns Inv-loop μ-loop
 returns c =
     let k = c .before .before in
-    peaks-stale (k .before .loop .inv) (k .loop-test .taken) (c .before .peak-is .ensures) (not-true _ (c .if1 .taken))
+    peaks-stale (k .before .loop .inv) (omega arith) (c .before .peak-is .ensures) (not-true _ (c .if1 .taken))
 
 add-j : tie.Need-add-j Inv-loop μ-loop
 add-j c = omega arith
@@ -36,10 +36,10 @@ loop-less c = omega arith
 loop-again : tie.Need-loop-again Inv-loop μ-loop
 loop-again c =
     let k = c .before .before in
-    peaks-turn (k .before .loop .inv) (k .loop-test .taken) (c .before .peak-is .ensures) (not-false _ (c .if1 .left))
+    peaks-turn (k .before .loop .inv) (omega arith) (c .before .peak-is .ensures) (not-false _ (c .if1 .left))
 
 returns-2 : tie.Need-returns-2 Inv-loop μ-loop
-returns-2 c = peaks-end (c .before .loop .inv) (c .loop-test .left)
+returns-2 c = peaks-end (c .before .loop .inv) (omega arith)
 
 pub peaks-are-spec : {M : Type 1} → statement M
 peaks-are-spec =
@@ -47,7 +47,7 @@ peaks-are-spec =
     (tie.spec
     Inv-loop
     μ-loop
-    add-blocks
+    blocks-requires
     loop-holds
     peak-is-requires
     returns

@@ -1,14 +1,14 @@
--- `book_find::cursor_at` meets its contract. The loop's invariant: the place between records has been reached from the bucket's head
--- (proofs/Bucket). The measure is the number of records left up to the position. Assumes nothing.
+-- `book_find::cursor_at` meets its contract. The loop's invariant: the place between records has been reached from the
+-- bucket's head (proofs/Bucket). The measure is the number of records left up to the position. Assumes nothing.
 use Prim.Native.Nat.{_*_, _+_, _-_, _/_, _≤_}
 use lib.ListN.{length}
 use native.Mathlib.Omega.{arith}
 use borrow.Author.Needs.{needs}
-use Rattle.front_coding.specs.Cursor.{cursorOf}
-use Rattle.front_coding.specs.Records.{bucketSize}
+use Rattle.book_laws.specs.Cursor.{cursorOf}
+use Rattle.book.specs.Records.{bucketSize}
 use Rattle.book.specs.Book.{inBook}
-use Rattle.book.proofs.Lookups.{held-stored, held-valid}
-use Rattle.book_records.proofs.Reading.{stepBy}
+use Rattle.book_laws.proofs.Held.{held-stored, held-valid}
+use Rattle.book_read.proofs.Reading.{stepBy}
 use Rattle.book_find.proofs.Bucket.{Reached, reach-end, reach-front, reach-inside, reach-on, reach-start}
 use Rattle.book_find.proofs.cursor_at.Statement.{statement}
 use Rattle.book_find.proofs.cursor_at.Tie as tie
@@ -36,7 +36,8 @@ mul-index c = omega arith
 loop-holds : tie.Need-loop-holds Inv-loop μ-loop
 loop-holds c =
     let z = c .before .before in
-    reach-start (z .args .i / bucketSize) (held-stored (z .pre .0)) (c .offset-of .ensures) (omega arith) (within z) (search needs)
+    reach-start (z .args .i / bucketSize) (held-stored (z .pre .0)) (c .offset-of .ensures) (omega arith) (within z)
+    (search needs)
 
 slice-aggregate-read-name : tie.Need-slice-aggregate-read-name Inv-loop μ-loop
 slice-aggregate-read-name c = search needs
@@ -55,8 +56,10 @@ next :
     → let l = turn a in
     let z = start l .args in
     Reached (inBook (z .buf .now)) (z .buf .now) (bucketSize * (z .i / bucketSize)) (z .i + 1)
-    (stepBy (cursorOf (l .loop .at) (l .loop .index) (l .loop .name) (l .loop .len)) (a .read-name .last .1 .1 .1 .0) (a .read-name .result) .next)
-next a = let l = turn a in reach-on (held-valid (start l .pre .0)) (l .loop .inv) (within (start l)) (omega arith) (a .read-name .ensures)
+    (stepBy (cursorOf (l .loop .at) (l .loop .index) (l .loop .name) (l .loop .len)) (a .read-name .last .1 .1 .1 .0)
+    (a .read-name .result) .next)
+next a = let l = turn a in reach-on (held-valid (start l .pre .0)) (l .loop .inv) (within (start l)) (omega arith)
+    (a .read-name .ensures)
 
 add-at : tie.Need-add-at Inv-loop μ-loop
 add-at c = let a = c .before .before in omega (arith, next a .ahead .inside, start (turn a) .good .0)
@@ -79,8 +82,11 @@ loop-again c = next (c .before .before .before)
 returns : tie.Need-returns Inv-loop μ-loop
 returns c =
     let l = c .before in
-    let v = l .loop .inv in
-    (reach-end v (omega arith) (omega arith), v .ahead .small, reach-front v (omega arith) (omega arith) (omega (arith, within (start l))))
+    let v = l .loop .inv in (
+      reach-end v (omega arith) (omega arith),
+      v .ahead .small,
+      reach-front v (omega arith) (omega arith) (omega (arith, within (start l))),
+    )
 
 pub cursor-at-spec : {M : Type 1} → statement M
 cursor-at-spec =

@@ -4,11 +4,15 @@ use Prim.Native.Nat.{_*_}
 use lib.ListN.{length}
 use native.Mathlib.Omega.{arith}
 use borrow.Author.Tests.{le-ltb, lt-ltb}
-use Rattle.front_coding.specs.Records.{bucketSize}
+use Rattle.book.specs.Records.{bucketSize}
 use Rattle.book.specs.Book.{inBook}
-use Rattle.book.proofs.Lookups.{held-few}
+use Rattle.book_laws.proofs.Held.{held-few}
 use Rattle.book_find.proofs.head_is.Statement.{statement}
 use Rattle.book_find.proofs.head_is.Tie as tie
+
+-- Places that the answers below look back to.
+abbrev begin : tie.After-head-name → tie.Start
+begin c = c .before .before .before .before
 
 mul-if1 : tie.Need-mul-if1
 mul-if1 c = omega (arith, held-few (c .before .before .pre .0))
@@ -27,8 +31,11 @@ equal-requires c κs = tt
 returns-2 : tie.Need-returns-2
 returns-2 c =
     let d = c .before in
-    let z = d .before .before .before .before in
-    rw (lt-ltb (bucketSize * z .args .bucket) (length (inBook (z .args .buf .now))) (omega (arith, z .pre .0 .count)), ← d .head-name .ensures) (c .equal .ensures)
+    let z = begin d in
+    rw (
+      lt-ltb (bucketSize * z .args .bucket) (length (inBook (z .args .buf .now))) (omega (arith, z .pre .0 .count)),
+      ← d .head-name .ensures,
+    ) (c .equal .ensures)
 
 pub head-is-spec : {M : Type 1} → statement M
 head-is-spec = tie.close (tie.spec mul-if1 returns head-name-requires equal-requires returns-2)

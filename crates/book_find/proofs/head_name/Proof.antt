@@ -5,8 +5,8 @@ use lib.ListN.{getD}
 use native.Mathlib.Omega.{arith}
 use borrow.Author.Needs.{needs}
 use Rattle.entries.specs.Entries.{at}
-use Rattle.front_coding.specs.Records.{bucketSize}
-use Rattle.front_coding.proofs.Parts.{part-bytes}
+use Rattle.book.specs.Records.{bucketSize}
+use Rattle.octets.proofs.Stores.{part-bytes}
 use Rattle.book.specs.Book.{inBook}
 use Rattle.book_find.proofs.Held.{HeadAt, held-head}
 use Rattle.book_find.proofs.head_name.Statement.{statement}

@@ -4,10 +4,10 @@ use Prim.Native.Nat.{_*_, _+_, _-_, _/_, ℕ}
 use mathlib.Core.Path.{_∙_, _≡_, sym}
 use native.Mathlib.Omega.{arith}
 use Rattle.entries.specs.Entries.{at}
-use Rattle.entries.specs.Place.{isBefore}
-use Rattle.front_coding.specs.Records.{bucketSize}
+use Rattle.entries_laws.specs.Place.{isBefore}
+use Rattle.book.specs.Records.{bucketSize}
 use Rattle.book.specs.Book.{inBook}
-use Rattle.book.proofs.Lookups.{held-few}
+use Rattle.book_laws.proofs.Held.{held-few}
 use Rattle.book_find.proofs.Search.{Halving, halving-down, halving-end, halving-start, halving-up}
 use Rattle.book_find.proofs.heads_before.Statement.{statement}
 use Rattle.book_find.proofs.heads_before.Tie as tie
@@ -18,9 +18,16 @@ Inv-loop buf n key past low₀ high₀ low high = Halving past key (inBook buf) 
 abbrev μ-loop : tie.MeasureT-loop
 μ-loop buf n key past low₀ high₀ low high = high - low
 
+-- Places that the answers below look back to.
+abbrev at-loop : tie.Then1 Inv-loop μ-loop → tie.At-loop Inv-loop μ-loop
+at-loop c = c .before .before .before .before
+
+abbrev at-loop-of-else1 : tie.Else1 Inv-loop μ-loop → tie.At-loop Inv-loop μ-loop
+at-loop-of-else1 c = c .before .before .before .before
+
 -- the entry and the middle, seen from the loop's test
 abbrev start : tie.At-loop Inv-loop μ-loop → tie.Start Inv-loop μ-loop
-start l = l .before .before .before
+start l = l .before .before .before .before
 
 abbrev mid : tie.At-loop Inv-loop μ-loop → ℕ
 mid l = l .loop .low + (l .loop .high - l .loop .low) / 2
@@ -33,11 +40,11 @@ asked :
     c .is-before .result ≡ isBefore (a .past) (a .key .now) (at (inBook (a .buf .now)) (bucketSize * mid l))
 asked c = rw (c .before .head-name .ensures) at (c .is-before .ensures)
 
-add-high : tie.Need-add-high Inv-loop μ-loop
-add-high c = omega (arith, held-few (c .before .before .pre))
+buckets-requires : tie.Need-buckets-requires Inv-loop μ-loop
+buckets-requires c κs = held-few (c .before .before .pre)
 
 loop-holds : tie.Need-loop-holds Inv-loop μ-loop
-loop-holds c = halving-start (omega (arith, c .before .before .pre .count))
+loop-holds c = halving-start (omega (arith, c .before .before .before .pre .count))
 
 sub-mid : tie.Need-sub-mid Inv-loop μ-loop
 sub-mid c = omega arith
@@ -59,7 +66,7 @@ loop-less c = omega arith
 
 loop-again : tie.Need-loop-again Inv-loop μ-loop
 loop-again c =
-    let l = c .before .before .before .before in
+    let l = at-loop c in
     halving-up (l .loop .inv) {mid = mid l} (omega arith)
     (sym (asked (c .before)) ∙ c .if1 .taken)
 
@@ -68,7 +75,7 @@ loop-less-2 c = omega arith
 
 loop-again-2 : tie.Need-loop-again-2 Inv-loop μ-loop
 loop-again-2 c =
-    let l = c .before .before .before .before in
+    let l = at-loop-of-else1 c in
     halving-down (l .loop .inv) (omega arith) (omega arith)
     (sym (asked (c .before)) ∙ c .if1 .left)
 
@@ -83,7 +90,7 @@ heads-before-spec =
     (tie.spec
     Inv-loop
     μ-loop
-    add-high
+    buckets-requires
     loop-holds
     sub-mid
     add-mid

@@ -1,5 +1,5 @@
--- `book_find::seek` meets its contract. The loop's invariant: the names of the bucket that were read are before the key (proofs/Bucket).
--- The measure is the number of records left in the bucket. Assumes nothing.
+-- `book_find::seek` meets its contract. The loop's invariant: the names of the bucket that were read are before the key
+-- (proofs/Bucket). The measure is the number of records left in the bucket. Assumes nothing.
 use Prim.Native.Nat.{_*_, _+_, _-_, _≤_}
 use mathlib.Core.Path.{_∙_, _≡_, sym}
 use lib.ListN.{length, take}
@@ -7,12 +7,13 @@ use lib.Seq.{length-take-le}
 use native.Mathlib.Omega.{arith}
 use borrow.Author.Needs.{needs}
 use borrow.Author.Tests.{not-false, not-true}
-use Rattle.front_coding.specs.Cursor.{cursorOf}
-use Rattle.front_coding.specs.Records.{bucketSize}
+use Rattle.book_laws.specs.Cursor.{cursorOf}
+use Rattle.book.specs.Records.{bucketSize}
 use Rattle.book.specs.Book.{inBook}
-use Rattle.book.proofs.Lookups.{held-stored, held-valid}
-use Rattle.book_records.proofs.Reading.{stepBy}
-use Rattle.book_find.proofs.Bucket.{Passed, Reached, behind-bucket, next-head, none-before, pass-end, pass-on, pass-same, pass-start, pass-stop, reach-inside, reach-on}
+use Rattle.book_laws.proofs.Held.{held-stored, held-valid}
+use Rattle.book_read.proofs.Reading.{stepBy}
+use Rattle.book_find.proofs.Bucket.{Passed, Reached, behind-bucket, next-head, none-before, pass-end, pass-on}
+use Rattle.book_find.proofs.Bucket.{pass-same, pass-start, pass-stop, reach-inside, reach-on}
 use Rattle.book_find.proofs.seek.Statement.{statement}
 use Rattle.book_find.proofs.seek.Tie as tie
 
@@ -23,6 +24,22 @@ Inv-loop buf n key past heads same bucket end name₀ at₀ index₀ name at ind
 abbrev μ-loop : tie.MeasureT-loop
 μ-loop buf n key past heads same bucket end name₀ at₀ index₀ name at index = end - index
 
+-- Places that the answers below look back to.
+abbrev begin : tie.Else1 Inv-loop μ-loop → tie.Start Inv-loop μ-loop
+begin c = c .before .before .before .before .before
+
+abbrev begin-of-bucket-end : tie.After-bucket-end Inv-loop μ-loop → tie.Start Inv-loop μ-loop
+begin-of-bucket-end c = begin (c .before)
+
+abbrev begin-of-offset-of : tie.After-offset-of Inv-loop μ-loop → tie.Start Inv-loop μ-loop
+begin-of-offset-of c = begin-of-bucket-end (c .before)
+
+abbrev after-heads-before : tie.After-offset-of Inv-loop μ-loop → tie.After-heads-before Inv-loop μ-loop
+after-heads-before c = c .before .before .before .before
+
+abbrev after-head-is : tie.At-loop Inv-loop μ-loop → tie.After-head-is Inv-loop μ-loop
+after-head-is c = c .before .before .before .before
+
 -- seen from the loop's test: the entry, and what the search gave; the bucket ends within the book
 abbrev start : tie.At-loop Inv-loop μ-loop → tie.Start Inv-loop μ-loop
 start l = l .before .before .before .before .before .before .before .before
@@ -30,10 +47,12 @@ start l = l .before .before .before .before .before .before .before .before
 abbrev found : tie.At-loop Inv-loop μ-loop → tie.After-heads-before Inv-loop μ-loop
 found l = l .before .before .before .before .before
 
-within : (l : tie.At-loop Inv-loop μ-loop) → l .before .before .bucket-end .result ≤ length (inBook (start l .args .buf .now))
+within : (l : tie.At-loop Inv-loop μ-loop)
+    → l .before .before .bucket-end .result ≤ length (inBook (start l .args .buf .now))
 within l = omega (arith, start l .pre .count)
 
--- seen from behind a record: the loop's test, what is reached then, and that the name's bytes are as many as its parts say
+-- seen from behind a record: the loop's test, what is reached then, and that the name's bytes are as many as its parts
+-- say
 abbrev turn : tie.After-read-name Inv-loop μ-loop → tie.At-loop Inv-loop μ-loop
 turn a = a .before .before .before
 
@@ -42,12 +61,15 @@ next :
     → let l = turn a in
     let z = start l .args .buf .now in
     Reached (inBook z) z (bucketSize * (found l .heads-before .result - 1)) (l .before .before .bucket-end .result)
-    (stepBy (cursorOf (l .loop .at) (l .loop .index) (l .loop .name) (l .loop .inv .len)) (a .read-name .last .1 .1 .1 .0) (a .read-name .result) .next)
-next a = let l = turn a in reach-on (held-valid (start l .pre)) (l .loop .inv .reached) (within l) (omega arith) (a .read-name .ensures)
+    (stepBy (cursorOf (l .loop .at) (l .loop .index) (l .loop .name) (l .loop .inv .len))
+    (a .read-name .last .1 .1 .1 .0) (a .read-name .result) .next)
+next a = let l = turn a in reach-on (held-valid (start l .pre)) (l .loop .inv .reached) (within l) (omega arith)
+    (a .read-name .ensures)
 
 taken :
     (a : tie.After-read-name Inv-loop μ-loop)
-    → let p = a .read-name .result in length (take (p .kept + p .own) (a .read-name .last .1 .1 .1 .0)) ≡ p .kept + p .own
+    → let p = a .read-name .result in
+    length (take (p .kept + p .own) (a .read-name .last .1 .1 .1 .0)) ≡ p .kept + p .own
 taken a = length-take-le _ _ (omega (arith, next a .ahead .small, next a .long))
 
 heads-before-requires : tie.Need-heads-before-requires Inv-loop μ-loop
@@ -69,18 +91,20 @@ sub-bucket : tie.Need-sub-bucket Inv-loop μ-loop
 sub-bucket c = omega arith
 
 bucket-end-requires : tie.Need-bucket-end-requires Inv-loop μ-loop
-bucket-end-requires c κs = omega (arith, c .before .before .before .before .before .pre .count)
+bucket-end-requires c κs = omega (arith, begin c .pre .count)
 
 offset-of-requires : tie.Need-offset-of-requires Inv-loop μ-loop
-offset-of-requires c κs = let z = c .before .before .before .before .before .before in (z .pre, omega (arith, z .pre .count))
+offset-of-requires c κs = let z = begin-of-bucket-end c in
+    (z .pre, omega (arith, z .pre .count))
 
 mul-index : tie.Need-mul-index Inv-loop μ-loop
-mul-index c = omega (arith, c .before .before .before .before .before .before .before .pre .count)
+mul-index c = omega (arith, begin-of-offset-of c .pre .count)
 
 loop-holds : tie.Need-loop-holds Inv-loop μ-loop
 loop-holds c =
-    let z = c .before .before .before .before .before .before .before in
-    pass-start (c .before .before .before .before .heads-before .result - 1) (held-stored (z .pre)) (c .offset-of .ensures)
+    let z = begin-of-offset-of c in
+    pass-start (after-heads-before c .heads-before .result - 1) (held-stored (z .pre))
+    (c .offset-of .ensures)
     (omega (arith, z .pre .count)) (omega (arith, z .pre .count)) (search needs)
 
 slice-aggregate-read-name : tie.Need-slice-aggregate-read-name Inv-loop μ-loop
@@ -129,7 +153,8 @@ returns-2 c =
     let v = held-valid (start l .pre) in
     record {
       index =
-          pass-stop v (l .loop .inv) (within l) (omega arith) (a .read-name .ensures) (found l .heads-before .ensures .left (omega arith))
+          pass-stop v (l .loop .inv) (within l) (omega arith) (a .read-name .ensures)
+          (found l .heads-before .ensures .left (omega arith))
           (sym (h .is-before .ensures) ∙ not-true (h .is-before .result) (d .if2 .taken));
       same = c .equal .ensures ∙ pass-same v (l .loop .inv) (within l) (omega arith) (a .read-name .ensures);
     }
@@ -165,8 +190,9 @@ returns-3 c =
     let f = found l .heads-before .ensures in
     let e = l .before .before .bucket-end .ensures in
     record {
-      index = pass-end (held-valid (z .pre)) (l .loop .inv) (within l) (omega arith) (omega arith) (behind-bucket f (z .pre .count) e (omega arith));
-      same = next-head f (z .pre .count) e (omega arith) (l .before .before .before .before .head-is .ensures);
+      index = pass-end (held-valid (z .pre)) (l .loop .inv) (within l) (omega arith) (omega arith)
+          (behind-bucket f (z .pre .count) e (omega arith));
+      same = next-head f (z .pre .count) e (omega arith) (after-head-is l .head-is .ensures);
     }
 
 pub seek-spec : {M : Type 1} → statement M

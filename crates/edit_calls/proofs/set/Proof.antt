@@ -1,29 +1,35 @@
--- `edit_calls::set` meets its contract: the checks in the table's order, then the score at the name's position or the entry in its gap.
--- No loop, so no invariant. Assumes nothing.
+-- `edit_calls::set` meets its contract: the checks in the table's order, then the score at the name's position or the
+-- entry in its gap. No loop, so no invariant. Assumes nothing.
 use Prim.Native.Nat.{_<_}
-use mathlib.Core.Path.{_≡_, _∙_, sym}
+use mathlib.Core.Path.{_∙_, _≡_, sym}
 use mathlib.Core.Bool.{true}
 use mathlib.Core.List.{[]}
 use borrow.Author.Needs.{needs}
 use borrow.Author.Tests.{not-false, not-true}
 use Rattle.entries.specs.Names.{isName}
-use Rattle.book.specs.Answers.{writing, writingImage}
-use Rattle.book.specs.Held.{Held}
+use Rattle.answer.specs.Answers.{writing, writingImage}
+use Rattle.book_laws.specs.Held.{Held}
 use Rattle.book_check.proofs.Held.{checked-damaged, checked-held}
-use Rattle.edits.specs.Edits.{setEntry}
-use Rattle.lookups.proofs.Finding.{held-low}
-use Rattle.edit_writes.proofs.Editing.{held-set, new-asked, new-set, set-full}
+use Rattle.edit.specs.Edits.{setEntry}
+use Rattle.lookup_find.proofs.Finding.{held-low}
+use Rattle.edit_write.proofs.Editing.{held-set, new-asked, new-set, set-full}
 use Rattle.edit_calls.proofs.set.Statement.{statement}
 use Rattle.edit_calls.proofs.set.Tie as tie
+
+-- Places that the answers below look back to.
+abbrev after-n : tie.After-look-up → tie.After-n
+after-n c = c .before .before .before .before
 
 held : (k : tie.After-n) → Held (k .before .before .before .before .before .before .args .book .now) (k .n .given .0 .0)
 held k = checked-held _ (k .before .before .check .ensures) (k .n .given .1)
 
-allowed : (e : tie.Else1) → isName (e .before .before .before .before .before .before .before .before .before .args .name .now) ≡ true
+allowed : (e : tie.Else1) → isName
+    (e .before .before .before .before .before .before .before .before .before .args .name .now) ≡ true
 allowed e = sym (e .before .is-name .ensures) ∙ not-false (e .before .is-name .result) (e .if1 .left)
 
 -- a score is a u32
-fits : (e : tie.Else1) → e .before .before .before .before .before .before .before .before .before .args .score < 4294967296
+fits : (e : tie.Else1) → e .before .before .before .before .before .before .before .before .before .args .score <
+    4294967296
 fits e = search needs
 
 check-requires : tie.Need-check-requires
@@ -61,7 +67,7 @@ write-score-requires : tie.Need-write-score-requires
 write-score-requires c κs =
     let p = c .before .before in
     let l = p .before .before in
-    let h = held (l .before .before .before .before) in
+    let h = held (after-n l) in
     (h, held-low _ _ _ h (sym (p .place .given .1) ∙ l .look-up .ensures))
 
 enum-known-place-2 : tie.Need-enum-known-place-2
@@ -72,7 +78,8 @@ returns-3 c =
     let p = c .before .before in
     let l = p .before .before in
     let e = l .before in
-    set-full _ _ _ (held (e .before .before .before)) (allowed e) (sym (p .place2 .given .1) ∙ l .look-up .ensures) _ (c .if2 .taken)
+    set-full _ _ _ (held (e .before .before .before)) (allowed e) (sym (p .place2 .given .1)
+    ∙ l .look-up .ensures) _ (c .if2 .taken)
 
 write-edit-requires : tie.Need-write-edit-requires
 write-edit-requires c κs =
@@ -80,7 +87,8 @@ write-edit-requires c κs =
     let p = q .before .before in
     let l = p .before .before in
     let e = l .before in
-    new-asked _ _ [] (held (e .before .before .before)) (allowed e) (sym (p .place2 .given .1) ∙ l .look-up .ensures) _ (q .if2 .left) (fits e)
+    new-asked _ _ [] (held (e .before .before .before)) (allowed e) (sym (p .place2 .given .1)
+    ∙ l .look-up .ensures) _ (q .if2 .left) (fits e)
 
 same-length : tie.Need-same-length
 same-length c = c .before .before .write-score .kept .1 .1 .1 .1 .0
@@ -91,10 +99,11 @@ returns-4 c =
     let p = w .before .before .before in
     let l = p .before .before in
     let e = l .before in
-    held-set _ _ _ (held (e .before .before .before)) (allowed e) (sym (p .place .given .1) ∙ l .look-up .ensures) _ (w .write-score .ensures)
+    held-set _ _ _ (held (e .before .before .before)) (allowed e) (sym (p .place .given .1)
+    ∙ l .look-up .ensures) _ (w .write-score .ensures)
 
 same-length-2 : tie.Need-same-length-2
-same-length-2 c = c .before .before .write-edit .kept .1 .1 .1 .1 .1 .1 .1 .0
+same-length-2 c = c .before .before .write-edit .kept .1 .1 .1 .1 .1 .1 .0
 
 returns-5 : tie.Need-returns-5
 returns-5 c =
@@ -103,7 +112,8 @@ returns-5 c =
     let p = q .before .before in
     let l = p .before .before in
     let e = l .before in
-    new-set _ _ _ (held (e .before .before .before)) (allowed e) (sym (p .place2 .given .1) ∙ l .look-up .ensures) _ (q .if2 .left)
+    new-set _ _ _ (held (e .before .before .before)) (allowed e) (sym (p .place2 .given .1)
+    ∙ l .look-up .ensures) _ (q .if2 .left)
     (w .write-edit .ensures)
 
 pub set-spec : {M : Type 1} → statement M

@@ -1,25 +1,26 @@
 -- `edit_calls::withdraw` meets its contract: the checks in the table's order, then the splice that leaves the name out.
 -- No loop, so no invariant. Assumes nothing.
-use mathlib.Core.Path.{_≡_, _∙_, sym}
+use mathlib.Core.Path.{_∙_, _≡_, sym}
 use mathlib.Core.Bool.{true}
 use mathlib.Core.List.{[]}
 use borrow.Author.Needs.{needs}
 use borrow.Author.Tests.{not-false, not-true}
 use Rattle.entries.specs.Names.{isName}
-use Rattle.book.specs.Answers.{writing, writingImage}
+use Rattle.answer.specs.Answers.{writing, writingImage}
 use Rattle.book.specs.Book.{inBook}
-use Rattle.book.specs.Held.{Held}
-use Rattle.edits.specs.Edits.{withdraw}
+use Rattle.book_laws.specs.Held.{Held}
+use Rattle.edit.specs.Edits.{withdrawEntry}
 use Rattle.book_check.proofs.Held.{checked-damaged, checked-held}
-use Rattle.lookups.proofs.Finding.{not-found}
-use Rattle.edit_writes.proofs.Editing.{gone, gone-asked}
+use Rattle.lookup_find.proofs.Finding.{not-found}
+use Rattle.edit_write.proofs.Editing.{gone, gone-asked}
 use Rattle.edit_calls.proofs.withdraw.Statement.{statement}
 use Rattle.edit_calls.proofs.withdraw.Tie as tie
 
 held : (k : tie.After-n) → Held (k .before .before .before .before .before .before .args .book .now) (k .n .given .0 .0)
 held k = checked-held _ (k .before .before .check .ensures) (k .n .given .1)
 
-allowed : (e : tie.Else1) → isName (e .before .before .before .before .before .before .before .before .before .args .name .now) ≡ true
+allowed : (e : tie.Else1) → isName
+    (e .before .before .before .before .before .before .before .before .before .args .name .now) ≡ true
 allowed e = sym (e .before .is-name .ensures) ∙ not-false (e .before .is-name .result) (e .if1 .left)
 
 check-requires : tie.Need-check-requires
@@ -32,7 +33,7 @@ enum-told : tie.Need-enum-told
 enum-told c = search needs
 
 returns : tie.Need-returns
-unfolding withdraw writingImage writing
+unfolding withdrawEntry writingImage writing
 returns c =
     let t = checked-damaged _ (c .before .before .check .ensures) (c .enum-told .given .1) in
     record { answer = rw t; left = rw t }
@@ -41,7 +42,7 @@ is-name-requires : tie.Need-is-name-requires
 is-name-requires c κs = tt
 
 returns-2 : tie.Need-returns-2
-unfolding withdraw writingImage writing
+unfolding withdrawEntry writingImage writing
 returns-2 c =
     let h = held (c .before .before .before) in
     let t = sym (c .before .is-name .ensures) ∙ not-true (c .before .is-name .result) (c .if1 .taken) in
@@ -54,12 +55,13 @@ enum-known-position : tie.Need-enum-known-position
 enum-known-position c = search needs
 
 returns-3 : tie.Need-returns-3
-unfolding withdraw writingImage writing
+unfolding withdrawEntry writingImage writing
 returns-3 c =
     let e = c .before .before in
     let h = held (e .before .before .before) in
     let a = e .before .before .before .before .before .before .before .before .before .args in
-    let t = not-found (a .name .now) (inBook (a .book .now)) (c .before .find-in .result) (c .before .find-in .ensures) (c .match2 .keys2) in
+    let t = not-found (a .name .now) (inBook (a .book .now)) (c .before .find-in .result) (c .before .find-in .ensures)
+    (c .match2 .keys2) in
     record { answer = rw (h .isIt, allowed e, t); left = rw (h .isIt, allowed e, t) }
 
 write-edit-requires : tie.Need-write-edit-requires
@@ -70,7 +72,7 @@ write-edit-requires c κs =
     gone-asked _ _ [] (held (e .before .before .before)) (allowed e) (f .find-in .ensures) (p .position .given .1)
 
 same-length : tie.Need-same-length
-same-length c = c .before .before .write-edit .kept .1 .1 .1 .1 .1 .1 .1 .0
+same-length c = c .before .before .write-edit .kept .1 .1 .1 .1 .1 .1 .0
 
 returns-4 : tie.Need-returns-4
 returns-4 c =
@@ -78,7 +80,8 @@ returns-4 c =
     let p = w .before .before .before in
     let f = p .before .before in
     let e = f .before in
-    gone _ _ _ (held (e .before .before .before)) (allowed e) (f .find-in .ensures) (p .position .given .1) (w .write-edit .ensures)
+    gone _ _ _ (held (e .before .before .before)) (allowed e) (f .find-in .ensures) (p .position .given .1)
+    (w .write-edit .ensures)
 
 pub withdraw-spec : {M : Type 1} → statement M
 withdraw-spec =

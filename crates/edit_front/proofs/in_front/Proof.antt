@@ -4,8 +4,8 @@ use Prim.Native.Nat.{_+_, _-_}
 use mathlib.Core.Path.{_∙_, _≡_, ap}
 use native.Mathlib.Omega.{arith}
 use Rattle.book.specs.Book.{inBook, layout21, recordsAt}
-use Rattle.book.proofs.Front.{front-first}
-use Rattle.book.proofs.Lookups.{held-few, held-stored}
+use Rattle.book_laws.proofs.Front.{front-first}
+use Rattle.book_laws.proofs.Held.{held-few, held-stored}
 use Rattle.edit_front.proofs.in_front.Statement.{statement}
 use Rattle.edit_front.proofs.in_front.Tie as tie
 
@@ -18,7 +18,8 @@ returns c =
     let b = z .args .book .now in
     let s = c .start .ensures in
     rw (c .before .if1 .taken)
-    (front-first b (inBook b) (held-stored (z .pre .0)) (c .start .result) (s .at ∙ ap (recordsAt layout21) (z .pre .0 .count)) (s .index) (s .len))
+    (front-first b (inBook b) (held-stored (z .pre .0)) (c .start .result) (s .at
+    ∙ ap (recordsAt layout21) (z .pre .0 .count)) (s .index) (s .len))
 
 sub-cursor-at : tie.Need-sub-cursor-at
 sub-cursor-at c = omega arith

@@ -1,5 +1,4 @@
 -- `edit_front::moved` meets its contract: one sum. No loop. Assumes nothing.
-use mathlib.Core.Path.{refl}
 use native.Mathlib.Omega.{arith}
 use borrow.Author.Needs.{needs}
 use Rattle.edit_front.proofs.Offsets.{records-few}
@@ -16,7 +15,8 @@ records-at-requires-2 : tie.Need-records-at-requires-2
 records-at-requires-2 c κs = search needs
 
 add-t11 : tie.Need-add-t11
-add-t11 c = let z = c .before .before .before in omega (arith, c .records-at2 .ensures, records-few (z .args .count) (z .pre .small), z .pre .near)
+add-t11 c = let z = c .before .before .before in
+    omega (arith, c .records-at2 .ensures, records-few (z .args .count) (z .pre .small), z .pre .near)
 
 returns : tie.Need-returns
 returns c = search needs

@@ -1,12 +1,13 @@
--- `edit_front::put_offsets` meets its contract. The loop's invariant: to put the offsets that are left gives the whole result
--- (proofs/Offsets). The measure is how many are left. Assumes nothing.
+-- `edit_front::put_offsets` meets its contract. The loop's invariant: to put the offsets that are left gives the whole
+-- result (proofs/Offsets). The measure is how many are left. Assumes nothing.
 use Prim.Native.Nat.{_*_, _+_, _-_, _<_, _≤_}
 use native.Mathlib.Omega.{arith}
 use borrow.Author.Needs.{needs}
 use Rattle.entries.specs.Entries.{maxEntries}
-use Rattle.front_coding.specs.Records.{bucketSize}
-use Rattle.book.proofs.Lookups.{held-few}
-use Rattle.edit_front.proofs.Offsets.{OffsetsLeft, offset-high, offset-low, offsets-end, offsets-start, offsets-turn, records-few}
+use Rattle.book.specs.Records.{bucketSize}
+use Rattle.book_laws.proofs.Held.{held-few}
+use Rattle.edit_front.proofs.Offsets.{OffsetsLeft, offset-high, offset-low, offsets-end, offsets-start}
+use Rattle.edit_front.proofs.Offsets.{offsets-turn, records-few}
 use Rattle.edit_front.proofs.put_offsets.Statement.{statement}
 use Rattle.edit_front.proofs.put_offsets.Tie as tie
 
@@ -15,6 +16,10 @@ Inv-loop book n m dst₀ count old new j₀ dst j = OffsetsLeft book n count m d
 
 abbrev μ-loop : tie.MeasureT-loop
 μ-loop book n m dst₀ count old new j₀ dst j = m - j
+
+-- Places that the answers below look back to.
+abbrev begin : tie.After-records-at2 Inv-loop μ-loop → tie.Start Inv-loop μ-loop
+begin c = c .before .before .before .before
 
 -- in the loop: the entry, and the bucket whose offset is next
 abbrev start : tie.In-loop Inv-loop μ-loop → tie.Start Inv-loop μ-loop
@@ -27,20 +32,27 @@ bucket : (c : tie.In-loop Inv-loop μ-loop) → bucketSize * c .before .loop .j 
 bucket c = omega (arith, start c .pre .1, c .loop-test .taken)
 
 -- the offset that was read, moved
-low : (c : tie.After-read-u16 Inv-loop μ-loop) → c .before .before .before .before .records-at .result ≤ c .read-u16 .result
+low : (c : tie.After-offset-at Inv-loop μ-loop)
+    → c .before .before .before .before .records-at .result ≤ c .offset-at .result
 low c =
     let i = c .before in
-    omega (arith, c .read-u16 .ensures, i .before .before .before .records-at .ensures, offset-low (start i .pre .0) (i .before .loop .j) (bucket i))
+    omega (
+      arith,
+      c .offset-at .ensures,
+      i .before .before .before .records-at .ensures,
+      offset-low (start i .pre .0) (i .before .loop .j) (bucket i),
+    )
 
 high :
-    (c : tie.After-read-u16 Inv-loop μ-loop)
-    → c .read-u16 .result - c .before .before .before .before .records-at .result + c .before .before .before .records-at2 .result < 65536
+    (c : tie.After-offset-at Inv-loop μ-loop)
+    → c .offset-at .result - c .before .before .before .before .records-at .result + c .before .before .before
+    .records-at2 .result < 65536
 high c =
     let i = c .before in
     let z = start i in
     omega (
       arith,
-      c .read-u16 .ensures,
+      c .offset-at .ensures,
       offset-high (z .pre .0) (i .before .loop .j) (bucket i),
       i .before .before .records-at2 .ensures,
       records-few (z .args .count) (z .pre .2),
@@ -53,46 +65,25 @@ records-at-requires-2 : tie.Need-records-at-requires-2 Inv-loop μ-loop
 records-at-requires-2 c κs = search needs
 
 loop-holds : tie.Need-loop-holds Inv-loop μ-loop
-loop-holds c = let a = c .before .before .before .before .args in offsets-start (a .book .now) (a .n) (a .count) (a .m) (a .dst .now)
+loop-holds c = let a = begin c .args in
+    offsets-start (a .book .now) (a .n) (a .count) (a .m) (a .dst .now)
 
-mul-read-u16 : tie.Need-mul-read-u16 Inv-loop μ-loop
-mul-read-u16 c = omega (arith, few c)
+offset-at-requires : tie.Need-offset-at-requires Inv-loop μ-loop
+offset-at-requires c κs = (few c, omega (arith, few c, bucket c))
 
-add-read-u16 : tie.Need-add-read-u16 Inv-loop μ-loop
-add-read-u16 c = omega (arith, few c)
-
-mul-read-u16-2 : tie.Need-mul-read-u16-2 Inv-loop μ-loop
-mul-read-u16-2 c = omega (arith, few c)
-
-add-read-u16-2 : tie.Need-add-read-u16-2 Inv-loop μ-loop
-add-read-u16-2 c = omega (arith, few c, bucket c)
-
-read-u16-requires : tie.Need-read-u16-requires Inv-loop μ-loop
-read-u16-requires c κs = tt
-
-cast-at : tie.Need-cast-at Inv-loop μ-loop
-cast-at c = search needs
-
-mul-write-u16 : tie.Need-mul-write-u16 Inv-loop μ-loop
-mul-write-u16 c = omega arith
-
-add-write-u16 : tie.Need-add-write-u16 Inv-loop μ-loop
-add-write-u16 c = omega arith
-
-mul-write-u16-2 : tie.Need-mul-write-u16-2 Inv-loop μ-loop
-mul-write-u16-2 c = omega (arith, few (c .before .before), bucket (c .before .before))
-
-add-write-u16-2 : tie.Need-add-write-u16-2 Inv-loop μ-loop
-add-write-u16-2 c = omega (arith, few (c .before .before), bucket (c .before .before))
+offset-place-requires : tie.Need-offset-place-requires Inv-loop μ-loop
+offset-place-requires c κs =
+    let i = c .before .before in
+    (start i .pre .2, omega (arith, few i, bucket i))
 
 sub-write-u16 : tie.Need-sub-write-u16 Inv-loop μ-loop
-sub-write-u16 c = low (c .before)
+sub-write-u16 c = low (c .before .before)
 
-add-write-u16-3 : tie.Need-add-write-u16-3 Inv-loop μ-loop
-add-write-u16-3 c = omega (arith, high (c .before))
+add-write-u16 : tie.Need-add-write-u16 Inv-loop μ-loop
+add-write-u16 c = omega (arith, high (c .before .before))
 
 cast-write-u16 : tie.Need-cast-write-u16 Inv-loop μ-loop
-cast-write-u16 c = omega (arith, high (c .before))
+cast-write-u16 c = omega (arith, high (c .before .before))
 
 write-u16-requires : tie.Need-write-u16-requires Inv-loop μ-loop
 write-u16-requires c κs = tt
@@ -106,11 +97,17 @@ loop-less c = omega arith
 loop-again : tie.Need-loop-again Inv-loop μ-loop
 loop-again c =
     let w = c .before .before in
-    let r = w .before .before in
+    let p = w .before in
+    let r = p .before .before in
     let i = r .before in
     offsets-turn (i .before .loop .inv) (i .loop-test .taken)
-    (omega (arith, r .read-u16 .ensures, i .before .before .before .records-at .ensures, i .before .before .records-at2 .ensures))
-    (w .write-u16 .ensures)
+    (omega (
+      arith,
+      r .offset-at .ensures,
+      i .before .before .before .records-at .ensures,
+      i .before .before .records-at2 .ensures,
+    ))
+    (p .offset-place .ensures) (w .write-u16 .ensures)
 
 same-length : tie.Need-same-length Inv-loop μ-loop
 same-length c = c .before .loop .inv .sameLength
@@ -127,18 +124,10 @@ put-offsets-spec =
     records-at-requires
     records-at-requires-2
     loop-holds
-    mul-read-u16
-    add-read-u16
-    mul-read-u16-2
-    add-read-u16-2
-    read-u16-requires
-    cast-at
-    mul-write-u16
-    add-write-u16
-    mul-write-u16-2
-    add-write-u16-2
+    offset-at-requires
+    offset-place-requires
     sub-write-u16
-    add-write-u16-3
+    add-write-u16
     cast-write-u16
     write-u16-requires
     add-j

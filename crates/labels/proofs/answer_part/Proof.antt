@@ -1,13 +1,14 @@
--- `labels::answer_part` is safe, ends, and keeps at most 64 bytes of a line. The loop's invariant: the buffers keep their lengths, and there is
--- room for a line. The measure is what is left of the part. Assumes nothing.
+-- `labels::answer_part` is safe, ends, and keeps at most 64 bytes of a line. The loop's invariant: the buffers keep
+-- their lengths, and there is room for a line. The measure is what is left of the part. Assumes nothing.
 use Prim.Native.Nat.{_+_, _-_, _≤_}
 use mathlib.Core.Path.{sym}
 use lib.ListN.{drop, length, length-drop, take}
 use lib.Seq.{length-take-le}
 use native.Mathlib.Omega.{arith}
-use Rattle.front_coding.proofs.Steps.{to-end}
-use Rattle.history_calls.specs.Run.{bench}
-use Rattle.interpreter.specs.Feed.{FeedDone, console}
+use Rattle.octets.proofs.Stores.{to-end}
+use Rattle.script.specs.Run.{bench}
+use Rattle.program_run.specs.Feed.{FeedDone}
+use Rattle.program.specs.Console.{console}
 use Rattle.labels.proofs.Lending.{Ready, fed-within, ready-on, ready-start}
 use Rattle.labels.proofs.answer_part.Statement.{statement}
 use Rattle.labels.proofs.answer_part.Tie as tie
@@ -20,6 +21,22 @@ abbrev μ-loop : tie.MeasureT-loop
 μ-loop part line₀ first₀ second₀ out₀ used₀ kept₀ turned₀ line first second out used kept turned =
     length part - used
 
+-- Places that the answers below look back to.
+abbrev begin : tie.After-slice-known4 Inv-loop μ-loop → tie.Start Inv-loop μ-loop
+begin c = c .before .before .before .before .before
+
+abbrev at-loop : tie.After-feed-arg5 Inv-loop μ-loop → tie.At-loop Inv-loop μ-loop
+at-loop c = c .before .before .before .before .before .before
+
+abbrev after-feed : tie.After-slice-known8 Inv-loop μ-loop → tie.After-feed Inv-loop μ-loop
+after-feed c = c .before .before .before .before .before .before .before .before
+
+abbrev after-feed-of-write-all-arg : tie.After-write-all-arg Inv-loop μ-loop → tie.After-feed Inv-loop μ-loop
+after-feed-of-write-all-arg c = after-feed (c .before)
+
+abbrev after-feed-of-struct-known : tie.After-struct-known Inv-loop μ-loop → tie.After-feed Inv-loop μ-loop
+after-feed-of-struct-known c = after-feed-of-write-all-arg (c .before .before)
+
 -- the turn of a feed, and what it gave of what is left of the part
 abbrev turn : tie.After-feed Inv-loop μ-loop → tie.In-loop Inv-loop μ-loop
 turn f = f .before .before .before .before .before .before
@@ -29,11 +46,13 @@ did :
     → let l = turn f .before in
     let k = f .feed .last .1 .1 .1 in
     FeedDone (drop (l .loop .used) (l .before .before .before .before .before .before .args .part .now))
-    (console (take (l .loop .kept) (l .loop .line)) (bench (l .loop .first) (l .loop .second) (l .loop .turned))) (l .loop .out) (f .feed .result)
+    (console (take (l .loop .kept) (l .loop .line)) (bench (l .loop .first) (l .loop .second) (l .loop .turned)))
+    (l .loop .out) (f .feed .result)
     (k .0) (k .1 .0) (k .1 .1 .0) (k .1 .1 .1 .0)
 did f =
     let l = turn f .before in
-    rw (to-end (l .before .before .before .before .before .before .args .part .now) (l .loop .used)) at (f .feed .ensures)
+    rw (to-end (l .before .before .before .before .before .before .args .part .now) (l .loop .used)) at
+    (f .feed .ensures)
 
 used-within :
     (f : tie.After-feed Inv-loop μ-loop)
@@ -41,11 +60,13 @@ used-within :
     l .loop .used + f .feed .result .used ≤ length (l .before .before .before .before .before .before .args .part .now)
 used-within f =
     let l = turn f .before in
-    fed-within (l .before .before .before .before .before .before .args .part .now) (l .loop .used) (l .loop .inv .0) (did f)
+    fed-within (l .before .before .before .before .before .before .args .part .now) (l .loop .used) (l .loop .inv .0)
+    (did f)
 
 loop-holds : tie.Need-loop-holds Inv-loop μ-loop
 loop-holds c =
-    let s = c .before .before .before .before .before in (omega arith, ready-start (s .args .first .now) (s .args .second .now) (s .pre))
+    let s = begin c in
+    (omega arith, ready-start (s .args .first .now) (s .args .second .now) (s .pre))
 
 sub-feed : tie.Need-sub-feed Inv-loop μ-loop
 sub-feed c = omega arith
@@ -57,16 +78,16 @@ part-feed-end : tie.Need-part-feed-end Inv-loop μ-loop
 part-feed-end c = omega arith
 
 feed-requires : tie.Need-feed-requires Inv-loop μ-loop
-feed-requires c κs = c .before .before .before .before .before .before .loop .inv .1 .room
+feed-requires c κs = at-loop c .loop .inv .1 .room
 
 slice-reshare-prefix-write-all : tie.Need-slice-reshare-prefix-write-all Inv-loop μ-loop
 slice-reshare-prefix-write-all c =
-    let f = c .before .before .before .before .before .before .before .before in
+    let f = after-feed c in
     omega (arith, did f .printed .inside, f .feed .kept .1 .1 .1 .1 .1 .1 .0)
 
 slice-aggregate-write-all : tie.Need-slice-aggregate-write-all Inv-loop μ-loop
 slice-aggregate-write-all c =
-    let f = c .before .before .before .before .before .before .before .before .before in
+    let f = after-feed-of-write-all-arg c in
     sym
     (length-take-le (f .feed .result .bytes) (f .feed .last .1 .1 .1 .1 .1 .1 .0)
     (omega (arith, did f .printed .inside, f .feed .kept .1 .1 .1 .1 .1 .1 .0)))
@@ -76,12 +97,12 @@ write-all-requires c κs = tt
 
 add-used : tie.Need-add-used Inv-loop μ-loop
 add-used c =
-    let f = c .before .before .before .before .before .before .before .before .before .before .before in
+    let f = after-feed-of-struct-known c in
     omega (arith, used-within f, turn f .before .before .before .before .before .before)
 
 loop-less : tie.Need-loop-less Inv-loop μ-loop
 loop-less c =
-    let f = c .before .before .before .before .before .before .before .before .before .before .before in
+    let f = after-feed-of-struct-known c in
     let i = turn f in
     let l = i .before in
     let part = l .before .before .before .before .before .before .args .part .now in
@@ -91,7 +112,7 @@ loop-less c =
 
 loop-again : tie.Need-loop-again Inv-loop μ-loop
 loop-again c =
-    let f = c .before .before .before .before .before .before .before .before .before .before .before in
+    let f = after-feed-of-struct-known c in
     let k = f .feed .kept .1 .1 .1 in
     (used-within f, ready-on (turn f .before .loop .inv .1) (did f .few) (k .0) (k .1 .0) (k .1 .1 .0) (k .1 .1 .1 .0))
 

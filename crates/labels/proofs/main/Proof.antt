@@ -6,6 +6,10 @@ use borrow.Author.Needs.{needs}
 use Rattle.labels.proofs.main.Statement.{statement}
 use Rattle.labels.proofs.main.Tie as tie
 
+-- Places that the answers below look back to.
+abbrev after-finish : tie.After-out5 → tie.After-finish
+after-finish c = c .before .before .before .before
+
 slice-aggregate-empty : tie.Need-slice-aggregate-empty
 slice-aggregate-empty c = search needs
 
@@ -50,7 +54,7 @@ array-share-prefix-out c = search needs
 
 slice-aggregate-write-all : tie.Need-slice-aggregate-write-all
 slice-aggregate-write-all c =
-    let f = c .before .before .before .before in
+    let f = after-finish c in
     sym
     (length-take-le (f .finish .result .bytes) (f .finish .last .1 .1 .1 .1 .1 .0)
     (omega (arith, f .finish .ensures .printed .inside, f .finish .kept .1 .1 .1 .1 .1 .0)))

@@ -1,5 +1,5 @@
--- `labels::read_all` is safe, ends, and keeps at most 64 bytes of a line. The loop's invariant: the buffers keep their lengths, and there is
--- room for a line. The measure is how many reads are left. Assumes nothing.
+-- `labels::read_all` is safe, ends, and keeps at most 64 bytes of a line. The loop's invariant: the buffers keep their
+-- lengths, and there is room for a line. The measure is how many reads are left. Assumes nothing.
 use mathlib.Core.Path.{_∙_, _≡_, refl}
 use lib.ListN.{length}
 use native.Mathlib.Omega.{arith}
@@ -8,30 +8,52 @@ use Rattle.labels.proofs.read_all.Statement.{statement}
 use Rattle.labels.proofs.read_all.Tie as tie
 
 abbrev Inv-loop : tie.InvT-loop
-Inv-loop input₀ line₀ first₀ second₀ out₀ reads₀ s₀ input line first second out reads s = (length input ≡ length input₀) × Ready line₀ first₀ second₀ out₀ line first second out (s .kept)
+Inv-loop input₀ line₀ first₀ second₀ out₀ reads₀ s₀ input line first second out reads
+    s = (length input ≡ length input₀) × Ready line₀ first₀ second₀ out₀ line first second out (s .kept)
 
 abbrev μ-loop : tie.MeasureT-loop
 μ-loop input₀ line₀ first₀ second₀ out₀ reads₀ s₀ input line first second out reads s = reads
 
+-- Places that the answers below look back to.
+abbrev begin : tie.After-slice-known5 Inv-loop μ-loop → tie.Start Inv-loop μ-loop
+begin c = c .before .before .before .before .before
+
+abbrev at-loop : tie.After-read-part-arg5 Inv-loop μ-loop → tie.At-loop Inv-loop μ-loop
+at-loop c = c .before .before .before .before .before .before .before
+
+abbrev at-loop-of-read-part : tie.After-read-part Inv-loop μ-loop → tie.At-loop Inv-loop μ-loop
+at-loop-of-read-part c = at-loop (c .before)
+
+abbrev in-loop : tie.After-slice-known10 Inv-loop μ-loop → tie.In-loop Inv-loop μ-loop
+in-loop c = c .before .before .before .before .before .before .before .before .before .before .before .before .before
+    .before .before .before .before
+
+abbrev after-read-part : tie.After-slice-known10 Inv-loop μ-loop → tie.After-read-part Inv-loop μ-loop
+after-read-part c = c .before .before .before .before .before .before .before .before .before .before
+
 loop-holds : tie.Need-loop-holds Inv-loop μ-loop
 loop-holds c =
-    let s = c .before .before .before .before .before in (refl, ready-start (s .args .first .now) (s .args .second .now) (s .pre))
+    let s = begin c in
+    (refl, ready-start (s .args .first .now) (s .args .second .now) (s .pre))
 
 read-part-requires : tie.Need-read-part-requires Inv-loop μ-loop
-read-part-requires c κs = c .before .before .before .before .before .before .before .loop .inv .1 .room
+read-part-requires c κs = at-loop c .loop .inv .1 .room
 
 sub-reads : tie.Need-sub-reads Inv-loop μ-loop
-sub-reads c = let i = c .before .before .before .before .before .before .before .before .before .before .before .before .before .before .before .before .before in omega (arith, i .loop-test .taken)
+sub-reads c = let i = in-loop c in omega (arith, i .loop-test .taken)
 
 loop-less : tie.Need-loop-less Inv-loop μ-loop
-loop-less c = let i = c .before .before .before .before .before .before .before .before .before .before .before .before .before .before .before .before .before in omega (arith, i .loop-test .taken)
+loop-less c = let i = in-loop c in omega (arith, i .loop-test .taken)
 
 loop-again : tie.Need-loop-again Inv-loop μ-loop
 loop-again c =
-    let r = c .before .before .before .before .before .before .before .before .before .before in
-    let l = r .before .before .before .before .before .before .before .before in
-    let k = r .read-part .kept in
-    (k .0 ∙ l .loop .inv .0, ready-on (l .loop .inv .1) (r .read-part .ensures) (k .1 .1 .0) (k .1 .1 .1 .0) (k .1 .1 .1 .1 .0) (k .1 .1 .1 .1 .1 .0))
+    let r = after-read-part c in
+    let l = at-loop-of-read-part r in
+    let k = r .read-part .kept in (
+      k .0 ∙ l .loop .inv .0,
+      ready-on (l .loop .inv .1) (r .read-part .ensures) (k .1 .1 .0) (k .1 .1 .1 .0)
+          (k .1 .1 .1 .1 .0) (k .1 .1 .1 .1 .1 .0),
+    )
 
 same-length : tie.Need-same-length Inv-loop μ-loop
 same-length c = c .before .before .loop .inv .0

@@ -6,6 +6,19 @@ use Rattle.panel.specs.Panel.{acts}
 use Rattle.panel_keys.proofs.act.Statement.{statement}
 use Rattle.panel_keys.proofs.act.Tie as tie
 
+-- Places that the answers below look back to.
+abbrev begin : tie.Then2 → tie.Start
+begin c = c .before .before .before .before
+
+abbrev begin-of-then3 : tie.Then3 → tie.Start
+begin-of-then3 c = c .before .before .before .before .before
+
+abbrev begin-of-then4 : tie.Then4 → tie.Start
+begin-of-then4 c = c .before .before .before .before .before .before
+
+abbrev begin-of-then5 : tie.Then5 → tie.Start
+begin-of-then5 c = c .before .before .before .before .before .before .before
+
 appends-requires : tie.Need-appends-requires
 appends-requires c κs = tt
 
@@ -17,21 +30,21 @@ unfolding acts
 returns c = let t = c .before in rw (sym (t .before .appends .ensures) ∙ t .if1 .taken) (c .append .ensures)
 
 erase-requires : tie.Need-erase-requires
-erase-requires c κs = c .before .before .before .before .pre .1 .short
+erase-requires c κs = begin c .pre .1 .short
 
 returns-2 : tie.Need-returns-2
 unfolding acts
 returns-2 c = rw (c .before .if2 .taken) (c .erase .ensures)
 
 up-requires : tie.Need-up-requires
-up-requires c κs = c .before .before .before .before .before .pre .1 .short
+up-requires c κs = begin-of-then3 c .pre .1 .short
 
 returns-3 : tie.Need-returns-3
 unfolding acts
 returns-3 c = rw (c .before .if3 .taken) (c .up .ensures)
 
 down-requires : tie.Need-down-requires
-down-requires c κs = c .before .before .before .before .before .before .pre .1
+down-requires c κs = begin-of-then4 c .pre .1
 
 returns-4 : tie.Need-returns-4
 unfolding acts
@@ -39,7 +52,7 @@ returns-4 c = rw (c .before .if4 .taken) (c .down .ensures)
 
 take-name-requires : tie.Need-take-name-requires
 take-name-requires c κs =
-    let z = c .before .before .before .before .before .before .before in (z .pre .0, z .pre .1)
+    let z = begin-of-then5 c in (z .pre .0, z .pre .1)
 
 returns-5 : tie.Need-returns-5
 unfolding acts

@@ -1,11 +1,11 @@
--- `panel_keys::step_in` meets its contract: the checks in the table's order, then the key's act between two counts (proofs/Pressing).
--- No loop, so no invariant. Assumes nothing.
+-- `panel_keys::step_in` meets its contract: the checks in the table's order, then the key's act between two counts
+-- (proofs/Pressing). No loop, so no invariant. Assumes nothing.
 use mathlib.Core.Path.{_∙_, _≡_, sym}
 use mathlib.Core.Bool.{false, true}
 use borrow.Author.Needs.{needs}
 use borrow.Author.Tests.{not-false, not-true}
 use Rattle.book.specs.Book.{inBook}
-use Rattle.book.specs.Held.{Held}
+use Rattle.book_laws.specs.Held.{Held}
 use Rattle.book_check.proofs.Held.{checked-damaged, checked-held}
 use Rattle.panel.specs.Panel.{isListed, isTyped, press}
 use Rattle.panel_typing.specs.Typing.{isFull}
@@ -29,7 +29,8 @@ listed e = sym (e .before .is-listed .ensures) ∙ not-false (e .before .is-list
 abbrev passed : tie.Else3 → tie.Else2
 passed e = e .before .before .before
 
-room : (e : tie.Else3) → isFull (start (passed e .before .before .before) .args .p) (start (passed e .before .before .before) .args .key) ≡ false
+room : (e : tie.Else3) → isFull (start (passed e .before .before .before) .args .p)
+    (start (passed e .before .before .before) .args .key) ≡ false
 room e = sym (e .before .is-full .ensures) ∙ e .if3 .left
 
 check-requires : tie.Need-check-requires
@@ -49,7 +50,8 @@ unfolding press
 returns c =
     let t = c .before in
     let z = t .before .before .before .before in
-    refused-as (z .args .book .now) (z .args .p) (z .args .key) 1 (c .refuse .ensures) (rw (checked-damaged _ (t .before .before .check .ensures) (t .enum-told .given .1)))
+    refused-as (z .args .book .now) (z .args .p) (z .args .key) 1 (c .refuse .ensures)
+    (rw (checked-damaged _ (t .before .before .check .ensures) (t .enum-told .given .1)))
 
 is-typed-requires : tie.Need-is-typed-requires
 is-typed-requires c κs = tt
@@ -80,10 +82,16 @@ returns-3 c =
     let e = l .before in
     let z = start (e .before) in
     refused-as (z .args .book .now) (z .args .p) (z .args .key) 8 (c .refuse3 .ensures)
-    (rw (held (e .before) .isIt, typed e, sym (l .is-listed .ensures) ∙ not-true (l .is-listed .result) (t .if2 .taken)))
+    (rw (
+      held (e .before) .isIt,
+      typed e,
+      sym (l .is-listed .ensures)
+          ∙ not-true (l .is-listed .result) (t .if2 .taken),
+    ))
 
 settle-requires : tie.Need-settle-requires
-settle-requires c κs = let e = c .before .before in (held (e .before), typed-short (start (e .before) .args .p) (typed e))
+settle-requires c κs = let e = c .before .before in
+    (held (e .before), typed-short (start (e .before) .args .p) (typed e))
 
 is-full-requires : tie.Need-is-full-requires
 is-full-requires c κs = tt
@@ -106,7 +114,8 @@ act-requires : tie.Need-act-requires
 act-requires c κs =
     let e = passed c .before .before in
     let z = start (e .before) in
-    let r = act-ready (inBook (z .args .book .now)) (z .args .p) (z .args .key) (typed-short (z .args .p) (typed e)) (room c) (c .before .before .settle .ensures) in
+    let r = act-ready (inBook (z .args .book .now)) (z .args .p) (z .args .key) (typed-short (z .args .p) (typed e))
+    (room c) (c .before .before .settle .ensures) in
     (held (e .before), r .0, r .1)
 
 settle-requires-2 : tie.Need-settle-requires-2
@@ -119,7 +128,8 @@ returns-5 c =
     let l = passed f in
     let e = l .before .before in
     let z = start (e .before) in
-    accepted (z .args .book .now) (z .args .p) (a .act .result) (z .args .key) (held (e .before) .isIt) (typed e) (listed l) (room f)
+    accepted (z .args .book .now) (z .args .p) (a .act .result) (z .args .key) (held (e .before) .isIt) (typed e)
+    (listed l) (room f)
     (f .before .before .settle .ensures) (a .act .ensures) (c .settle2 .ensures)
 
 pub step-in-spec : {M : Type 1} → statement M

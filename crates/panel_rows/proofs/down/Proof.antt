@@ -10,7 +10,12 @@ use Rattle.panel_rows.proofs.down.Tie as tie
 
 add-if1 : tie.Need-add-if1
 add-if1 c =
-    omega (arith, c .pre .counted, c .pre .onRow, length-completion (inBook (c .args .book .now)) (typedIn (c .args .p)) panelCount)
+    omega (
+      arith,
+      c .pre .counted,
+      c .pre .onRow,
+      length-completion (inBook (c .args .book .now)) (typedIn (c .args .p)) panelCount,
+    )
 
 returns : tie.Need-returns
 returns c = let z = c .before .before in lowers-none (inBook (z .args .book .now)) (z .args .p) (z .pre) (c .if1 .taken)
@@ -19,7 +24,8 @@ add-q : tie.Need-add-q
 add-q c = search needs
 
 returns-2 : tie.Need-returns-2
-returns-2 c = let z = c .before .before in lowers-one (inBook (z .args .book .now)) (z .args .p) (z .pre) (z .args .p .rows) (c .if1 .left)
+returns-2 c = let z = c .before .before in
+    lowers-one (inBook (z .args .book .now)) (z .args .p) (z .pre) (z .args .p .rows) (c .if1 .left)
 
 pub down-spec : {M : Type 1} → statement M
 down-spec = tie.close (tie.spec add-if1 returns add-q returns-2)

@@ -1,5 +1,5 @@
--- `panel_rows::settle` meets its contract: the rows are counted, the row is lowered, and zeros are stored behind the text (proofs/Typing).
--- No loop, so no invariant. Assumes nothing.
+-- `panel_rows::settle` meets its contract: the rows are counted, the row is lowered, and zeros are stored behind the
+-- text (proofs/Typing). No loop, so no invariant. Assumes nothing.
 use mathlib.Core.Path.{_≡_, sym}
 use lib.ListN.{length}
 use native.Mathlib.Omega.{arith}
@@ -10,6 +10,10 @@ use Rattle.panel_typing.proofs.Acts.{typed-length}
 use Rattle.panel_rows.proofs.Typing.{settled}
 use Rattle.panel_rows.proofs.settle.Statement.{statement}
 use Rattle.panel_rows.proofs.settle.Tie as tie
+
+-- Places that the answers below look back to.
+abbrev begin : tie.After-count-rows → tie.Start
+begin c = c .before .before .before .before
 
 -- the array is 48 bytes long
 long : (c : tie.Start) → length (c .args .p .text) ≡ longestName
@@ -40,8 +44,9 @@ returns : tie.Need-returns
 returns c =
     let copied = c .before .before in
     let counted = copied .before .before .before in
-    let z = counted .before .before .before .before in
-    settled (z .args .p) (long z) (inBook (z .args .book .now)) (z .pre .1) (counted .count-rows .ensures) (copied .copy .ensures) (c .lower .ensures)
+    let z = begin counted in
+    settled (z .args .p) (long z) (inBook (z .args .book .now)) (z .pre .1) (counted .count-rows .ensures)
+    (copied .copy .ensures) (c .lower .ensures)
 
 pub settle-spec : {M : Type 1} → statement M
 settle-spec =

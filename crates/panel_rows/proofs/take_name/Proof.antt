@@ -1,5 +1,5 @@
--- `panel_rows::take_name` meets its contract: the row's position is one that completion offers, and the name there becomes the text
--- (proofs/Rows).
+-- `panel_rows::take_name` meets its contract: the row's position is one that completion offers, and the name there
+-- becomes the text (proofs/Rows).
 -- No loop, so no invariant. Assumes nothing.
 use Prim.Native.Nat.{_<_}
 use mathlib.Core.Path.{_≡_, sym}
@@ -9,7 +9,7 @@ use borrow.Author.Needs.{needs}
 use Rattle.entries.specs.Completion.{maxCount}
 use Rattle.entries.specs.Names.{longestName}
 use Rattle.book.specs.Book.{inBook}
-use Rattle.book.proofs.Lookups.{held-valid}
+use Rattle.book_laws.proofs.Held.{held-valid}
 use Rattle.panel_rows.proofs.Rows.{row-inside, row-offered, takes-name, takes-none}
 use Rattle.panel_typing.proofs.Acts.{typed-length}
 use Rattle.panel_rows.proofs.take_name.Statement.{statement}
@@ -32,17 +32,20 @@ start e = e .before .before .before
 inside : (k : tie.After-offers) → start (rows k) .args .p .highlight < length (k .offers .result .offered)
 inside k =
     let z = start (rows k) in
-    row-offered (inBook (z .args .book .now)) (z .args .p) (z .pre .1) (held-valid (z .pre .0) .order) (rows k .if1 .left) (k .offers .result) (places k) (k .offers .ensures)
+    row-offered (inBook (z .args .book .now)) (z .args .p) (z .pre .1) (held-valid (z .pre .0) .order)
+    (rows k .if1 .left) (k .offers .result) (places k) (k .offers .ensures)
 
 returns : tie.Need-returns
 returns c =
-    let z = c .before .before .before in takes-none (inBook (z .args .book .now)) (z .args .p) (z .pre .1) (c .if1 .taken)
+    let z = c .before .before .before in
+    takes-none (inBook (z .args .book .now)) (z .args .p) (z .pre .1) (c .if1 .taken)
 
 array-share-prefix-text : tie.Need-array-share-prefix-text
 array-share-prefix-text c = let z = start (c .before) in omega (arith, long z, z .pre .1 .short)
 
 slice-aggregate-offers : tie.Need-slice-aggregate-offers
-slice-aggregate-offers c = let z = start (c .before .before) in sym (typed-length (z .args .p) (long z) (z .pre .1 .short))
+slice-aggregate-offers c = let z = start (c .before .before) in
+    sym (typed-length (z .args .p) (long z) (z .pre .1 .short))
 
 offers-requires : tie.Need-offers-requires
 offers-requires c κs = let z = start (c .before .before) in (z .pre .0, omega arith)
@@ -56,15 +59,23 @@ array-read-cursor-at c = omega (arith, inside (c .before), places (c .before))
 cursor-at-requires : tie.Need-cursor-at-requires
 cursor-at-requires c κs =
     let k = c .before in
-    let z = start (rows k) in
-    (z .pre .0, omega (arith, z .pre .0 .count, row-inside (inBook (z .args .book .now)) (z .args .p) (z .pre .1) (held-valid (z .pre .0) .order) (rows k .if1 .left) (k .offers .result) (places k) (k .offers .ensures)))
+    let z = start (rows k) in (
+      z .pre .0,
+      omega (
+        arith,
+        z .pre .0 .count,
+        row-inside (inBook (z .args .book .now)) (z .args .p) (z .pre .1) (held-valid (z .pre .0) .order)
+            (rows k .if1 .left) (k .offers .result) (places k) (k .offers .ensures),
+      ),
+    )
 
 returns-2 : tie.Need-returns-2
 returns-2 c =
     let n = c .before in
     let k = n .before .before in
     let z = start (rows k) in
-    takes-name (inBook (z .args .book .now)) (z .args .p) (z .pre .1) (held-valid (z .pre .0) .order) (rows k .if1 .left) (k .offers .result) (places k) (k .offers .ensures)
+    takes-name (inBook (z .args .book .now)) (z .args .p) (z .pre .1) (held-valid (z .pre .0) .order)
+    (rows k .if1 .left) (k .offers .result) (places k) (k .offers .ensures)
     (z .args .p .rows) (n .cursor-at .ensures .1) (n .cursor-at .ensures .0)
 
 pub take-name-spec : {M : Type 1} → statement M

@@ -17,7 +17,14 @@ others (suc zero) a b = refl
 others (suc (suc zero)) a b = refl
 others (suc (suc (suc k))) a b =
     let key : ℕ = suc (suc (suc k)) in
-    simp (lt-leb key 2 (omega arith), ne-eqb key 8 a, ne-eqb key 1 (λ q. omega arith), ne-eqb key 2 (λ q. omega arith), ne-eqb key 13 b, ne-eqb key 0 (λ q. omega arith))
+    simp (
+      lt-leb key 2 (omega arith),
+      ne-eqb key 8 a,
+      ne-eqb key 1 (λ q. omega arith),
+      ne-eqb key 2 (λ q. omega arith),
+      ne-eqb key 13 b,
+      ne-eqb key 0 (λ q. omega arith),
+    )
 
 appends-requires : tie.Need-appends-requires
 appends-requires c κs = tt

@@ -1,7 +1,8 @@
--- `trie_check::group` and `trie_check::node`, which call each other, meet their contracts: each return gives what was read and tested to a
--- law of the walk (proofs/Walking). Invariant of the group's loop: what is walked from the place on gives the walk over the whole group, whose
--- siblings end where `group_end` says (`Going`); measure: the bytes from the place on. Measures of the calls: the bytes from the group's begin on,
--- and those from where the next group is to begin, which is behind the siblings. Assumes nothing.
+-- `trie_check::group` and `trie_check::node`, which call each other, meet their contracts: each return gives what was
+-- read and tested to a law of the walk (proofs/Walking). Invariant of the group's loop: what is walked from the place
+-- on gives the walk over the whole group, whose siblings end where `group_end` says (`Going`); measure: the bytes from
+-- the place on. Measures of the calls: the bytes from the group's begin on, and those from where the next group is to
+-- begin, which is behind the siblings. Assumes nothing.
 use Prim.Native.Nat.{_*_, _+_, _-_, _<_, ℕ}
 use mathlib.Core.Path.{_∙_, _≡_, subst, sym}
 use mathlib.Core.Bool.{false, true}
@@ -14,24 +15,27 @@ use borrow.Author.Tests.{not-false, not-true}
 use borrow.Fn.Kinds.{In}
 use borrow.Fn.PlainCycle.{Measures, and, falls as lower, is}
 use Rattle.octets.proofs.Numbers.{Bytes}
-use Rattle.trie_fields.proofs.Heads.{Read, read-node}
-use Rattle.trie_walk.specs.Walk.{stands}
-use Rattle.trie_check.proofs.Walking.{Going, ahead-of, end-of, falls, going-ahead, going-bad, going-last, going-less, going-on, going-start, group-bad, node-bad, node-leaf, node-more, onward-to, path-short, rest-cut, rest-out, rest-twice, some-left}
+use Rattle.trie_check_fields.proofs.Heads.{Read, read-node}
+use Rattle.trie_check_laws.specs.Walk.{stands}
+use Rattle.trie_check.proofs.Walking.{GroupGoing, ahead-of, end-of, falls, going-ahead, going-bad, going-last}
+use Rattle.trie_check.proofs.Walking.{going-less, going-on, going-start, group-bad, node-bad, node-leaf}
+use Rattle.trie_check.proofs.Walking.{node-more, onward-to, path-short, rest-cut, rest-out, rest-twice}
+use Rattle.trie_check.proofs.Walking.{some-left}
 use Rattle.trie_check.proofs.group.Reads as group
 use Rattle.trie_check.proofs.group.Kinds as group-kinds
 use Rattle.trie_check.proofs.+group+node.Lts-group as group-lts
 use Rattle.trie_check.proofs.node.Reads as node
 use Rattle.trie_check.proofs.node.Kinds as node-kinds
 use Rattle.trie_check.proofs.+group+node.Lts-node as node-lts
-use Rattle.trie_fields.proofs.group_end.Reads as group-end-reads
-use Rattle.trie_fields.proofs.head_at.Reads as head-at-reads
-use Rattle.trie_place.proofs.after_node.Reads as after-node-reads
-use Rattle.trie_place.proofs.begin_at.Reads as begin-at-reads
-use Rattle.trie_place.proofs.fits_here.Reads as fits-here-reads
-use Rattle.trie_place.proofs.new_score.Reads as new-score-reads
+use Rattle.trie_check_fields.proofs.group_end.Reads as group-end-reads
+use Rattle.trie_check_fields.proofs.head_at.Reads as head-at-reads
+use Rattle.trie_check_rules.proofs.after_node.Reads as after-node-reads
+use Rattle.trie_check_rules.proofs.begin_at.Reads as begin-at-reads
+use Rattle.trie_check_rules.proofs.fits_here.Reads as fits-here-reads
+use Rattle.trie_check_rules.proofs.new_score.Reads as new-score-reads
 use Rattle.trie_check.proofs.+group+node.{statement}
 use Rattle.trie_check.proofs.+group+node.Tie.{close}
-use Rattle.trie_walk.specs.declared.Step.the-variants.{Bad}
+use Rattle.trie_check_laws.specs.declared.WalkEnd.the-variants.{Bad}
 
 abbrev μ-group : Measures 1 group-kinds.ps ℕ
 μ-group κs a = 2 * (length (a .0 .now) - a .1 .0)
@@ -53,7 +57,7 @@ node-below t = and 1 node-kinds.ps (lower 1 node-kinds.ps _<_ μ-node t) node.Pr
 
 -- The group, where its measure is t.
 abbrev group-Inv-loop : group-lts.InvT-loop
-group-Inv-loop buf at path score full left next p₀ seen₀ p seen = Going buf at path score full left next p seen
+group-Inv-loop buf at path score full left next p₀ seen₀ p seen = GroupGoing buf at path score full left next p seen
 
 abbrev group-μ-loop : group-lts.MeasureT-loop
 group-μ-loop buf at path score full left next p₀ seen₀ p seen = length buf - p .at
@@ -104,18 +108,25 @@ module _ (t : ℕ) where
   group-returns : group-lts.Need-returns gc (group-at t) group.Post group-Inv-loop group-μ-loop
   group-returns c =
       let e = c .before .before in
-      let a = e .before .before .args in
-      (group-bad (a .buf .now) (a .at) (a .path) (a .score) (a .full) (a .left) (e .group-end .ensures .0) (c .enum-told .given .1), tt)
+      let a = e .before .before .args in (
+        group-bad (a .buf .now) (a .at) (a .path) (a .score) (a .full) (a .left) (e .group-end .ensures .0)
+            (c .enum-told .given .1),
+        tt,
+      )
 
   group-begin-at-requires : group-lts.Need-begin-at-requires gc (group-at t) group.Post group-Inv-loop group-μ-loop
-  group-begin-at-requires c κs = omega (arith, end-of (c .before .next .given .1) (c .before .before .before .group-end .ensures .1) .0)
+  group-begin-at-requires c κs = omega (
+    arith,
+    end-of (c .before .next .given .1) (c .before .before .before .group-end .ensures .1) .0,
+  )
 
   group-loop-holds : group-lts.Need-loop-holds gc (group-at t) group.Post group-Inv-loop group-μ-loop
   group-loop-holds c =
       let k = c .before in
       let e = k .before .before .before .group-end in
       let a = k .before .before .before .before .before .args in
-      going-start (a .buf .now) (a .at) (a .path) (a .score) (a .full) (a .left) (k .before .next .given .0 .0) (e .ensures .0) (k .before .next .given .1) (e .ensures .1)
+      going-start (a .buf .now) (a .at) (a .path) (a .score) (a .full) (a .left) (k .before .next .given .0 .0)
+      (e .ensures .0) (k .before .next .given .1) (e .ensures .1)
       (c .begin-at .ensures)
 
   group-head-at-requires : group-lts.Need-head-at-requires gc (group-at t) group.Post group-Inv-loop group-μ-loop
@@ -130,12 +141,16 @@ module _ (t : ℕ) where
   group-returns-2 : group-lts.Need-returns-2 gc (group-at t) group.Post group-Inv-loop group-μ-loop
   group-returns-2 c =
       let h = c .before .before in
-      let l = h .before in
-      (l .loop .inv .onto Bad (rest-cut (buf l) (l .loop .p) (l .loop .seen) (h .head-at .ensures .0) (c .enum-told2 .given .1)), tt)
+      let l = h .before in (
+        l .loop .inv .onto Bad (rest-cut (buf l) (l .loop .p) (l .loop .seen) (h .head-at .ensures .0)
+            (c .enum-told2 .given .1)),
+        tt,
+      )
 
   -- the node that was read in the loop's place
   read : (k : Known) → Read (buf (loop k)) (loop k .loop .p .at) (k .before .n .given .0 .0)
-  read k = let h = k .before .before .before in read-node (h .head-at .ensures .0) (h .head-at .ensures .1) (k .before .n .given .1)
+  read k = let h = k .before .before .before in
+      read-node (h .head-at .ensures .0) (h .head-at .ensures .1) (k .before .n .given .1)
 
   group-fits-here-requires : group-lts.Need-fits-here-requires gc (group-at t) group.Post group-Inv-loop group-μ-loop
   group-fits-here-requires c κs = search needs
@@ -144,11 +159,15 @@ module _ (t : ℕ) where
   group-returns-3 c =
       let f = c .before in
       let k = f .before in
-      let l = loop k in
-      (l .loop .inv .onto Bad (rest-out (buf l) (l .loop .p) (l .loop .seen) (k .before .n .given .0 .0) (read k) (sym (f .fits-here .ensures) ∙ not-true (f .fits-here .result) (c .if1 .taken))), tt)
+      let l = loop k in (
+        l .loop .inv .onto Bad (rest-out (buf l) (l .loop .p) (l .loop .seen) (k .before .n .given .0 .0) (read k)
+            (sym (f .fits-here .ensures) ∙ not-true (f .fits-here .result) (c .if1 .taken))),
+        tt,
+      )
 
   -- it stands in its place
-  fits : (e : group-lts.Else1 gc (group-at t) group.Post group-Inv-loop group-μ-loop) → stands (loop (e .before .before) .loop .p) (e .before .before .before .n .given .0 .0) ≡ true
+  fits : (e : group-lts.Else1 gc (group-at t) group.Post group-Inv-loop group-μ-loop)
+      → stands (loop (e .before .before) .loop .p) (e .before .before .before .n .given .0 .0) ≡ true
   fits e = sym (e .before .fits-here .ensures) ∙ not-false (e .before .fits-here .result) (e .if1 .left)
 
   group-array-read-if2 : group-lts.Need-array-read-if2 gc (group-at t) group.Post group-Inv-loop group-μ-loop
@@ -158,8 +177,11 @@ module _ (t : ℕ) where
   group-returns-4 c =
       let e = c .before in
       let k = e .before .before in
-      let l = loop k in
-      (l .loop .inv .onto Bad (rest-twice (buf l) (l .loop .p) (l .loop .seen) (k .before .n .given .0 .0) (read k) (fits e) (c .if2 .taken)), tt)
+      let l = loop k in (
+        l .loop .inv .onto Bad (rest-twice (buf l) (l .loop .p) (l .loop .seen) (k .before .n .given .0 .0) (read k)
+            (fits e) (c .if2 .taken)),
+        tt,
+      )
 
   group-array-write-seen : group-lts.Need-array-write-seen gc (group-at t) group.Post group-Inv-loop group-μ-loop
   group-array-write-seen c = read (c .before .before .before) .key
@@ -169,7 +191,8 @@ module _ (t : ℕ) where
       let l = loop (c .before .before .before) in
       let g = l .loop .inv in
       let z = start l .before in (
-        subst (λ (j : ℕ). 2 * (length (z .args .buf .now) - l .loop .p .next) + 1 < j) (z .pre .0) (omega (arith, g .past, g .on, g .within)),
+        subst (λ (j : ℕ). 2 * (length (z .args .buf .now) - l .loop .p .next) + 1 < j) (z .pre .0)
+            (omega (arith, g .past, g .on, g .within)),
         (g .within, fits (c .before)),
       )
 
@@ -184,8 +207,11 @@ module _ (t : ℕ) where
       let d = c .before .before in
       let e = d .before in
       let k = e .before .before .before in
-      let l = loop k in
-      (going-bad (l .loop .inv) (bytes l) (read k) (fits (e .before)) (e .if2 .left) (d .node .ensures .0) (d .node .ensures .1) (c .enum-told3 .given .1), tt)
+      let l = loop k in (
+        going-bad (l .loop .inv) (bytes l) (read k) (fits (e .before)) (e .if2 .left) (d .node .ensures .0)
+            (d .node .ensures .1) (c .enum-told3 .given .1),
+        tt,
+      )
 
   group-returns-6 : group-lts.Need-returns-6 gc (group-at t) group.Post group-Inv-loop group-μ-loop
   group-returns-6 c =
@@ -193,8 +219,12 @@ module _ (t : ℕ) where
       let e = d .before in
       let k = e .before .before .before in
       let l = loop k in
-      let h = c .before .before .q .given .1 in
-      (going-last (l .loop .inv) (bytes l) (read k) (fits (e .before)) (e .if2 .left) (d .node .ensures .0) (d .node .ensures .1) h (c .if3 .taken), going-ahead (l .loop .inv) (bytes l) (read k) (fits (e .before)) (e .if2 .left) (d .node .ensures .0) (d .node .ensures .1) h)
+      let h = c .before .before .q .given .1 in (
+        going-last (l .loop .inv) (bytes l) (read k) (fits (e .before)) (e .if2 .left) (d .node .ensures .0)
+            (d .node .ensures .1) h (c .if3 .taken),
+        going-ahead (l .loop .inv) (bytes l) (read k) (fits (e .before)) (e .if2 .left) (d .node .ensures .0)
+            (d .node .ensures .1) h,
+      )
 
   group-loop-less : group-lts.Need-loop-less gc (group-at t) group.Post group-Inv-loop group-μ-loop
   group-loop-less c =
@@ -203,7 +233,8 @@ module _ (t : ℕ) where
       let k = e .before .before .before in
       let l = loop k in
       let h = c .before .before .q .given .1 in
-      going-less (l .loop .inv) (bytes l) (read k) (fits (e .before)) (e .if2 .left) (d .node .ensures .0) (d .node .ensures .1) h
+      going-less (l .loop .inv) (bytes l) (read k) (fits (e .before)) (e .if2 .left) (d .node .ensures .0)
+      (d .node .ensures .1) h
 
   group-loop-again : group-lts.Need-loop-again gc (group-at t) group.Post group-Inv-loop group-μ-loop
   group-loop-again c =
@@ -212,18 +243,28 @@ module _ (t : ℕ) where
       let k = e .before .before .before in
       let l = loop k in
       let h = c .before .before .q .given .1 in
-      going-on (l .loop .inv) (bytes l) (read k) (fits (e .before)) (e .if2 .left) (d .node .ensures .0) (d .node .ensures .1) h (c .if3 .left)
+      going-on (l .loop .inv) (bytes l) (read k) (fits (e .before)) (e .if2 .left) (d .node .ensures .0)
+      (d .node .ensures .1) h (c .if3 .left)
 
 -- The node, where its measure is t.
 module _ (t : ℕ) where
   abbrev nc : node-lts.Claims
-  nc = (after-node-reads.Asked, after-node-reads.Learnt, new-score-reads.Asked, new-score-reads.Learnt, group-below t, group.Post)
+  nc = (
+    after-node-reads.Asked,
+    after-node-reads.Learnt,
+    new-score-reads.Asked,
+    new-score-reads.Learnt,
+    group-below t,
+    group.Post,
+  )
 
   node-sub-after-node : node-lts.Need-sub-after-node nc (node-at t) node.Post
-  node-sub-after-node c = let z = c .before .before .before .before in some-left (z .args .p) (z .args .n) (z .pre .1 .1) (c .before .if1 .taken)
+  node-sub-after-node c = let z = c .before .before .before .before in
+      some-left (z .args .p) (z .args .n) (z .pre .1 .1) (c .before .if1 .taken)
 
   node-after-node-requires : node-lts.Need-after-node-requires nc (node-at t) node.Post
-  node-after-node-requires c κs = let z = c .before .before .before .before in falls (z .args .p) (z .args .n) (z .pre .1 .1)
+  node-after-node-requires c κs = let z = c .before .before .before .before in
+      falls (z .args .p) (z .args .n) (z .pre .1 .1)
 
   node-returns : node-lts.Need-returns nc (node-at t) node.Post
   node-returns c =
@@ -231,14 +272,16 @@ module _ (t : ℕ) where
       let a = z .args in
       let p = a .p in (
         node-leaf (a .buf .now) (a .p) (a .n) (c .before .before .if1 .taken) (c .after-node .ensures),
-        onward-to (a .p) (a .n) (a .p .next) (a .p .back) (a .p .left - 1) (a .p .own) (length (a .buf .now)) (c .after-node .ensures) (omega arith) (z .pre .1 .0),
+        onward-to (a .p) (a .n) (a .p .next) (a .p .back) (a .p .left - 1) (a .p .own) (length (a .buf .now))
+            (c .after-node .ensures) (omega arith) (z .pre .1 .0),
       )
 
   node-new-score-requires : node-lts.Need-new-score-requires nc (node-at t) node.Post
   node-new-score-requires c κs = let z = c .before .before .before in falls (z .args .p) (z .args .n) (z .pre .1 .1)
 
   node-add-group : node-lts.Need-add-group nc (node-at t) node.Post
-  node-add-group c = let z = c .before .before .before .before .before .before in omega (arith, path-short (z .args .p) (z .args .n) (z .pre .1 .1))
+  node-add-group c = let z = c .before .before .before .before .before .before in
+      omega (arith, path-short (z .args .p) (z .args .n) (z .pre .1 .1))
 
   node-group-requires : node-lts.Need-group-requires nc (node-at t) node.Post
   node-group-requires c κs =
@@ -255,14 +298,19 @@ module _ (t : ℕ) where
   node-returns-2 c =
       let g = c .before .before in
       let v = g .before .before .before .before in
-      let a = v .before .before .before .before .args in
-      (node-bad (a .buf .now) (a .p) (a .n) (v .before .if1 .left) (v .new-score .ensures) (g .group .ensures .0) (c .enum-told .given .1), tt)
+      let a = v .before .before .before .before .args in (
+        node-bad (a .buf .now) (a .p) (a .n) (v .before .if1 .left) (v .new-score .ensures) (g .group .ensures .0)
+            (c .enum-told .given .1),
+        tt,
+      )
 
   node-sub-after-node-2 : node-lts.Need-sub-after-node-2 nc (node-at t) node.Post
-  node-sub-after-node-2 c = le-of-lt (ahead-of (c .before .before .end .given .1) (c .before .before .before .before .group .ensures .1) .0)
+  node-sub-after-node-2 c = le-of-lt
+      (ahead-of (c .before .before .end .given .1) (c .before .before .before .before .group .ensures .1) .0)
 
   node-after-node-requires-2 : node-lts.Need-after-node-requires-2 nc (node-at t) node.Post
-  node-after-node-requires-2 c κs = let z = c .before .before .before .before .before .before .before .before .before .before .before .before in falls (z .args .p) (z .args .n) (z .pre .1 .1)
+  node-after-node-requires-2 c κs = let z = c .before .before .before .before .before .before .before .before .before
+      .before .before .before in falls (z .args .p) (z .args .n) (z .pre .1 .1)
 
   node-returns-3 : node-lts.Need-returns-3 nc (node-at t) node.Post
   node-returns-3 c =
@@ -271,8 +319,10 @@ module _ (t : ℕ) where
       let v = g .before .before .before .before in
       let a = v .before .before .before .before .args in
       let h = ahead-of (e .1) (g .group .ensures .1) in (
-        node-more (a .buf .now) (a .p) (a .n) (v .before .if1 .left) (v .new-score .ensures) (g .group .ensures .0) (e .1) (c .after-node2 .ensures),
-        onward-to (a .p) (a .n) (e .0 .0) (e .0 .0 - a .p .next) (e .0 .1 .0) false (length (a .buf .now)) (c .after-node2 .ensures) (le-of-lt (h .0)) (h .1),
+        node-more (a .buf .now) (a .p) (a .n) (v .before .if1 .left) (v .new-score .ensures) (g .group .ensures .0)
+            (e .1) (c .after-node2 .ensures),
+        onward-to (a .p) (a .n) (e .0 .0) (e .0 .0 - a .p .next) (e .0 .1 .0) false (length (a .buf .now))
+            (c .after-node2 .ensures) (le-of-lt (h .0)) (h .1),
       )
 
 pub +group+node-spec : {M : Type 1} → statement M

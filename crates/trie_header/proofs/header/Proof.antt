@@ -1,5 +1,5 @@
--- `trie_header::header` meets its contract: the codes, the mark and the label's length have no bit in common (proofs/Packed).
--- No loop, so no invariant. Assumes nothing.
+-- `trie_header::header` meets its contract: the codes, the mark and the label's length have no bit in common
+-- (proofs/Packed). No loop, so no invariant. Assumes nothing.
 use borrow.Author.Needs.{needs}
 use Rattle.trie_header.proofs.Packed.{header-packed}
 use Rattle.trie_header.proofs.header.Statement.{statement}

@@ -1,0 +1,1 @@
+// What C is told, and what it finds in what it lent: definitions in specs/.

@@ -1,0 +1,64 @@
+-- The records in front of a position, and one more; cursors that stand in front of a position.
+use Prim.Native.Nat.{_+_, _<_, suc, ℕ}
+use mathlib.Core.Path.{_∙_, _≡_, ap, refl, sym}
+use mathlib.Core.List.{List, [], _++_, _∷_, append-nil}
+use lib.ListN.{length, length-append, take}
+use lib.Seq.{length-take-le, take-suc}
+use native.Mathlib.Nat.{add-zero}
+use native.Mathlib.Omega.{arith}
+use Rattle.entries.specs.Entries.{Entry, at, names}
+use Rattle.entries.proofs.Valid.{length-names}
+use Rattle.book.specs.Records.{bucketHead, lastOr, recordOf, records}
+use Rattle.book.proofs.Records.{records-append}
+use Rattle.book_laws.specs.Ahead.{InFront, nameBefore, recordAt}
+use Rattle.book.specs.Book.{layout21, recordsAt}
+use Rattle.book_laws.proofs.Ahead.{ahead-first, names-at}
+use Rattle.book_laws.proofs.Stored.{Stored}
+use Rattle.book_laws.specs.declared.Cursor.{Cursor}
+
+-- records up to a position, and one more
+module _ (es : List Entry) (i : ℕ) (h : i < length es) where
+  abbrev w : List ℕ
+  w = at es i .name
+
+  abbrev prev : List ℕ
+  prev = nameBefore es i
+
+  names-next : take (suc i) (names es) ≡ take i (names es) ++ (w ∷ [])
+  names-next = let n = length-names es in take-suc (names es) i [] (omega arith)
+      ∙ ap (λ v. take i (names es) ++ (v ∷ [])) (names-at es i h)
+
+  pub records-next : records bucketHead 0 [] (take (suc i) (names es)) ≡ records bucketHead 0 [] (take i (names es))
+      ++ recordOf bucketHead i prev w
+  records-next =
+      let n = length-names es in
+      let k : 0 + length (take i (names es)) ≡ i = rw (length-take-le i (names es) (omega arith)) (omega arith) in
+      ap (records bucketHead 0 []) names-next
+      ∙ records-append bucketHead (take i (names es)) (w ∷ []) 0 []
+      ∙ rw (k, append-nil (recordOf bucketHead i prev w))
+
+  pub last-next : nameBefore es (suc i) ≡ w
+  last-next = ap (lastOr []) names-next ∙ last-of (take i (names es)) [] w
+    where
+      last-of : (ws : List (List ℕ)) (p v : List ℕ) → lastOr p (ws ++ (v ∷ [])) ≡ v
+      last-of [] p v = refl
+      last-of (x ∷ ws) p v = last-of ws x v
+
+  pub record-next : recordAt es (suc i) ≡ recordAt es i + length (recordOf bucketHead i prev w)
+  record-next =
+      let l = ap length records-next ∙ length-append (records bucketHead 0 [] (take i (names es)))
+      (recordOf bucketHead i prev w) in
+      omega arith
+
+-- the cursor at the first record
+pub front-first :
+    (buf : List ℕ) (es : List Entry) → Stored buf es → (c : Cursor) → c .at ≡ recordsAt layout21 (length es)
+    → c .index ≡ 0 → c .len ≡ 0
+    → InFront es buf 0 c
+front-first buf es s c p q z =
+    record {
+      ahead = ahead-first buf es s c p q z;
+      index = q;
+      place = p ∙ sym (add-zero (recordsAt layout21 (length es)));
+      name = rw z;
+    }

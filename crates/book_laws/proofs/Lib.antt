@@ -1,0 +1,7 @@
+pub mod Ahead
+pub mod Check
+pub mod Front
+pub mod Scores
+pub mod Stored
+pub mod Walk
+pub mod Held

@@ -1,0 +1,4 @@
+pub mod Ahead
+pub mod Check
+pub mod Held
+pub mod Cursor

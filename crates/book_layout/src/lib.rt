@@ -1,0 +1,138 @@
+// Where things stand in the image of a book of n entries, and the scores, offsets and peaks that stand there.
+use limits::BLOCK_SIZE;
+use limits::BUCKET_SIZE;
+use limits::FRAME_LENGTH;
+use limits::SCORE_BYTES;
+ghost use mathlib.Core.Path.{_≡_};
+ghost use Prim.Native.Nat.{_<_, _≤_};
+ghost use Rattle.octets.specs.Lists.{ceil};
+ghost use Rattle.entries.specs.Entries.{maxEntries};
+ghost use Rattle.book.specs.Records.{bucketHead, bucketSize};
+ghost use Rattle.book.specs.Book.{blockSize, layout21, recordsAt};
+ghost use Rattle.book_laws.specs.Check.{bestBetween, betterOf, blockEnd, offsetAt, offsetPlace, peakAt, peakPlace};
+ghost use Rattle.book_laws.specs.Check.{scoreAt, scorePlace};
+
+// The bytes of an offset, and of a peak.
+const PLACE_BYTES: usize = 2;
+
+// How many buckets n entries have, the last perhaps shorter.
+pub fn buckets(n: usize) -> usize
+    requires { ⌜ n ≤ maxEntries ⌝ }
+    ensures { λ r. ⌜ r ≡ ceil n bucketSize ⌝ }
+{
+    (n + BUCKET_SIZE - 1) / BUCKET_SIZE
+}
+
+// How many blocks n entries have, the last perhaps shorter.
+pub fn blocks(n: usize) -> usize
+    requires { ⌜ n ≤ maxEntries ⌝ }
+    ensures { λ r. ⌜ r ≡ ceil n blockSize ⌝ }
+{
+    (n + BLOCK_SIZE - 1) / BLOCK_SIZE
+}
+
+// Whether the name at a position is a bucket's head.
+pub fn is_head(index: usize) -> bool
+    ensures { λ r. ⌜ r ≡ bucketHead index ⌝ }
+{
+    index % BUCKET_SIZE == 0
+}
+
+// Where block j of n positions ends.
+pub fn block_end(n: usize, j: usize) -> usize
+    requires { ⌜ j < maxEntries ⌝ }
+    ensures { λ r. ⌜ r ≡ blockEnd n j ⌝ }
+{
+    let full = BLOCK_SIZE * j + BLOCK_SIZE;
+    if n < full { n } else { full }
+}
+
+// Where the score of a position stands, in a book of any number of entries.
+pub fn score_place(i: usize) -> usize
+    requires { ⌜ i ≤ maxEntries ⌝ }
+    ensures { λ r. ⌜ r ≡ scorePlace i ⌝ }
+{
+    FRAME_LENGTH + SCORE_BYTES * i
+}
+
+// Where the offset of a bucket stands: the offsets are behind the scores.
+pub fn offset_place(n: usize, bucket: usize) -> usize
+    requires { ⌜ (n ≤ maxEntries) × (bucket ≤ maxEntries) ⌝ }
+    ensures { λ r. ⌜ r ≡ offsetPlace n bucket ⌝ }
+{
+    score_place(n) + PLACE_BYTES * bucket
+}
+
+// Where the peak of block j stands: the peaks are behind the offsets.
+pub fn peak_place(n: usize, j: usize) -> usize
+    requires { ⌜ (n ≤ maxEntries) × (j ≤ maxEntries) ⌝ }
+    ensures { λ r. ⌜ r ≡ peakPlace n j ⌝ }
+{
+    offset_place(n, buckets(n)) + PLACE_BYTES * j
+}
+
+// Where the records begin: behind the peaks.
+pub fn records_at(n: usize) -> usize
+    requires { ⌜ n ≤ maxEntries ⌝ }
+    ensures { λ r. ⌜ r ≡ recordsAt layout21 n ⌝ }
+{
+    peak_place(n, blocks(n))
+}
+
+// The score of a position.
+pub fn score_at(buf: &[u8], i: usize) -> u32
+    requires { ⌜ i ≤ maxEntries ⌝ }
+    ensures { λ r. ⌜ r ≡ scoreAt (now (buf .entry)) i ⌝ }
+{
+    octets_code::read_u32(buf, score_place(i))
+}
+
+// The offset of a bucket.
+pub fn offset_at(buf: &[u8], n: usize, bucket: usize) -> usize
+    requires { ⌜ (n ≤ maxEntries) × (bucket ≤ maxEntries) ⌝ }
+    ensures { λ r. ⌜ r ≡ offsetAt (now (buf .entry)) n bucket ⌝ }
+{
+    octets_code::read_u16(buf, offset_place(n, bucket)) as usize
+}
+
+// The peak of block j.
+pub fn peak_at(buf: &[u8], n: usize, j: usize) -> usize
+    requires { ⌜ (n ≤ maxEntries) × (j ≤ maxEntries) ⌝ }
+    ensures { λ r. ⌜ r ≡ peakAt (now (buf .entry)) n j ⌝ }
+{
+    octets_code::read_u16(buf, peak_place(n, j)) as usize
+}
+
+// The better of two positions, of which b is the earlier one. It is the one that outranks the other (`outranks` in
+// crates/entries/specs/Entries.antt): the positions stand in name order, so that at equal scores the place alone
+// decides, and the earlier one wins.
+pub fn better(buf: &[u8], b: usize, i: usize) -> usize
+    requires { ⌜ (b ≤ maxEntries) × (i ≤ maxEntries) ⌝ }
+    ensures { λ r. ⌜ r ≡ betterOf (now (buf .entry)) b i ⌝ }
+{
+    if score_at(buf, b) < score_at(buf, i) {
+        i
+    } else {
+        b
+    }
+}
+
+// The best of the positions from first to before end, with the tie decided as in `better`: a later position needs a
+// higher score.
+pub fn best_between(buf: &[u8], first: usize, end: usize) -> usize
+    requires { ⌜ (first < end) × (end ≤ maxEntries) ⌝ }
+    ensures { λ r. ⌜ (r ≡ bestBetween (now (buf .entry)) first end) × (r < end) ⌝ }
+{
+    let mut b = first;
+    let mut best = score_at(buf, first);
+    let mut i = first + 1;
+    while i < end {
+        let score = score_at(buf, i);
+        if best < score {
+            b = i;
+            best = score;
+        }
+        i += 1;
+    }
+    b
+}

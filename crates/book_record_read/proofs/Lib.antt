@@ -1,0 +1,3 @@
+pub mod RecordParts
+pub mod Standing
+pub mod Steps

@@ -1,0 +1,237 @@
+-- The tests of a record's parts are those of a record of a book, whichever positions are heads.
+use Prim.Native.Nat.{_+_, _-_, _<_, _≤_, suc, zero, ℕ}
+use mathlib.Core.Path.{_∙_, _≡_, refl, sym}
+use mathlib.Core.Bool.{Bool, _&&_, and-assoc, and-false, false, true}
+use mathlib.Core.List.{List, [], _++_, _∷_}
+use lib.Dec.{eqb, eqb·suc-zero, leb, ltb}
+use lib.ListN.{drop, drop-of-length-le, getD, length, length-append, length-drop, length-take, take}
+use lib.Seq.{length-take-le}
+use native.Mathlib.Omega.{arith}
+use borrow.Author.Tests.{eqb-true, le-leb, le-ltb, leb-false, leb-true}
+use Rattle.octets.specs.Lists.{all}
+use Rattle.octets.specs.Octets.{begins, below, common}
+use Rattle.octets_code.proofs.Loops.{drop-next}
+use Rattle.octets.proofs.Tests.{and-true, by-test, eqb-self}
+use Rattle.entries.specs.Names.{allowedBytes, isName, isPrefix, longestName}
+use Rattle.entries.proofs.Valid.{name-length}
+use Rattle.book_record_read.specs.RecordParts.{goesAbove, headPart, headTest, ownIf, recordPart, tailPart}
+use Rattle.book_record_read.specs.RecordParts.{tailTest}
+use Rattle.book.specs.Records.{recordLength, recordName, recordOf}
+use Rattle.book_laws.specs.Cursor.{recordIs}
+use Rattle.book_record_read.specs.declared.Part.the-variants.{Bad, Own}
+use Rattle.book_record_read.proofs.Standing.{head-stands, tail-stands}
+
+-- A name that keeps the first k bytes of prev and goes on with v: its bytes, its order.
+all-kept : (p : ℕ → Bool) (k : ℕ) (prev v : List ℕ) → all p prev ≡ true → all p (take k prev ++ v) ≡ all p v
+all-kept p zero prev v h = refl
+all-kept p (suc k) [] v h = refl
+all-kept p (suc k) (x ∷ prev) v h = let a = and-true (p x) (all p prev) h in rw (a .0) (all-kept p k prev v (a .1))
+
+prefix-kept :
+    (k : ℕ) (prev v : List ℕ) → isPrefix prev ≡ true → k ≤ length prev
+    → isPrefix (take k prev ++ v) ≡ (leb (k + length v) longestName && isPrefix v)
+unfolding isPrefix allowedBytes
+prefix-kept k prev v h q =
+    let a = and-true (leb (length prev) longestName) (allowedBytes prev) h in
+    let l : length (take k prev ++ v) ≡ k + length v = simp (length-append, length-take) (omega arith) in
+    rw (l, all-kept (λ b. leb 0x20 b && leb b 0x7E) k prev v (a .1))
+    (by-test (leb (k + length v) longestName)
+    (λ t. let z = leb-true (k + length v) longestName t in rw (t, le-leb (length v) longestName (omega arith)))
+    (λ t. rw t))
+
+below-kept : (k : ℕ) (prev v : List ℕ) → k ≤ length prev → below prev (take k prev ++ v) ≡ below (drop k prev) v
+below-kept zero prev v q = refl
+below-kept (suc k) [] v q = absurd (omega arith)
+below-kept (suc k) (x ∷ prev) v q = rw (eqb-self x) (below-kept k prev v (omega arith))
+
+-- the byte behind the kept ones decides at once that no more is shared, and that the name is above prev
+above-first : (x y : ℕ) (xs ys : List ℕ) → (eqb (common (x ∷ xs) (y ∷ ys)) 0 && below (x ∷ xs) (y ∷ ys)) ≡ ltb x y
+above-first x y xs ys =
+    by-test (eqb x y)
+    (λ t. let e = eqb-true x y t in rw (t, le-ltb x y (omega arith), eqb·suc-zero))
+    (λ t. rw t)
+
+above-kept :
+    (k : ℕ) (prev v : List ℕ)
+    → (eqb (common (drop k prev) v) 0 && below (drop k prev) v) ≡ (leb 1 (length v) && goesAbove prev k (getD v 0 0))
+unfolding goesAbove
+above-kept k prev [] = and-false (eqb (common (drop k prev) []) 0)
+above-kept k prev (y ∷ v) =
+    by-test (leb (length prev) k)
+    (λ t. rw (t, le-leb 1 (suc (length v)) (omega arith), drop-of-length-le prev (leb-true (length prev) k t)))
+    (λ t.
+    rw (t, le-leb 1 (suc (length v)) (omega arith), drop-next prev k (leb-false (length prev) k t))
+    (above-first (getD prev k 0) y (drop (k + 1) prev) v))
+
+and-swap : (a b c : Bool) → (a && (b && c)) ≡ (b && (a && c))
+and-swap true b c = refl
+and-swap false b c = sym (and-false b)
+
+-- all tests of the name at once
+name-kept :
+    (k : ℕ) (prev v : List ℕ) → isPrefix prev ≡ true → k ≤ length prev
+    → (eqb (common (drop k prev) v) 0 && (isName (take k prev ++ v) && below prev (take k prev ++ v)))
+    ≡ (leb 1 (length v) && (leb (k + length v) longestName && (isPrefix v && goesAbove prev k (getD v 0 0))))
+unfolding isName
+name-kept k prev v h q =
+    let l : length (take k prev ++ v) ≡ k + length v = simp (length-append, length-take) (omega arith) in
+    rw (
+      below-kept k prev v q,
+      and-swap (eqb (common (drop k prev) v) 0),
+      above-kept k prev v,
+      l,
+      prefix-kept k prev v h q,
+    )
+    (by-test (leb 1 (length v))
+    (λ t.
+    let z = leb-true 1 (length v) t in
+    rw (t, le-leb 1 (k + length v) (omega arith))
+    (and-assoc (leb (k + length v) longestName) (isPrefix v) (goesAbove prev k (getD v 0 0))))
+    (λ t. rw t (and-false (leb 1 (k + length v) && (leb (k + length v) longestName && isPrefix v)))))
+
+module _ (isHead : ℕ → Bool) (i : ℕ) (prev : List ℕ) where
+  -- what the three tests of a record of a book say
+  pub record-is :
+      (s : List ℕ) → recordIs isHead i prev s ≡ true
+      → let w = recordName isHead i prev s in
+      (begins (recordOf isHead i prev w) s ≡ true) × (isName w ≡ true) × (below prev w ≡ true)
+  unfolding recordIs
+  record-is s t =
+      let w = recordName isHead i prev s in
+      let a = and-true (begins (recordOf isHead i prev w) s) (isName w && below prev w) t in
+      let b = and-true (isName w) (below prev w) (a .1) in
+      (a .0, b .0, b .1)
+
+  head-name : (s : List ℕ) → isHead i ≡ true → recordName isHead i prev s ≡ take (getD s 0 0) (drop 1 s)
+  unfolding recordName
+  head-name s e = rw e
+
+  tail-name :
+      (s : List ℕ) → isHead i ≡ false → recordName isHead i prev s ≡ take (getD s 0 0) prev
+      ++ take (getD s 1 0) (drop 2 s)
+  unfolding recordName
+  tail-name s e = rw e
+
+  head-none : isHead i ≡ true → recordIs isHead i prev [] ≡ false
+  unfolding recordIs recordOf
+  head-none e = rw e
+
+  head-test : (s : List ℕ) → isHead i ≡ true → headTest prev s ≡ recordIs isHead i prev s
+  unfolding headTest recordIs
+  head-test [] e = sym (head-none e)
+  head-test (n ∷ bs) e =
+      let z : suc (length bs) - 1 ≡ length bs = omega arith in
+      rw (head-stands isHead i n prev bs e, head-name (n ∷ bs) e, le-leb 1 (suc (length bs)) (omega arith), z)
+
+  tail-none : (s : List ℕ) → length s < 2 → isHead i ≡ false → recordIs isHead i prev s ≡ false
+  unfolding recordIs recordOf
+  tail-none [] h e = rw e
+  tail-none (x ∷ []) h e = rw (e, and-false)
+  tail-none (x ∷ y ∷ s) h e = absurd (omega arith)
+
+  tail-test : (s : List ℕ) → isHead i ≡ false → isPrefix prev ≡ true → tailTest prev s ≡ recordIs isHead i prev s
+  unfolding tailTest recordIs
+  tail-test [] e h = sym (tail-none [] (omega arith) e)
+  tail-test (x ∷ []) e h = sym (tail-none (x ∷ []) (omega arith) e)
+  tail-test (k ∷ n ∷ bs) e h =
+      let z : suc (suc (length bs)) - 2 ≡ length bs = omega arith in
+      rw (
+        tail-stands isHead i k n prev bs e,
+        tail-name (k ∷ n
+            ∷ bs) e,
+        le-leb 2 (suc (suc (length bs))) (omega arith),
+        z,
+      )
+      (by-test (leb k (length prev))
+      (λ t.
+      by-test (leb n (length bs))
+      (λ u.
+      let l = length-take-le n bs (leb-true n (length bs) u) in
+      rw (t, u) (sym (rw l at (name-kept k prev (take n bs) h (leb-true k (length prev) t)))))
+      (λ u. rw (t, u) (and-false (leb 1 n))))
+      (λ t. rw t))
+
+  pub head-part : (s : List ℕ) → isHead i ≡ true → headPart prev s ≡ recordPart isHead i prev s
+  unfolding recordPart
+  head-part s e = rw (e, head-test s e)
+
+  pub tail-part : (s : List ℕ) → isHead i ≡ false → isPrefix prev ≡ true → tailPart prev s ≡ recordPart isHead i prev s
+  unfolding recordPart
+  tail-part s e h = rw (e, tail-test s e h)
+
+-- what the parts of a record say of it
+pub record Owned (isHead : ℕ → Bool) (i : ℕ) (prev s : List ℕ) (kept start n : ℕ) : Type 0 where
+  pub is : recordIs isHead i prev s ≡ true
+  pub name : recordName isHead i prev s ≡ take kept prev ++ take n (drop start s)
+  pub long : recordLength isHead i s ≡ start + n
+  pub within : kept ≤ length prev
+  pub short : kept + n ≤ longestName
+  pub inside : start + n ≤ length s
+
+own-if : (t : Bool) (a b d : ℕ) {k m n : ℕ} → ownIf t a b d ≡ Own k m n → (t ≡ true) × (a ≡ k) × (b ≡ m) × (d ≡ n)
+own-if true a b d e = (refl, (cc), (cc), (cc))
+own-if false a b d e = absurd (let z : _≡_ {A = ℕ} 0 1 = cc in omega arith)
+
+own-not : (t : Bool) (a b d : ℕ) → ownIf t a b d ≡ Bad → t ≡ false
+own-not true a b d e = absurd (let z : _≡_ {A = ℕ} 0 1 = cc in omega arith)
+own-not false a b d e = refl
+
+module _ (isHead : ℕ → Bool) (i : ℕ) (prev s : List ℕ) where
+  -- found parts are those of a record of a book; no parts, no such record
+  head-owned : isHead i ≡ true → headTest prev s ≡ true → Owned isHead i prev s 0 1 (getD s 0 0)
+  unfolding headTest recordLength
+  head-owned e t =
+      let w = take (getD s 0 0) (drop 1 s) in
+      let a = and-true (leb 1 (length s)) _ t in
+      let b = and-true (leb (getD s 0 0) (length s - 1)) _ (a .1) in
+      let c = and-true (isName w) _ (b .1) in
+      let x : 1 ≤ length s = leb-true 1 (length s) (a .0) in
+      let y : getD s 0 0 ≤ length s - 1 = leb-true (getD s 0 0) (length s - 1) (b .0) in
+      let l : length w ≡ getD s 0 0 = simp (length-take, length-drop) (omega arith) in
+      record {
+        is = sym (head-test isHead i prev s e) ∙ t;
+        name = head-name isHead i prev s e;
+        long = rw e;
+        within = omega arith;
+        short = omega (arith, name-length w (c .0));
+        inside = omega arith;
+      }
+
+  tail-owned : isHead i ≡ false → isPrefix prev ≡ true → tailTest prev s ≡ true
+      → Owned isHead i prev s (getD s 0 0) 2 (getD s 1 0)
+  unfolding tailTest recordLength
+  tail-owned e h t =
+      let a = and-true (leb 2 (length s)) _ t in
+      let b = and-true (leb (getD s 0 0) (length prev)) _ (a .1) in
+      let c = and-true (leb 1 (getD s 1 0)) _ (b .1) in
+      let d = and-true (leb (getD s 1 0) (length s - 2)) _ (c .1) in
+      let f = and-true (leb (getD s 0 0 + getD s 1 0) longestName) _ (d .1) in
+      let x : 2 ≤ length s = leb-true 2 (length s) (a .0) in
+      let y : getD s 1 0 ≤ length s - 2 = leb-true (getD s 1 0) (length s - 2) (d .0) in
+      record {
+        is = sym (tail-test isHead i prev s e h) ∙ t;
+        name = tail-name isHead i prev s e;
+        long = rw e;
+        within = leb-true (getD s 0 0) (length prev) (b .0);
+        short = leb-true (getD s 0 0 + getD s 1 0) longestName (f .0);
+        inside = omega arith;
+      }
+
+  pub part-own :
+      (kept start n : ℕ) → isPrefix prev ≡ true → recordPart isHead i prev s ≡ Own kept start n
+      → Owned isHead i prev s kept start n
+  part-own kept start n h q =
+      by-test (isHead i)
+      (λ e.
+      let x = own-if (headTest prev s) 0 1 (getD s 0 0) (head-part isHead i prev s e ∙ q) in
+      rw (← (x .1), ← (x .2), ← (x .3)) (head-owned e (x .0)))
+      (λ e.
+      let x = own-if (tailTest prev s) (getD s 0 0) 2 (getD s 1 0) (tail-part isHead i prev s e h ∙ q) in
+      rw (← (x .1), ← (x .2), ← (x .3)) (tail-owned e h (x .0)))
+
+  pub part-bad : recordPart isHead i prev s ≡ Bad → recordIs isHead i prev s ≡ false
+  unfolding recordPart
+  part-bad q =
+      by-test (isHead i)
+      (λ e. own-not (recordIs isHead i prev s) 0 1 (getD s 0 0) (rw e at q))
+      (λ e. own-not (recordIs isHead i prev s) (getD s 0 0) 2 (getD s 1 0) (rw e at q))

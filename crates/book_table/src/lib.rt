@@ -1,0 +1,26 @@
+// The names and scores of a book that was checked, unpacked into the rows of a table.
+use limits::LONGEST_NAME;
+ghost use lib.ListN.{length};
+ghost use Rattle.book.specs.Book.{inBook};
+ghost use Rattle.book_laws.specs.Held.{Held};
+ghost use Rattle.book_table.specs.Table.{Room, Unpacked};
+
+// Unpacks the n entries of a book: names into rows of 48 bytes, their lengths, their scores.
+pub fn unpack(book: &[u8], n: usize, names: &mut [u8], lens: &mut [u8], scores: &mut [u32])
+    requires { ⌜ Held (now book) n × Room n (length (now names)) (length (now lens)) (length (now scores)) ⌝ }
+    ensures { λ _. ⌜ Unpacked (inBook (now (book .entry))) n (now (names .exit)) (now (lens .exit))
+        (now (scores .exit)) ⌝ }
+{
+    let mut name = [0; LONGEST_NAME];
+    let mut at = book_layout::records_at(n);
+    let mut i = 0;
+    while i < n {
+        let p = book_read::read_name(book, at, i, &mut name);
+        let len = p.kept + p.own;
+        octets_code::copy(names, i * LONGEST_NAME, &name[..len]);
+        lens[i] = len as u8;
+        scores[i] = book_layout::score_at(book, i);
+        at += p.start + p.own;
+        i += 1;
+    }
+}

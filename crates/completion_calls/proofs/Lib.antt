@@ -1,0 +1,3 @@
+pub mod Calls
+pub mod Parameters
+pub mod Running

@@ -1,0 +1,1 @@
+// Empty, set and withdraw: definitions in specs/, laws in proofs/.

@@ -1,4 +1,0 @@
-pub mod Empty
-pub mod Runs
-pub mod Splice
-pub mod Parts

@@ -1,4 +1,0 @@
-pub mod Edits
-pub mod Splice
-pub mod Runs
-pub mod Worked

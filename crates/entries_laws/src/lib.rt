@@ -1,0 +1,1 @@
+// The place of a key among entries, and entries spliced: inner definitions in specs/, laws in proofs/.

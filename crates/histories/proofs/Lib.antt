@@ -1,4 +1,0 @@
-pub mod Counting
-pub mod Playing
-pub mod Running
-pub mod Theorem

@@ -1,4 +1,0 @@
-pub mod Cutting
-pub mod Theorem
-pub mod Feeding
-pub mod Input

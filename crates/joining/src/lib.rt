@@ -1,1 +1,0 @@
-// Definitions in specs/, laws in proofs/; no functions.

@@ -1,0 +1,2 @@
+pub mod HeadStart
+pub mod Told

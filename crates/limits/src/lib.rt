@@ -1,0 +1,67 @@
+// The numbers of the formats and of the program, by name. Each has the name that the definitions give it, which is said
+// behind it; a function's contract speaks of that one.
+
+// The most bytes of a name or a prefix: `longestName`.
+pub const LONGEST_NAME: usize = 48;
+// The first and the last byte that a name may have; the panel's keys of these append: `allowedBytes`, `appends`.
+pub const FIRST_ALLOWED: u8 = 0x20;
+
+pub const LAST_ALLOWED: u8 = 0x7E;
+
+// The most entries of a book, a trie or a sheet: `maxEntries`.
+pub const MAX_ENTRIES: usize = 1024;
+// The bytes of a score, in an image and in an answer.
+pub const SCORE_BYTES: usize = 4;
+// The bytes of an entry besides its name, in an answer and in a sheet: length byte and score.
+pub const ENTRY_OVERHEAD: usize = 5;
+
+// The first bytes of every image: version, total length, number of entries.
+pub const FRAME_LENGTH: usize = 7;
+// Where the total length and the number of entries stand in them.
+pub const TOTAL_AT: usize = 1;
+
+pub const COUNT_AT: usize = 5;
+// The versions of a book, a sheet and a trie.
+pub const BOOK_VERSION: u8 = 0x21;
+
+pub const SHEET_VERSION: u8 = 0x11;
+
+pub const TRIE_VERSION: u8 = 0x31;
+
+// The names in a bucket of a book: `bucketSize`.
+pub const BUCKET_SIZE: usize = 8;
+// The entries in a block that has a peak: `blockSize`.
+pub const BLOCK_SIZE: usize = 16;
+// The most bytes of a trie node's label: `longestLabel`.
+pub const LONGEST_LABEL: usize = 7;
+
+// The most entries that a completion offers: `maxCount`.
+pub const MAX_COUNT: usize = 16;
+// The bytes that a completion's destination must have for each entry asked for: `entryRoom`.
+pub const ENTRY_ROOM: usize = 53;
+// How many entries the panel asks for: `panelCount`.
+pub const PANEL_COUNT: usize = 5;
+// The panel's keys that append nothing: `acts`; key 0 only counts the rows again.
+pub const KEY_UP: u8 = 0x01;
+
+pub const KEY_DOWN: u8 = 0x02;
+
+pub const KEY_ERASE: u8 = 0x08;
+
+pub const KEY_TAKE: u8 = 0x0D;
+
+// The length of each of the program's two buffers: `bufferLength`.
+pub const BUFFER_LENGTH: usize = 57344;
+// The bytes of a command line that are kept: `keptBytes`.
+pub const KEPT_BYTES: usize = 64;
+// The most digits of a number in a command line or printed: `hasNumber`, `decimal`.
+pub const MOST_DIGITS: usize = 10;
+// The bytes that the lines of one command may take: `lineRoom`.
+pub const LINE_ROOM: usize = 1024;
+
+// The bytes of a script's call before its name: kind, score, length of the name.
+pub const CALL_HEAD: usize = 7;
+// Where the length of the name stands in them.
+pub const NAME_LENGTH_AT: usize = 5;
+// The bytes that an answer is kept in: number, entries, bytes.
+pub const KEPT_ANSWER: usize = 7;

@@ -1,0 +1,66 @@
+-- Finding and prefix ranges by the place of a key.
+use Prim.Native.Nat.{_*_, _-_, _<_, _≤_, ℕ}
+use mathlib.Core.Path.{_≡_, refl, sym}
+use mathlib.Core.Logic.{inl, inr}
+use mathlib.Core.Bool.{false, false≢true, not, true}
+use mathlib.Core.List.{List, [], _∷_}
+use lib.Dec.{leb}
+use lib.ListN.{length}
+use native.Mathlib.Omega.{arith}
+use borrow.Author.Tests.{eq-eqb, leb-false, ne-eqb, not-false}
+use Rattle.octets.specs.Lists.{_∈_, ceil}
+use Rattle.octets.proofs.Lists.{at-all}
+use Rattle.entries.specs.Completion.{matches, rangeStart}
+use Rattle.entries.specs.Entries.{Entry, at, noEntry, rising}
+use Rattle.entries.specs.Names.{isName}
+use Rattle.entries_laws.specs.Place.{place}
+use Rattle.entries_laws.proofs.Place.{place-first, place-matches}
+use Rattle.entries.proofs.Valid.{name-above, valid-of}
+use Rattle.book.specs.Records.{bucketSize}
+use Rattle.answer.specs.Answers.{Check, _when_}
+use Rattle.book.specs.Book.{inBook, isBook}
+use Rattle.lookup.specs.Lookups.{HeadPart, headLength, headName}
+use Rattle.answer.proofs.Answers.{clear, given-is}
+use Rattle.book.proofs.Reading.{valid-in}
+
+-- the matches of a prefix lie between its two places
+pub range-some :
+    (p : List ℕ) (es : List Entry) → rising es ≡ true → place false p es < place true p es
+    → (rangeStart p es ≡ place false p es) × (length (matches p es) ≡ place true p es - place false p es)
+unfolding rangeStart
+range-some p es r l =
+    let m = place-matches p es in
+    let pos : 0 < length (matches p es) = omega arith in
+    (rw (ne-eqb (length (matches p es)) 0 (λ z. omega arith)) (sym (place-first p es r pos)), omega arith)
+
+pub range-none :
+    (p : List ℕ) (es : List Entry) → place true p es ≤ place false p es → (rangeStart p es ≡ 0)
+    × (length (matches p es) ≡ 0)
+unfolding rangeStart
+range-none p es l =
+    let m = place-matches p es in
+    let z : length (matches p es) ≡ 0 = omega arith in
+    (rw (eq-eqb (length (matches p es)) 0 z), z)
+
+-- the head part and its companion
+pub head-part : (book : List ℕ) (j : ℕ) → HeadPart book j
+unfolding headName headLength
+head-part book j = record {
+  empty = λ n h. rw h;
+  whole = λ k h. (rw h (given-is checks len k h), (λ e. some-name (clear checks len k h) (rw h at e)));
+}
+  where
+    len : ℕ
+    len = length (at (inBook book) (bucketSize * j) .name)
+
+    checks : List Check
+    checks = 1 when not (isBook book) ∷ 6 when leb (ceil (length (inBook book)) bucketSize) j ∷ []
+
+    some-name : ((c : Check) → c ∈ checks → c .applies ≡ false) → at (inBook book) (bucketSize * j) .name ≡ [] → ⊥
+    some-name ok e =
+        let b = not-false (isBook book) (ok _ (inl refl)) in
+        let l = leb-false (ceil (length (inBook book)) bucketSize) j (ok _ (inr (inl refl))) in
+        let v = valid-of (inBook book) (valid-in book b) in
+        let n = at-all (λ f. isName (f .name)) noEntry (inBook book) (v .allowed) (bucketSize * j) (omega arith) in
+        let m : isName [] ≡ true = rw e at n in
+        false≢true (name-above [] m)

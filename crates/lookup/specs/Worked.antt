@@ -1,0 +1,106 @@
+-- Worked cases of the read-only calls: one table, one proposition.
+use Prim.Native.Nat.{ℕ}
+use mathlib.Core.Path.{_≡_, refl}
+use mathlib.Core.List.{List, [], _++_, _∷_}
+use lib.ListN.{replicate, take}
+use Rattle.octets.specs.Octets.{be, fromBe}
+use Rattle.octets.specs.Table.{Row, _gives_, failing}
+use Rattle.octets.specs.Text.{text}
+use Rattle.entries.specs.Completion.{rangeStart}
+use Rattle.entries.specs.Entries.{entry, valid}
+use Rattle.entries.specs.Names.{allowedBytes, isName, isPrefix, isScore}
+use Rattle.book.specs.Records.{recordLength, recordName, recordOf}
+use Rattle.answer.specs.Answers.{entryBytes, writing, writingImage}
+use Rattle.book.specs.Book.{bookImage, entriesIn, imageIn, offset, offsets, peak, peaks, readBook, readIn, recordsAt}
+use Rattle.book.specs.Book.{scores}
+use Rattle.frame.specs.Frame.{countOf, framed, readAs}
+use Rattle.lookup.specs.Lookups.{find, foundIn, headLength, headName, nameAt, nameOf, prefixRange}
+use Rattle.book.specs.Shown.{P1, P3, P4, answerEntry, changed, seventeenBook, shownFound, shownLength, shownSpan}
+use Rattle.book.specs.Shown.{shownWritten, spare}
+
+abbrev finding : List Row
+finding =
+    -- present: position and score
+    (shownFound (find P3 (text "ac")) gives (0 ∷ 0 ∷ 5 ∷ []))
+    ∷ (shownFound (find (P3 ++ spare 3) (text "rc step")) gives (0 ∷ 2 ∷ 9 ∷ []))
+    ∷ (shownFound (find seventeenBook (text "q")) gives (0 ∷ 16 ∷ 0 ∷ []))
+    -- absent: none
+    ∷ (shownFound (find P3 (text "r")) gives (0 ∷ []))
+    ∷ (shownFound (find P1 (replicate 48 0x7E)) gives (0 ∷ []))
+    -- a name that is not allowed; no book, which comes first
+    ∷ (shownFound (find P3 []) gives (2 ∷ []))
+    ∷ (shownFound (find P3 (replicate 49 0x7E)) gives (2 ∷ []))
+    ∷ (shownFound (find P3 (0x1F ∷ [])) gives (2 ∷ []))
+    ∷ (shownFound (find P3 (0x7F ∷ [])) gives (2 ∷ []))
+    ∷ (shownFound (find (take 43 P3) (text "ac")) gives (1 ∷ []))
+    ∷ (shownFound (find (take 43 P3) []) gives (1 ∷ []))
+    ∷ []
+
+abbrev naming : List Row
+naming =
+    -- the entry at a position into 14 bytes, into the 12 that it needs, into 11
+    (shownWritten (nameAt (P3 ++ spare 2) 2 (spare 14)) gives (0 ∷ 1 ∷ 12 ∷ answerEntry "rc step" 9 ++ spare 2))
+    ∷ (shownWritten (nameAt P3 2 (spare 12)) gives (0 ∷ 1 ∷ 12 ∷ answerEntry "rc step" 9))
+    ∷ (shownWritten (nameAt P3 2 (spare 11)) gives (7 ∷ 0 ∷ 0 ∷ spare 11))
+    -- position n, and beyond any: 6 before 7; no book before both
+    ∷ (shownWritten (nameAt P3 4 (spare 53)) gives (6 ∷ 0 ∷ 0 ∷ spare 53))
+    ∷ (shownWritten (nameAt P3 4294967296 []) gives (6 ∷ 0 ∷ 0 ∷ []))
+    ∷ (shownWritten (nameAt P1 0 (spare 2)) gives (6 ∷ 0 ∷ 0 ∷ spare 2))
+    ∷ (shownWritten (nameAt (take 43 P3) 4 []) gives (1 ∷ 0 ∷ 0 ∷ []))
+    -- the entry of a name into 8 bytes, 7, 6
+    ∷ (shownWritten (nameOf P3 (text "rl") (spare 8)) gives (0 ∷ 1 ∷ 7 ∷ answerEntry "rl" 12 ++ spare 1))
+    ∷ (shownWritten (nameOf P3 (text "rl") (spare 7)) gives (0 ∷ 1 ∷ 7 ∷ answerEntry "rl" 12))
+    ∷ (shownWritten (nameOf P3 (text "rl") (spare 6)) gives (7 ∷ 0 ∷ 0 ∷ spare 6))
+    -- not in the book: 4 before 7; not allowed; no book
+    ∷ (shownWritten (nameOf P3 (text "rc s") []) gives (4 ∷ 0 ∷ 0 ∷ []))
+    ∷ (shownWritten (nameOf P3 [] (spare 53)) gives (2 ∷ 0 ∷ 0 ∷ spare 53))
+    ∷ (shownWritten (nameOf (changed P3 26 (1 ∷ [])) [] (spare 5)) gives (1 ∷ 0 ∷ 0 ∷ spare 5))
+    ∷ []
+
+abbrev ranges : List Row
+ranges =
+    -- first position and count
+    (shownSpan (prefixRange P3 (text "r")) gives (0 ∷ 1 ∷ 3 ∷ []))
+    ∷ (shownSpan (prefixRange P3 (text "rc")) gives (0 ∷ 1 ∷ 2 ∷ []))
+    ∷ (shownSpan (prefixRange P3 (text "rl")) gives (0 ∷ 3 ∷ 1 ∷ []))
+    ∷ (shownSpan (prefixRange P3 []) gives (0 ∷ 0 ∷ 4 ∷ []))
+    ∷ (shownSpan (prefixRange seventeenBook (text "q")) gives (0 ∷ 16 ∷ 1 ∷ []))
+    -- none: first is 0, wherever they would stand
+    ∷ (shownSpan (prefixRange P3 (text "q")) gives (0 ∷ 0 ∷ 0 ∷ []))
+    ∷ (shownSpan (prefixRange P3 (text "z")) gives (0 ∷ 0 ∷ 0 ∷ []))
+    ∷ (shownSpan (prefixRange P1 []) gives (0 ∷ 0 ∷ 0 ∷ []))
+    -- a prefix that is not allowed; no book
+    ∷ (shownSpan (prefixRange P3 (replicate 48 0x72)) gives (0 ∷ 0 ∷ 0 ∷ []))
+    ∷ (shownSpan (prefixRange P3 (replicate 49 0x72)) gives (2 ∷ 0 ∷ 0 ∷ []))
+    ∷ (shownSpan (prefixRange P3 (0x72 ∷ 0x1F ∷ [])) gives (2 ∷ 0 ∷ 0 ∷ []))
+    ∷ (shownSpan (prefixRange P4 []) gives (1 ∷ 0 ∷ 0 ∷ []))
+    ∷ []
+
+-- the companion's number and length, then the head name
+abbrev headOf : List ℕ → ℕ → List ℕ
+headOf book j = shownLength (headLength book j) ++ headName book j
+
+abbrev heads : List Row
+heads =
+    (headOf (P3 ++ spare 3) 0 gives (0 ∷ 2 ∷ text "ac"))
+    ∷ (headOf seventeenBook 1 gives (0 ∷ 1 ∷ text "i"))
+    ∷ (headOf seventeenBook 2 gives (0 ∷ 1 ∷ text "q"))
+    -- a length of 6 is no refusal
+    ∷ (headOf (bookImage (entry (text "abcdef") 1 ∷ [])) 0 gives (0 ∷ 6 ∷ text "abcdef"))
+    -- a bucket that the book lacks; no book, which comes first: an empty part
+    ∷ (headOf seventeenBook 3 gives (6 ∷ 0 ∷ []))
+    ∷ (headOf P3 1 gives (6 ∷ 0 ∷ []))
+    ∷ (headOf P3 4294967296 gives (6 ∷ 0 ∷ []))
+    ∷ (headOf P1 0 gives (6 ∷ 0 ∷ []))
+    ∷ (headOf (take 43 P3) 0 gives (1 ∷ 0 ∷ []))
+    ∷ (headOf (take 43 P3) 1 gives (1 ∷ 0 ∷ []))
+    ∷ []
+
+abbrev table : List Row
+table = finding ++ naming ++ ranges ++ heads
+
+worked : failing 0 table ≡ []
+unfolding be fromBe allowedBytes isPrefix isName isScore valid rangeStart recordOf recordName recordLength framed
+    countOf readAs scores peak peaks recordsAt offset offsets imageIn entriesIn readIn bookImage readBook writing
+    writingImage entryBytes find foundIn nameAt nameOf prefixRange headLength headName
+worked = refl

@@ -1,0 +1,156 @@
+-- What lookups by name learn of a book that was checked.
+use Prim.Native.Nat.{_-_, _<_, ℕ}
+use mathlib.Core.Path.{_∙_, _≡_, ap, sym}
+use mathlib.Core.Logic.{inl, inr}
+use mathlib.Core.Bool.{false, true}
+use mathlib.Core.List.{List, [], _∷_}
+use mathlib.Core.Option.{Option, none, some}
+use lib.Dec.{ltb}
+use lib.ListN.{length}
+use native.Mathlib.Omega.{arith}
+use denote.Enum.Declared.{tagOf}
+use types.Run.{OneOf}
+use borrow.Author.Tests.{lt-ltb, ltb-true}
+use Rattle.answer.proofs.Found.{the-type}
+use Rattle.octets.specs.Octets.{same}
+use Rattle.octets.proofs.Order.{same-eq}
+use Rattle.octets.proofs.Tests.{and-true, by-test}
+use Rattle.entries.specs.Entries.{Entry, at, entry, holds, position}
+use Rattle.entries_laws.specs.Place.{place}
+use Rattle.entries_laws.proofs.Place.{place-absent, place-held, position-at}
+use Rattle.entries.proofs.Same.{entry-eq}
+use Rattle.answer.specs.Answers.{Answer, FoundCounts, given, refused}
+use Rattle.book.specs.Book.{inBook}
+use Rattle.book_laws.specs.Check.{scoreAt}
+use Rattle.book_laws.specs.Held.{Held}
+use Rattle.lookup.specs.Lookups.{foundIn}
+use Rattle.book_laws.proofs.Held.{held-stored, held-valid}
+use Rattle.book_find.specs.Find.{Seeks, isAt}
+use Rattle.book_find.specs.declared.Sought.{Sought}
+use Rattle.answer.specs.Reports.{foundOf}
+use Rattle.lookup_find.specs.Finding.{placeAs}
+use Rattle.lookup_find.specs.declared.Spot.the-variants as places
+use Rattle.answer.specs.declared.Found.{Found}
+use Rattle.answer.specs.declared.Found.the-variants as found
+
+-- what the search for a name gave: its place has another name or is past the last entry, a gap; or it has that name
+module _ (b w : List ℕ) (n : ℕ) {s : Sought} (h : Held b n) (k : Seeks false w (inBook b) s) where
+  pub gap-here : s .same ≡ false → places.Gap (s .index) ≡ placeAs w (inBook b)
+  gap-here t =
+      let z : isAt (inBook b) (place false w (inBook b)) w ≡ false = rw (k .index) at (sym (k .same) ∙ t) in
+      rw (
+        place-absent w (inBook b) (held-valid h .order)
+            (λ m. rw (lt-ltb (place false w (inBook b)) (length (inBook b)) m) at z),
+        k .index,
+      )
+
+  pub held-here : s .same ≡ true → places.Held (s .index) ≡ placeAs w (inBook b)
+  held-here t =
+      let i = place false w (inBook b) in
+      let z : isAt (inBook b) (place false w (inBook b)) w ≡ true = rw (k .index) at (sym (k .same) ∙ t) in
+      let a = and-true (ltb i (length (inBook b))) (same (at (inBook b) i .name) w) z in
+      let f = place-held w (inBook b) (held-valid h .order) (ltb-true i (length (inBook b)) (a .0))
+      (same-eq (at (inBook b) i .name) w (a .1)) in
+      rw (f .0, f .1, k .index)
+
+-- taken apart: a position is that of a name that is held, a gap the place of one that is not
+pub at-held : (w : List ℕ) (es : List Entry) {i : ℕ} → places.Held i ≡ placeAs w es → (holds w es ≡ true)
+    × (i ≡ position w es)
+at-held w es {i} e =
+    by-test (holds w es)
+    (λ t. (t, (let z : places.Held i ≡ places.Held (position w es) = rw t at e in cc)))
+    (λ t. let z : places.Held i ≡ places.Gap (place false w es) = rw t at e in let y : _≡_ {A = ℕ} 0 1 = cc in
+    absurd (omega arith))
+
+pub at-gap : (w : List ℕ) (es : List Entry) {i : ℕ} → places.Gap i ≡ placeAs w es → (holds w es ≡ false)
+    × (i ≡ place false w es)
+at-gap w es {i} e =
+    by-test (holds w es)
+    (λ t. let z : places.Gap i ≡ places.Held (position w es) = rw t at e in let y : _≡_ {A = ℕ} 0 1 = cc in
+    absurd (omega arith))
+    (λ t. (t, (let z : places.Gap i ≡ places.Gap (place false w es) = rw t at e in cc)))
+
+pub held-low : (b w : List ℕ) (n : ℕ) {i : ℕ} → Held b n → places.Held i ≡ placeAs w (inBook b) → i < n
+held-low b w n {i} h e =
+    let f = at-held w (inBook b) e in
+    omega (arith, h .count, f .1, position-at w (inBook b) (f .0) .0)
+
+-- so finding gives the position with its score, or none
+pub found-at :
+    (b w : List ℕ) (n i s : ℕ) → Held b n → places.Held i ≡ placeAs w (inBook b) → s ≡ scoreAt b i
+    → _≡_ {A = Answer (Option FoundCounts)} (given (some (record { position = i; score = s })))
+    (given (foundIn w (inBook b)))
+unfolding foundIn
+found-at b w n i s h e z =
+    let f = at-held w (inBook b) e in
+    let m = position-at w (inBook b) (f .0) .0 in
+    let score : s ≡ at (inBook b) (position w (inBook b)) .score = z ∙ ap (scoreAt b) (f .1)
+    ∙ held-stored h .scoredAt (position w (inBook b)) m in
+    rw (f .0, f .1, score)
+
+pub found-gap :
+    (b w : List ℕ) (i : ℕ) → places.Gap i ≡ placeAs w (inBook b)
+    → _≡_ {A = Answer (Option FoundCounts)} (given none) (given (foundIn w (inBook b)))
+unfolding foundIn
+found-gap b w i e = rw (at-gap w (inBook b) e .0)
+
+scoreIn : Answer (Option FoundCounts) → ℕ
+scoreIn (refused n) = 0
+scoreIn (given none) = 0
+scoreIn (given (some p)) = p .score
+
+positionIn : Answer (Option FoundCounts) → ℕ
+positionIn (refused n) = 0
+positionIn (given none) = 0
+positionIn (given (some p)) = p .position
+
+-- a name that is found is the entry at its position
+pub found-entry :
+    (w : List ℕ) (es : List Entry) (i s : ℕ)
+    → _≡_ {A = Answer (Option FoundCounts)} (given (some (record { position = i; score = s }))) (given (foundIn w es))
+    → (holds w es ≡ true) × (entry w s ≡ at es (position w es))
+unfolding foundIn scoreIn
+found-entry w es i s h =
+    by-test (holds w es)
+    (λ t. (t, here t (rw t at h)))
+    (λ t. let y : _≡_ {A = Answer (Option FoundCounts)} (given (some (record { position = i; score = s })))
+    (given none) = rw
+    t at h in let z : _≡_ {A = ℕ} 0 1 = cc in absurd (omega arith))
+  where
+    here : holds w es ≡ true → _≡_ {A = Answer (Option FoundCounts)} (given (some (record { position = i; score = s })))
+        (given (some (record { position = position w es; score = at es (position w es) .score })))
+        → entry w s ≡ at es (position w es)
+    here t e =
+        let q : s ≡ at es (position w es) .score = ap scoreIn e in
+        entry-eq (entry w s) (at es (position w es)) (sym (position-at w es t .1)) q
+
+pub found-position :
+    (w : List ℕ) (es : List Entry) (i s : ℕ)
+    → _≡_ {A = Answer (Option FoundCounts)} (given (some (record { position = i; score = s }))) (given (foundIn w es))
+    → (holds w es ≡ true) × (i ≡ position w es)
+unfolding foundIn positionIn
+found-position w es i s h =
+    by-test (holds w es)
+    (λ t. (t, ap positionIn (rw t at h)))
+    (λ t. let y : _≡_ {A = Answer (Option FoundCounts)} (given (some (record { position = i; score = s })))
+    (given none) = rw
+    t at h in let z : _≡_ {A = ℕ} 0 1 = cc in absurd (omega arith))
+
+found-not : (w : List ℕ) (es : List Entry)
+    → _≡_ {A = Answer (Option FoundCounts)} (given none) (given (foundIn w es))
+    → holds w es ≡ false
+unfolding foundIn
+found-not w es h =
+    by-test (holds w es)
+    (λ t. let y : _≡_ {A = Answer (Option FoundCounts)} (given none)
+    (given (some (record { position = position w es; score = at es (position w es) .score }))) = rw t at h in
+    let z : _≡_ {A = ℕ} 0 1 = cc in absurd (omega arith))
+    (λ t. t)
+
+-- an answer to finding in a book that was checked, and no position: the name is absent
+pub not-found : (w : List ℕ) (es : List Entry) (f : Found) → foundOf f ≡ given (foundIn w es)
+    → OneOf (0 ∷ 2 ∷ []) (tagOf the-type f) → holds w es ≡ false
+not-found w es (found.Refused n) e t = let z : _≡_ {A = ℕ} 0 1 = cc in absurd (omega arith)
+not-found w es (found.At i s) e (inl t) = absurd (omega arith)
+not-found w es (found.At i s) e (inr t) = absurd (omega arith)
+not-found w es found.Absent e t = found-not w es e

@@ -1,0 +1,33 @@
+// A book's parts by number: how many entries it has, and the entry at a position.
+use answer::Checked;
+use answer::Written;
+use frame_code::Image;
+ghost use mathlib.Core.Path.{_≡_};
+ghost use Rattle.lookup.specs.Lookups.{checkBook, nameAt};
+ghost use Rattle.answer.specs.Reports.{Answered, checkedOf};
+
+// Checks the book at the front of a buffer, in one pass.
+pub fn check(book: &[u8]) -> Checked
+    ensures { λ r. ⌜ checkedOf r ≡ checkBook (now (book .entry)) ⌝ }
+{
+    let Image::Entries(n) = book_check::check(book) else {
+        return Checked::Refused(1);
+    };
+    Checked::Entries(n)
+}
+
+// Writes the entry at a position as one answer entry.
+pub fn name_at(book: &[u8], position: usize, dst: &mut [u8]) -> Written
+    ensures { λ r. ⌜ Answered (nameAt (now (book .entry)) position (now (dst .entry))) r (now (dst .exit)) ⌝ }
+{
+    let Image::Entries(n) = book_check::check(book) else {
+        return Written::Refused(1);
+    };
+    if n <= position {
+        return Written::Refused(6);
+    }
+    let c = book_find::cursor_at(book, n, position);
+    let len = c.len;
+    let name = c.name;
+    answer_write::write_entry(&name[..len], book_layout::score_at(book, position), dst)
+}

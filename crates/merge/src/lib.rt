@@ -1,0 +1,1 @@
+// Two books merged into one (document 02, request a): definitions in specs/, laws in proofs/.

@@ -1,0 +1,4 @@
+pub mod Program
+pub mod Theorem
+pub mod Worked
+pub mod Console

@@ -1,0 +1,100 @@
+// What the program prints: decimal numbers, counted answers, the entries offered.
+use limits::MOST_DIGITS;
+use limits::SCORE_BYTES;
+ghost use mathlib.Core.List.{_++_};
+ghost use Prim.Native.Nat.{_*_, _+_, _≤_};
+ghost use lib.ListN.{length};
+ghost use Rattle.entries.specs.Entries.{entry};
+ghost use Rattle.sheet.specs.Sheet.{sheetFrom};
+ghost use Rattle.program.specs.Program.{badLine, decimal, lineFeed};
+ghost use Rattle.program_print.specs.Printing.{Laid, Printed, Shows, entryLine, offeredLines};
+
+// A number's decimal digits: the bytes from an index on.
+struct Numeral {
+    bytes: [u8; MOST_DIGITS],
+    from: usize,
+}
+
+// The decimal digits of a number, put in from the last.
+fn digits_of(v: u32) -> Numeral
+    ensures { λ r. ⌜ Shows v r ⌝ }
+{
+    let mut bytes = [0u8; MOST_DIGITS];
+    let mut from = MOST_DIGITS - 1;
+    let mut rest = v;
+    while 10 <= rest {
+        bytes[from] = b'0' + (rest % 10) as u8;
+        rest = rest / 10;
+        from -= 1;
+    }
+    bytes[from] = b'0' + rest as u8;
+    Numeral {
+        bytes: bytes,
+        from: from,
+    }
+}
+
+// Writes a number in decimal: where it ends.
+fn put_decimal(out: &mut [u8], at: usize, v: u32) -> usize
+    requires { ⌜ at + 10 ≤ length (now out) ⌝ }
+    ensures { λ r. ⌜ Printed (now (out .entry)) at (decimal v) r (now (out .exit)) ⌝ }
+{
+    let n = digits_of(v);
+    let from = n.from;
+    let bytes = n.bytes;
+    octets_code::copy(out, at, &bytes[from..]);
+    at + (MOST_DIGITS - from)
+}
+
+// Writes a word and a number as a line: where it ends.
+pub fn put_counted(out: &mut [u8], at: usize, word: &[u8], v: u32) -> usize
+    requires { ⌜ at + length (now word) + 11 ≤ length (now out) ⌝ }
+    ensures { λ r. ⌜ Printed (now (out .entry)) at (now (word .entry) ++ decimal v ++ lineFeed) r (now (out .exit)) ⌝ }
+{
+    octets_code::copy(out, at, word);
+    let end = put_decimal(out, at + word.len(), v);
+    out[end] = b'\n';
+    end + 1
+}
+
+// Writes an entry's line, its score and its name: where it ends.
+fn put_entry_line(out: &mut [u8], at: usize, name: &[u8], score: u32) -> usize
+    requires { ⌜ at + length (now name) + 12 ≤ length (now out) ⌝ }
+    ensures { λ r. ⌜ Printed (now (out .entry)) at (entryLine (entry (now (name .entry)) score)) r (now (out .exit)) ⌝ }
+{
+    let end = put_decimal(out, at, score);
+    out[end] = b' ';
+    octets_code::copy(out, end + 1, name);
+    let last = end + 1 + name.len();
+    out[last] = b'\n';
+    last + 1
+}
+
+// Writes the lines of the n entries of an answer at the front: where they end.
+pub fn put_entry_lines(answer: &[u8], n: usize, out: &mut [u8]) -> usize
+    requires { ⌜ Laid n (now answer) × (60 * n ≤ length (now out)) ⌝ }
+    ensures { λ r. ⌜ Printed (now (out .entry)) 0 (offeredLines (sheetFrom n (now (answer .entry)))) r
+        (now (out .exit)) ⌝ }
+{
+    let mut at = 0;
+    let mut end = 0;
+    let mut i = 0;
+    while i < n {
+        let start = at + 1;
+        let stop = start + answer[at] as usize;
+        let score = octets_code::read_u32(answer, stop);
+        end = put_entry_line(out, end, &answer[start..stop], score);
+        at = stop + SCORE_BYTES;
+        i += 1;
+    }
+    end
+}
+
+// Writes the line of a line that asks for nothing.
+pub fn put_bad(out: &mut [u8]) -> usize
+    requires { ⌜ 4 ≤ length (now out) ⌝ }
+    ensures { λ r. ⌜ Printed (now (out .entry)) 0 badLine r (now (out .exit)) ⌝ }
+{
+    octets_code::copy(out, 0, b"bad\n");
+    4
+}

@@ -1,0 +1,3 @@
+pub mod Completing
+pub mod Editing
+pub mod Stepping

@@ -1,0 +1,5 @@
+pub mod Accepts
+pub mod Answer
+pub mod Held
+pub mod RowLoop
+pub mod Rows

@@ -1,3 +1,0 @@
-pub mod Entries
-pub mod Building
-pub mod Listing

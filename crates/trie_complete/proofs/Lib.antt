@@ -1,3 +1,0 @@
-pub mod Starting
-pub mod Offering
-pub mod Calling

@@ -1,0 +1,4 @@
+pub mod Descend
+pub mod Places
+pub mod Planted
+pub mod Search

@@ -1,0 +1,1 @@
+// The search in a trie, best first: inner definitions in specs/, laws in proofs/.

@@ -1,6 +1,0 @@
-pub mod Search
-pub mod Planted
-pub mod Descend
-pub mod Bound
-pub mod Nodes
-pub mod Stands

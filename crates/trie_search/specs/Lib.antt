@@ -1,4 +1,0 @@
-pub mod Search
-pub mod Planted
-pub mod Descend
-pub mod Places

@@ -1,0 +1,166 @@
+// The trie of a book that was checked: its names unpacked into rows, the groups measured, then written from the last to
+// the first.
+use limits::FRAME_LENGTH;
+use limits::LONGEST_LABEL;
+use limits::LONGEST_NAME;
+use limits::MAX_ENTRIES;
+use limits::TRIE_VERSION;
+use trie_write_runs::Run;
+ghost use mathlib.Core.Path.{_≡_};
+ghost use mathlib.Core.Bool.{true};
+ghost use Prim.Native.Nat.{_+_, min};
+ghost use lib.ListN.{length};
+ghost use Rattle.entries.specs.Entries.{valid};
+ghost use Rattle.book.specs.Book.{inBook};
+ghost use Rattle.book_laws.specs.Held.{Held};
+ghost use Rattle.trie.specs.Trie.{longestLabel};
+ghost use Rattle.book_table.specs.Table.{Table, entries};
+ghost use Rattle.trie_write.specs.Writing.{Groupable, Grouped, TrieWritten};
+
+// The bytes of a table of names: a row for each.
+const NAME_BYTES: usize = LONGEST_NAME * MAX_ENTRIES;
+
+// A run with the bytes of what stands under it.
+fn with_under(r: Run, n: u32) -> Run
+    ensures { λ x. ⌜ x ≡ record { lo = r .lo; hi = r .hi; high = r .high; len = r .len; under = n } ⌝ }
+{
+    Run {
+        lo: r.lo,
+        hi: r.hi,
+        high: r.high,
+        len: r.len,
+        under: n,
+    }
+}
+
+// The label of a lone suffix: all of it, cut to 7 bytes.
+fn cut(rest: usize) -> usize
+    ensures { λ r. ⌜ r ≡ min longestLabel rest ⌝ }
+{
+    if rest < LONGEST_LABEL {
+        return rest;
+    }
+    LONGEST_LABEL
+}
+
+// What stands under one row behind its first d bytes: groups of one node each, put so that they end `back` bytes before
+// index `total`, or only measured.
+fn lone(
+    names: &[u8],
+    lens: &[u8],
+    scores: &[u32],
+    row: usize,
+    d: usize,
+    s: usize,
+    dst: &mut [u8],
+    total: usize,
+    back: usize,
+    put: bool,
+) -> usize
+    requires { ⌜ Groupable (now names) (now lens) (now scores) row (row + 1) d s (length (now dst)) total back put ⌝ }
+    ensures { λ r. ⌜ Grouped (entries (now (names .entry)) (now (lens .entry)) (now (scores .entry))) row (row + 1) d s
+        (now (dst .entry)) (now (dst .exit)) total back put r ⌝ }
+{
+    let all = lens[row] as usize;
+    let len = cut(all - d);
+    if len == 0 {
+        return back;
+    }
+    let high = scores[row];
+    let n = lone(names, lens, scores, row, d + len, 0, dst, total, back, put);
+    let r = Run {
+        lo: row as u32,
+        hi: (row + 1) as u32,
+        high: high,
+        len: len as u32,
+        under: (n - back) as u32,
+    };
+    trie_write_nodes::finish_one(names, d, r, s, dst, total, n, put)
+}
+
+// What stands under rows lo to hi, which share their first d bytes: their group, and behind it the groups of its nodes,
+// put so that it ends `back` bytes before index `total`, or only measured. The last node's group is put first.
+fn group(
+    names: &[u8],
+    lens: &[u8],
+    scores: &[u32],
+    lo: usize,
+    hi: usize,
+    d: usize,
+    s: usize,
+    dst: &mut [u8],
+    total: usize,
+    back: usize,
+    put: bool,
+) -> usize
+    requires { ⌜ Groupable (now names) (now lens) (now scores) lo hi d s (length (now dst)) total back put ⌝ }
+    ensures { λ r. ⌜ Grouped (entries (now (names .entry)) (now (lens .entry)) (now (scores .entry))) lo hi d s
+        (now (dst .entry)) (now (dst .exit)) total back put r ⌝ }
+{
+    if hi - lo == 1 {
+        return lone(names, lens, scores, lo, d, s, dst, total, back, put);
+    }
+    let mut runs = [0; trie_write_runs::RUNS_ROOM];
+    let count = trie_write_rows::split(names, lens, scores, lo, hi, d, &mut runs);
+    let mut b = back;
+    let mut i = count;
+    while 0 < i {
+        i -= 1;
+        let r = trie_write_runs::run_at(&runs, i);
+        let n = group(
+            names,
+            lens,
+            scores,
+            r.lo as usize,
+            r.hi as usize,
+            d + r.len as usize,
+            0,
+            dst,
+            total,
+            b,
+            put,
+        );
+        let filled = with_under(r, (n - b) as u32);
+        trie_write_runs::put_run(&mut runs, i, filled);
+        b = n;
+    }
+    trie_write_nodes::finish(names, d, &runs, count, s, dst, total, b, put)
+}
+
+// Too short a destination, or the bytes written.
+pub enum Wrote {
+    TooShort,
+    Bytes(usize),
+}
+
+// Writes the trie of the table's entries to the front of dst, where it has room.
+fn write_rows(names: &[u8], lens: &[u8], scores: &[u32], dst: &mut [u8]) -> Wrote
+    requires { ⌜ Table (now names) (now lens) (now scores)
+        × (valid (entries (now names) (now lens) (now scores)) ≡ true) ⌝ }
+    ensures { λ r. ⌜ TrieWritten (entries (now (names .entry)) (now (lens .entry)) (now (scores .entry)))
+        (now (dst .entry)) r (now (dst .exit)) ⌝ }
+{
+    let n = lens.len();
+    let high = trie_write_rows::highest_of(names, lens, scores, 0, n);
+    let top = high as usize;
+    let size = group(names, lens, scores, 0, n, 0, top, dst, 0, 0, false);
+    let total = size + FRAME_LENGTH;
+    if dst.len() < total {
+        return Wrote::TooShort;
+    }
+    frame_code::put_frame(dst, TRIE_VERSION, total, n);
+    group(names, lens, scores, 0, n, 0, top, dst, total, 0, true);
+    Wrote::Bytes(total)
+}
+
+// Writes the trie of a book that was checked, where the destination has room.
+pub fn write(book: &[u8], n: usize, dst: &mut [u8]) -> Wrote
+    requires { ⌜ Held (now book) n ⌝ }
+    ensures { λ r. ⌜ TrieWritten (inBook (now (book .entry))) (now (dst .entry)) r (now (dst .exit)) ⌝ }
+{
+    let mut names = [0; NAME_BYTES];
+    let mut lens = [0; MAX_ENTRIES];
+    let mut scores = [0; MAX_ENTRIES];
+    book_table::unpack(book, n, &mut names, &mut lens, &mut scores);
+    write_rows(&names, &lens[..n], &scores, dst)
+}

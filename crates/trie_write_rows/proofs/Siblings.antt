@@ -1,0 +1,185 @@
+-- The sets of suffixes by first byte, set by set from the last; their order, their labels, how many there are.
+use Prim.Native.Nat.{_+_, _<_, _≤_, min, ℕ}
+use mathlib.Core.Path.{_∙_, _≡_, ap, refl, sym}
+use mathlib.Core.Logic.{_⊎_, inl, inr}
+use mathlib.Core.Bool.{false, false≢true, true}
+use mathlib.Core.List.{List, [], _++_, _∷_}
+use lib.Dec.{eqb}
+use lib.ListN.{length, length-take, take}
+use native.Mathlib.Omega.{arith}
+use borrow.Author.Tests.{eq-eqb, eqb-false, eqb-true, le-ltb, ne-eqb}
+use Rattle.octets.specs.Lists.{_∈_, insertBy, sortBy}
+use Rattle.octets.specs.Octets.{below, common}
+use Rattle.octets.proofs.Lists.{insert-ext, sort-in}
+use Rattle.octets.proofs.Order.{below-asym, below-cases, below-trans}
+use Rattle.octets.proofs.Tests.{and-true, by-test, eqb-self}
+use Rattle.entries.specs.Entries.{Entry, rising}
+use Rattle.entries.proofs.Valid.{rising-tail}
+use Rattle.trie.specs.Trie.{byFirst, commonPrefix, highest, labelOf, sameFirst}
+use Rattle.trie_laws.proofs.Keys.{Ordered, first-head, join-apart, join-same, key-below, label-key}
+use Rattle.trie.proofs.Sets.{OneFirst}
+use Rattle.trie_write_runs.specs.Runs.{mostRuns}
+use Rattle.trie_write_rows.specs.Rows.{Chain, higher}
+use Rattle.trie_laws.specs.Keys.{setBefore, setKey}
+
+-- a chain of suffixes in front of others that begin otherwise is a set of its own
+abbrev pub lastEntry : Entry → List Entry → Entry
+lastEntry x [] = x
+lastEntry x (y ∷ ys) = lastEntry y ys
+
+pub chain-set : (x : Entry) (xs ys : List Entry) → Chain (x ∷ xs)
+    → ((f : Entry) (fs : List Entry) → ys ≡ f ∷ fs → sameFirst (lastEntry x xs .name) (f .name) ≡ false)
+    → byFirst ((x ∷ xs) ++ ys) ≡ (x ∷ xs) ∷ byFirst ys
+chain-set x [] [] c e = refl
+chain-set x [] (f ∷ fs) c e = let h = first-head f fs in rw (h .eq) (join-apart x f (h .more) (h .others) (e f fs refl))
+chain-set x (y ∷ xs) ys c e = rw (chain-set y xs ys (c .1) e) (join-same x y xs (byFirst ys) (c .0))
+
+-- siblings by score alone
+before-higher : (x y : List Entry) → below (labelOf y) (labelOf x) ≡ false → setBefore y x ≡ higher y x
+before-higher x y h =
+    by-test (eqb (highest y) (highest x))
+    (λ t. rw t (h ∙ sym (le-ltb (highest x) (highest y) (let q = eqb-true (highest y) (highest x) t in omega arith))))
+    (λ t. rw t)
+
+pub sort-higher : (ss : List (List Entry)) → Ordered ss → ((s : List Entry) → s ∈ ss → OneFirst s)
+    → sortBy setBefore ss ≡ sortBy higher ss
+sort-higher [] o r = refl
+sort-higher (s ∷ ss) o r =
+    ap (insertBy setBefore s) (sort-higher ss (o .1) (λ t m. r t (inr m)))
+    ∙ insert-ext setBefore higher s (sortBy higher ss)
+    (λ y m.
+    let n = sort-in higher y ss m in
+    before-higher s y (below-asym (labelOf s) (labelOf y)
+    (key-below (labelOf s) (labelOf y) (let a = o .0 y n in let b = label-key s (r s (inl refl)) in
+    let c = label-key y (r y (inr n)) in omega arith))))
+
+-- there are at most 96: the empty suffix and 95 bytes
+abbrev pub Keyed : List (List Entry) → Type 0
+Keyed ss = (s : List Entry) → s ∈ ss → (setKey s ≡ 0) ⊎ ((33 ≤ setKey s) × (setKey s ≤ 127))
+
+count-from : (s : List Entry) (ss : List (List Entry)) → Ordered (s ∷ ss) → Keyed (s ∷ ss) → 33 ≤ setKey s
+    → length (s ∷ ss) + setKey s ≤ 128
+count-from s [] o k h = go (k s (inl refl))
+  where
+    go : (setKey s ≡ 0) ⊎ ((33 ≤ setKey s) × (setKey s ≤ 127)) → 1 + setKey s ≤ 128
+    go (inl a) = omega arith
+    go (inr a) = omega (arith, a .1)
+count-from s (t ∷ ss) o k h =
+    let a = o .0 t (inl refl) in
+    let ih = count-from t ss (o .1) (λ u m. k u (inr m)) (omega arith) in
+    omega arith
+
+pub count-few : (ss : List (List Entry)) → Ordered ss → Keyed ss → length ss ≤ mostRuns
+count-few [] o k = omega arith
+count-few (s ∷ []) o k = omega arith
+count-few (s ∷ t ∷ ss) o k =
+    let a = o .0 t (inl refl) in
+    let q = count-from t ss (o .1) (λ u m. k u (inr m)) (high (k t (inr (inl refl))) a) in
+    omega (arith, q, high (k t (inr (inl refl))) a)
+  where
+    high : (setKey t ≡ 0) ⊎ ((33 ≤ setKey t) × (setKey t ≤ 127)) → setKey s < setKey t → 33 ≤ setKey t
+    high (inl e) h = absurd (omega arith)
+    high (inr e) h = e .0
+
+-- the label of a rising set: what its first and its last have in common
+abbrev AtMost : List ℕ → List ℕ → Type 0
+AtMost u v = (below u v ≡ true) ⊎ (u ≡ v)
+
+most-head : (x y : ℕ) (u v : List ℕ) → AtMost (x ∷ u) (y ∷ v) → x ≤ y
+most-head x y u v (inl h) = go (below-cases x y u v h)
+  where
+    go : (x < y) ⊎ ((x ≡ y) × (below u v ≡ true)) → x ≤ y
+    go (inl a) = omega arith
+    go (inr a) = omega (arith, a .0)
+most-head x y u v (inr h) = let e : x ≡ y = cc in omega arith
+
+most-tail : (x y : ℕ) (u v : List ℕ) → AtMost (x ∷ u) (y ∷ v) → x ≡ y → AtMost u v
+most-tail x y u v (inl h) e = go (below-cases x y u v h)
+  where
+    go : (x < y) ⊎ ((x ≡ y) × (below u v ≡ true)) → AtMost u v
+    go (inl a) = absurd (omega arith)
+    go (inr a) = inl (a .1)
+most-tail x y u v (inr h) e = inr (cc)
+
+most-nil : {G : Type 0} (x : ℕ) (u : List ℕ) → AtMost (x ∷ u) [] → G
+most-nil x u (inl h) = absurd (false≢true h)
+most-nil x u (inr h) = absurd (let z : _≡_ {A = ℕ} 0 1 = cc in omega arith)
+
+most-trans : (u v w : List ℕ) → AtMost u v → AtMost v w → AtMost u w
+most-trans u v w (inl a) (inl b) = inl (below-trans u v w a b)
+most-trans u v w (inl a) (inr b) = inl (rw b at a)
+most-trans u v w (inr a) b = rw a b
+
+common-nil : (p : List ℕ) → common p [] ≡ 0
+common-nil [] = refl
+common-nil (x ∷ p) = refl
+
+abbrev lcp : List ℕ → List ℕ → List ℕ
+lcp u v = take (common u v) u
+
+lcp-cons : (x y : ℕ) (u v : List ℕ) → eqb x y ≡ true → lcp (x ∷ u) (y ∷ v) ≡ x ∷ lcp u v
+lcp-cons x y u v t = rw t
+
+lcp-none : (x y : ℕ) (u v : List ℕ) → eqb x y ≡ false → lcp (x ∷ u) (y ∷ v) ≡ []
+lcp-none x y u v t = rw t
+
+lcp-three : (e f l : List ℕ) → AtMost e f → AtMost f l → lcp (lcp f l) e ≡ lcp e l
+lcp-three [] f l h k = rw (common-nil (lcp f l))
+lcp-three (x ∷ e) [] l h k = most-nil x e h
+lcp-three (x ∷ e) (y ∷ f) [] h k = most-nil y f k
+lcp-three (x ∷ e) (y ∷ f) (z ∷ l) h k =
+    let a = most-head x y e f h in
+    let b = most-head y z f l k in
+    by-test (eqb y z)
+    (λ t.
+    let yz : y ≡ z = eqb-true y z t in
+    by-test (eqb y x)
+    (λ u.
+    let yx : y ≡ x = eqb-true y x u in
+    rw (
+      lcp-cons y z f l t,
+      lcp-cons y x (lcp f l) e u,
+      lcp-cons x z e l (eq-eqb x z (sym yx ∙ yz)),
+      lcp-three e f l (most-tail x y e f h (sym yx)) (most-tail y z f l k yz),
+      yx,
+    ))
+    (λ u.
+    let yx : y ≡ x → ⊥ = eqb-false y x u in
+    rw (lcp-cons y z f l t, lcp-none y x (lcp f l) e u, lcp-none x z e l (ne-eqb x z (λ q. yx (yz ∙ sym q))))))
+    (λ t.
+    let yz : y ≡ z → ⊥ = eqb-false y z t in
+    rw (lcp-none y z f l t, lcp-none x z e l (ne-eqb x z (λ q. yz (omega arith)))))
+
+-- the last of a rising list is above the others
+rising-last : (e : Entry) (es : List Entry) → rising (e ∷ es) ≡ true → AtMost (e .name) (lastEntry e es .name)
+rising-last e [] r = inr refl
+rising-last e (f ∷ es) r =
+    most-trans (e .name) (f .name) (lastEntry f es .name)
+    (inl (and-true (below (e .name) (f .name)) (rising (f ∷ es)) r .0)) (rising-last f es (rising-tail e (f ∷ es) r))
+
+common-self : (w : List ℕ) → lcp w w ≡ w
+common-self [] = refl
+common-self (x ∷ w) = lcp-cons x x w w (eqb-self x) ∙ ap (λ l. x ∷ l) (common-self w)
+
+prefix-ends : (e : Entry) (es : List Entry) → rising (e ∷ es) ≡ true
+    → commonPrefix (e ∷ es) ≡ take (common (e .name) (lastEntry e es .name)) (e .name)
+prefix-ends e [] r = sym (common-self (e .name))
+prefix-ends e (f ∷ es) r =
+    rw (prefix-ends f es (rising-tail e (f ∷ es) r))
+    (lcp-three (e .name) (f .name) (lastEntry f es .name)
+    (inl (and-true (below (e .name) (f .name)) (rising (f ∷ es)) r .0)) (rising-last f es (rising-tail e (f ∷ es) r)))
+
+common-le-left : (u v : List ℕ) → common u v ≤ length u
+common-le-left [] v = omega arith
+common-le-left (x ∷ u) [] = omega arith
+common-le-left (x ∷ u) (y ∷ v) = by-test (eqb x y) (λ t. let ih = common-le-left u v in
+    rw t (omega arith)) (λ t. rw t (omega arith))
+
+pub label-ends : (e : Entry) (es : List Entry) → rising (e ∷ es) ≡ true
+    → length (labelOf (e ∷ es)) ≡ min 7 (common (e .name) (lastEntry e es .name))
+label-ends e es r =
+    let c = common (e .name) (lastEntry e es .name) in
+    let a = common-le-left (e .name) (lastEntry e es .name) in
+    let b = length-take c (e .name) in
+    let d = length-take 7 (take c (e .name)) in
+    rw (prefix-ends e es r) (omega arith)
