@@ -39,13 +39,13 @@ extern "C" {
 /* Writes the book of no entries: 0 entries, 7 bytes. Reads nothing. Refusal 7. */
 uint8_t label_book_empty(uint8_t *dst, size_t dst_len, size_t *entries, size_t *bytes);
 
-/* Writes the book with the name added, or given a new score; tells the entries in it and its bytes. Refusals 1, 2, 5,
- * 7. */
+/* Writes the book with the name added, or given a new score; tells the entries in it and its bytes.
+ * Refusals 1, 2, 5, 7. */
 uint8_t label_book_set(const uint8_t *book, size_t book_len, const uint8_t *name, size_t name_len, uint32_t score,
                        uint8_t *dst, size_t dst_len, size_t *entries, size_t *bytes);
 
-/* Writes the book without the name; tells the entries in it and its bytes, which may be more than before. Refusals 1,
- * 2, 4, 7. */
+/* Writes the book without the name; tells the entries in it and its bytes, which may be more than before.
+ * Refusals 1, 2, 4, 7. */
 uint8_t label_book_withdraw(const uint8_t *book, size_t book_len, const uint8_t *name, size_t name_len,
                             uint8_t *dst, size_t dst_len, size_t *entries, size_t *bytes);
 
@@ -58,8 +58,8 @@ uint8_t label_book_merge(const uint8_t *first, size_t first_len, const uint8_t *
 uint8_t label_book_find(const uint8_t *book, size_t book_len, const uint8_t *name, size_t name_len,
                         size_t *found, size_t *position, uint32_t *score);
 
-/* Writes the entry at a position: length byte, name, 4-byte score, big-endian; tells 1 entry and its bytes. Refusals 1,
- * 6, 7. */
+/* Writes the entry at a position: length byte, name, 4-byte score, big-endian; tells 1 entry and its bytes.
+ * Refusals 1, 6, 7. */
 uint8_t label_book_name_at(const uint8_t *book, size_t book_len, size_t position,
                            uint8_t *dst, size_t dst_len, size_t *entries, size_t *bytes);
 
@@ -71,8 +71,8 @@ uint8_t label_book_name_of(const uint8_t *book, size_t book_len, const uint8_t *
 uint8_t label_book_prefix_range(const uint8_t *book, size_t book_len, const uint8_t *prefix, size_t prefix_len,
                                 size_t *first, size_t *count);
 
-/* Tells where in the book the head name of a bucket of 8 begins, and its length: book[start] to book[start + length -
- * 1]. Refusals 1, 6. */
+/* Tells where in the book the head name of a bucket of 8 begins, and its length:
+ * book[start] to book[start + length - 1]. Refusals 1, 6. */
 uint8_t label_book_head(const uint8_t *book, size_t book_len, size_t bucket, size_t *start, size_t *length);
 
 /* Writes the book of a sheet's entries; tells them and its bytes. Refusals 1, 7. */

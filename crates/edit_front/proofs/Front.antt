@@ -1,5 +1,5 @@
 -- The entries in front of position i of a book are put into a buffer for the entries fs, which begin with them: what
--- stands in it then is the book of fs half written (book_writer: Partial).
+-- stands in it then is the book of fs half written (book_write: Partial).
 use Prim.Native.Nat.{_*_, _+_, _-_, _<_, _≤_, suc, zero, ℕ}
 use mathlib.Core.Path.{_∙_, _≡_, ap, refl, subst, sym}
 use mathlib.Core.Logic.{inl}

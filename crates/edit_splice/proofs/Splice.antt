@@ -9,6 +9,7 @@ use lib.ListN.{length, length-append, length-drop}
 use lib.Seq.{length-take-le}
 use native.Mathlib.Omega.{arith}
 use borrow.Author.Tests.{lt-leb, lt-ltb}
+use Rattle.entries.proofs.Valid.{score-fits}
 use Rattle.octets.specs.Lists.{if_then_else_}
 use Rattle.octets.proofs.Tests.{by-test}
 use Rattle.entries.specs.Entries.{Entry, entry, holds, maxEntries, position, rising, with, without}
@@ -36,10 +37,6 @@ result-count {book} {n} {i} {fresh} {w} {s} a =
     let f : length (putIn fresh w s) ≡ (if fresh then 1 else 0) = by-test fresh (λ t. rw t) (λ t. rw t) in
     rw (count-sum, length-append, length-take-le i (inBook book) (omega arith), length-append, f, length-drop)
     (omega arith)
-
-score-fits : (s : ℕ) → s < 4294967296 → isScore s ≡ true
-unfolding isScore
-score-fits s h = lt-ltb s (2 ^ 32) h
 
 module _ {book : List ℕ} {n : ℕ} (h : Held book n) (w : List ℕ) where
   abbrev es : List Entry

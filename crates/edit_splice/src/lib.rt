@@ -128,7 +128,8 @@ fn pass(
     store: bool,
 ) -> usize
     requires { ⌜ Spliced (now book) n place fresh (now name) score
-        × (store ≡ true → length (bookImage (splicedBook (now book) place fresh (now name) score)) ≤ length (now dst)) ⌝ }
+        × (store ≡ true
+        → length (bookImage (splicedBook (now book) place fresh (now name) score)) ≤ length (now dst)) ⌝ }
     ensures { λ r. ⌜ BookDone store (splicedBook (now (book .entry)) place fresh (now (name .entry)) score)
         (now (dst .entry)) (now (dst .exit)) r ⌝ }
 {

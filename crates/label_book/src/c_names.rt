@@ -1,6 +1,7 @@
 // The label book for C: each call of the front door under a C name (include/label_book.h). A call returns 0 or the
 // refusal's number, and tells its counts through pointers, all of them 0 with a refusal.
 use answer::HeadLength;
+use limits::COUNT_AT;
 ghost use mathlib.Core.Path.{_≡_};
 ghost use lib.ListN.{length};
 ghost use Rattle.lookup.specs.Lookups.{find, nameAt, nameOf, prefixRange};
@@ -17,7 +18,8 @@ ghost use Rattle.abi.specs.Left.{HeadTold, Left, OfferedLeft, OfferedOver, Pane
 // Writes the book of no entries.
 #[no_mangle]
 pub extern "C" fn label_book_empty(dst: &mut [u8], entries: &mut usize, bytes: &mut usize) -> u8
-    ensures { λ r. ⌜ Left (emptyBook (now (dst .entry))) r (now (entries .exit)) (now (bytes .exit)) (now (dst .exit)) ⌝ }
+    ensures { λ r. ⌜ Left (emptyBook (now (dst .entry))) r (now (entries .exit)) (now (bytes .exit))
+        (now (dst .exit)) ⌝ }
 {
     abi_values::tell_written(edit_calls::empty(dst), entries, bytes)
 }
@@ -178,7 +180,7 @@ fn head_start(book: &[u8], bucket: usize) -> usize
     requires { ⌜ HasBucket (now book) bucket ⌝ }
     ensures { λ r. ⌜ r ≡ headAt (now (book .entry)) bucket ⌝ }
 {
-    let n = octets_code::read_u16(book, 5) as usize;
+    let n = octets_code::read_u16(book, COUNT_AT) as usize;
     book_layout::offset_at(book, n, bucket) + 1
 }
 

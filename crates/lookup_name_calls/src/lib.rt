@@ -22,7 +22,8 @@ pub fn find(book: &[u8], name: &[u8]) -> Found
 
 // Writes the given name with its score as one answer entry.
 pub fn name_of(book: &[u8], name: &[u8], dst: &mut [u8]) -> Written
-    ensures { λ r. ⌜ Answered (nameOf (now (book .entry)) (now (name .entry)) (now (dst .entry))) r (now (dst .exit)) ⌝ }
+    ensures { λ r. ⌜ Answered (nameOf (now (book .entry)) (now (name .entry)) (now (dst .entry))) r
+        (now (dst .exit)) ⌝ }
 {
     let Image::Entries(n) = book_check::check(book) else {
         return Written::Refused(1);

@@ -8,7 +8,7 @@ use lib.ListN.{length, length-append, length-map}
 use native.Mathlib.Nat.{add-mul, mul-add, mul-suc}
 use native.Mathlib.Omega.{arith}
 use Rattle.octets.specs.Lists.{_∈_, concatMap, if_then_else_, sortBy}
-use Rattle.octets.proofs.Count.{count, count-concat-sort}
+use Rattle.octets.proofs.Count.{count, count-all, count-concat-sort}
 use Rattle.octets.proofs.Lists.{map-in, sort-in, sort-length}
 use Rattle.octets.proofs.Tests.{by-test}
 use Rattle.entries.specs.Entries.{Entry}
@@ -55,10 +55,6 @@ join-count e ((f ∷ fs) ∷ ss) = by-test (sameFirst (e .name) (f .name)) (λ t
 byFirst-count : (es : List Entry) → length (byFirst es) ≤ length es
 byFirst-count [] = omega arith
 byFirst-count (e ∷ es) = let a = join-count e (byFirst es) in let b = byFirst-count es in omega arith
-
-count-all : {A : Type 0} (xs : List A) → count (λ x. true) xs ≡ length xs
-count-all [] = refl
-count-all (x ∷ xs) = let ih = count-all xs in omega arith
 
 unders-bound : (b : ℕ) (f : List Entry → Node) (ss : List (List Entry))
     → ((s : List Entry) → s ∈ ss → length (f s .under) ≤ b * length s)

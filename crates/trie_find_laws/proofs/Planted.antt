@@ -19,7 +19,7 @@ use Rattle.octets.proofs.Tests.{and-intro, and-true, by-test, eqb-self}
 use Rattle.entries.specs.Completion.{completion, matches}
 use Rattle.entries.specs.Entries.{Entry, byRank, entry, outranks, rising, valid}
 use Rattle.entries.specs.Names.{isName}
-use Rattle.entries.proofs.BestList.{different-rising}
+use Rattle.entries.proofs.BestList.{different-rising, outranks-false}
 use Rattle.entries.proofs.Rank.{not-outranks-trans, rank-sorted}
 use Rattle.entries.proofs.Same.{counted, in-counted, sameEntry}
 use Rattle.entries.proofs.Valid.{name-length, rising-tail, valid-of}
@@ -29,7 +29,7 @@ use Rattle.trie.proofs.Sets.{OneFirst, byFirst-flat, byFirst-run, flat, highest
 use Rattle.trie.proofs.Sets.{one-first, stripped, used-up}
 use Rattle.trie.proofs.Trie.{highest-append, highest-flat, highest-sort, set-in}
 use Rattle.trie_laws.proofs.Keys.{Ordered, byFirst-ordered, label-key, run-key}
-use Rattle.trie_find_laws.proofs.Search.{forest-offers, not-outranked, rank-same}
+use Rattle.trie_find_laws.proofs.Search.{forest-offers, rank-same}
 use Rattle.trie_find_laws.specs.Search.{Clear, Forest, Proper, WaitingForest, frontWaits, inside, known, none}
 use Rattle.trie_find_laws.specs.Search.{ownEntries, searchOffers, top, tree}
 use Rattle.trie_find_laws.specs.Planted.{kidsOf, plant, plantAll}
@@ -306,7 +306,7 @@ cross b p es t s e r mt ms ne f h =
 -- the score of the best
 first-high : (s : List Entry) (ss : List (List Entry)) → Placed (s ∷ ss) → highest (flat (s ∷ ss)) ≡ highest s
 first-high s ss z =
-    let a = highest-flat (highest s) ss (λ t m. not-outranked (nodeEntry t) (nodeEntry s) (z .0 t m)) in
+    let a = highest-flat (highest s) ss (λ t m. outranks-false (nodeEntry t) (nodeEntry s) (z .0 t m)) in
     let b = highest-append s (flat ss) in
     omega arith
 

@@ -8,6 +8,7 @@ use native.Mathlib.Omega.{arith}
 use lib.Dec.{eqb, ltb}
 use borrow.Author.Tests.{eq-eqb, eqb-false, eqb-true, le-ltb, ltb-false, ltb-true, ne-eqb}
 use lib.ListN.{drop, length, take}
+use Rattle.entries.proofs.BestList.{outranks-false}
 use Rattle.octets.specs.Lists.{_∈_, concatMap, insertBy}
 use Rattle.octets.specs.Octets.{begins, below}
 use Rattle.octets.proofs.Count.{count, count-append, count-concat-insert, count-sort}
@@ -110,12 +111,6 @@ rank-name e f h = rw (eq-eqb (e .score) (f .score) h)
 rank-low : (e f : Entry) → e .score < f .score → outranks e f ≡ false
 rank-low e f h = rw (ne-eqb (e .score) (f .score) (λ q. omega arith)) (le-ltb (f .score) (e .score) (omega arith))
 
-pub not-outranked : (e f : Entry) → outranks e f ≡ false → e .score ≤ f .score
-not-outranked e f h = by-test (ltb (f .score) (e .score))
-    (λ t. let q : f .score < e .score = ltb-true (f .score) (e .score) t in
-    absurd (false≢true (sym h ∙ (rw (ne-eqb (e .score) (f .score) (λ z. omega arith)) t))))
-    (λ t. ltb-false (f .score) (e .score) t)
-
 stronger : (p l : List ℕ) (s : ℕ) (kids next : Forest) → Proper p (tree l s kids next) → (e : Entry)
     → outranks e (entry (p ++ l) s) ≡ false → (begins (p ++ l) (e .name) ≡ true → kids ≡ none)
     → outranks e (top p (tree l s kids next)) ≡ false
@@ -123,7 +118,7 @@ stronger p l s none next r e h c = h
 stronger p l s (tree a b x y) next r e h c =
     let t = top p (tree l s (tree a b x y) next) in
     let sc : t .score ≡ s = r .1 in
-    let le = not-outranked e (entry (p ++ l) s) h in
+    let le = outranks-false e (entry (p ++ l) s) h in
     by-test (ltb (e .score) s)
     (λ u. let q : e .score < s = ltb-true (e .score) s u in rank-low e t (omega arith))
     (λ u.
@@ -387,7 +382,7 @@ known-behind :
     → begins (p ++ l) (known v .name) ≡ false
     → begins (p ++ l) w ≡ true → outranks (known v) (entry w s) ≡ false
 known-behind v p l w s h k b =
-    let le = not-outranked (known v) (entry (p ++ l) s) h in
+    let le = outranks-false (known v) (entry (p ++ l) s) h in
     by-test (ltb (known v .score) s)
     (λ u. let q : known v .score < s = ltb-true (known v .score) s u in rank-low (known v) (entry w s) q)
     (λ u.

@@ -9,6 +9,7 @@ use lib.ListN.{drop, length, length-append}
 use native.Mathlib.Nat.{not-suc-le-zero}
 use native.Mathlib.Omega.{arith}
 use borrow.Author.Tests.{ltb-true}
+use Rattle.entries.proofs.BestList.{outranks-false}
 use Rattle.octets.specs.Lists.{_∈_, sortBy}
 use Rattle.octets.specs.Octets.{begins}
 use Rattle.octets.proofs.Lists.{all-in, map-in, sort-in, sort-map}
@@ -33,7 +34,6 @@ use Rattle.trie_find_laws.specs.Places.{ForestAt, Lower, behindAt, child
 use Rattle.trie_find_laws.specs.Places.{scoreOr}
 use Rattle.trie.proofs.Bound.{group-bound}
 use Rattle.trie_find_laws.proofs.Nodes.{NodeReads, behind, reads}
-use Rattle.trie_find_laws.proofs.Search.{not-outranked}
 use Rattle.trie_find_laws.proofs.Planted.{Fine, kids-none, kids-some, plant-proper, plant-some, remains-planted}
 use Rattle.trie_find_laws.proofs.Planted.{set-fine, top-score}
 use Rattle.trie_laws.specs.Keys.{setBefore}
@@ -83,7 +83,7 @@ record Row (bs : List ℕ) (at from u f b z : ℕ) (xs : List Node) : Type 0 whe
 -- the score of the next is no higher
 next-lower : (p l : List ℕ) (s : ℕ) (kids next : Forest) → Proper p (tree l s kids next) → scoreOr 0 next ≤ s
 next-lower p l s kids none r = omega arith
-next-lower p l s kids (tree a b c d) r = not-outranked (known (wait p a b c d)) (entry (p
+next-lower p l s kids (tree a b c d) r = outranks-false (known (wait p a b c d)) (entry (p
     ++ l) s) (r .7 (wait p a b c d) (inl refl))
 
 first-score : (d : ℕ) (ss : List (List Entry)) → firstScore (nodes d ss) ≡ scoreOr 0 (plantAll (plant d) ss)

@@ -129,7 +129,8 @@ pub fn finish_one(
     put: bool,
 ) -> usize
     requires { ⌜ Finishing (now names) d (r ∷ []) s (length (now dst)) total back put ⌝ }
-    ensures { λ n. ⌜ Finished (now (names .entry)) d (r ∷ []) s (now (dst .entry)) (now (dst .exit)) total back put n ⌝ }
+    ensures { λ n. ⌜ Finished (now (names .entry)) d (r ∷ []) s (now (dst .entry)) (now (dst .exit)) total back put
+        n ⌝ }
 {
     let other = trie_write_runs::node_size(r, trie_write_runs::plain_fields(s));
     let first = trie_write_runs::first_fields(s, other);

@@ -10,7 +10,7 @@ use Rattle.answer_write.proofs.Stores.{entry-stores}
 use Rattle.answer_write.proofs.put_entry.Statement.{statement}
 use Rattle.answer_write.proofs.put_entry.Tie as tie
 
--- Places that the answers below look back to.
+-- places that the proofs below look back to
 abbrev after-copy : tie.After-slice-known3 → tie.After-copy
 after-copy c = c .before .before .before .before .before .before
 

@@ -6,7 +6,7 @@ use Rattle.answer_write.proofs.Writing.{entry-refused, entry-written}
 use Rattle.answer_write.proofs.write_entry.Statement.{statement}
 use Rattle.answer_write.proofs.write_entry.Tie as tie
 
--- Places that the answers below look back to.
+-- places that the proofs below look back to
 abbrev else1 : tie.After-slice-known2 → tie.Else1
 else1 c = c .before .before .before .before
 

@@ -6,7 +6,7 @@ use Rattle.book_append.proofs.Append.{one-room, one-short, passed-measu
 use Rattle.book_append.proofs.pass_entry.Statement.{statement}
 use Rattle.book_append.proofs.pass_entry.Tie as tie
 
--- Places that the answers below look back to.
+-- places that the proofs below look back to
 abbrev begin : tie.Then1 → tie.Start
 begin c = c .before .before .before .before
 

@@ -1,6 +1,5 @@
 -- `book_append::pass_next` meets its contract: the entry is passed behind the name held, and its own name is copied
--- over
--- that one (proofs/Append). No loop. Assumes nothing.
+-- over that one (proofs/Append). No loop. Assumes nothing.
 use Prim.Native.Nat.{_≤_}
 use mathlib.Core.Path.{refl, sym}
 use lib.ListN.{length}
@@ -12,7 +11,7 @@ use Rattle.book_append.proofs.Append.{one-short, plain-fits, plain-pass
 use Rattle.book_append.proofs.pass_next.Statement.{statement}
 use Rattle.book_append.proofs.pass_next.Tie as tie
 
--- Places that the answers below look back to.
+-- places that the proofs below look back to
 abbrev after-pass-entry : tie.After-copy → tie.After-pass-entry
 after-pass-entry c = c .before .before .before .before
 

@@ -19,7 +19,7 @@ Inv-loop buf n start name₀ len₀ at₀ index₀ name len at index =
 abbrev μ-loop : tie.MeasureT-loop
 μ-loop buf n start name₀ len₀ at₀ index₀ name len at index = n - index
 
--- Places that the answers below look back to.
+-- places that the proofs below look back to
 abbrev at-loop : tie.After-name Inv-loop μ-loop → tie.At-loop Inv-loop μ-loop
 at-loop c = c .before .before .before .before
 

@@ -10,7 +10,7 @@ use Rattle.book_laws.proofs.Held.{held-few}
 use Rattle.book_find.proofs.head_is.Statement.{statement}
 use Rattle.book_find.proofs.head_is.Tie as tie
 
--- Places that the answers below look back to.
+-- places that the proofs below look back to
 abbrev begin : tie.After-head-name → tie.Start
 begin c = c .before .before .before .before
 

@@ -18,7 +18,7 @@ Inv-loop buf n key past low₀ high₀ low high = Halving past key (inBook buf) 
 abbrev μ-loop : tie.MeasureT-loop
 μ-loop buf n key past low₀ high₀ low high = high - low
 
--- Places that the answers below look back to.
+-- places that the proofs below look back to
 abbrev at-loop : tie.Then1 Inv-loop μ-loop → tie.At-loop Inv-loop μ-loop
 at-loop c = c .before .before .before .before
 

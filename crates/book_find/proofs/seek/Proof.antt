@@ -24,7 +24,7 @@ Inv-loop buf n key past heads same bucket end name₀ at₀ index₀ name at ind
 abbrev μ-loop : tie.MeasureT-loop
 μ-loop buf n key past heads same bucket end name₀ at₀ index₀ name at index = end - index
 
--- Places that the answers below look back to.
+-- places that the proofs below look back to
 abbrev begin : tie.Else1 Inv-loop μ-loop → tie.Start Inv-loop μ-loop
 begin c = c .before .before .before .before .before
 

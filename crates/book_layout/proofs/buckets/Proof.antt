@@ -1,5 +1,4 @@
--- `book_layout::buckets` meets its contract: a division rounded up.
--- No loop, so no invariant. Assumes nothing.
+-- `book_layout::buckets` meets its contract: a division rounded up. No loop, so no invariant. Assumes nothing.
 use native.Mathlib.Omega.{arith}
 use Rattle.book_layout.proofs.buckets.Statement.{statement}
 use Rattle.book_layout.proofs.buckets.Tie as tie

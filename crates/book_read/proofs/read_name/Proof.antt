@@ -12,7 +12,7 @@ use Rattle.book_read.proofs.read_name.Statement.{statement}
 use Rattle.book_read.proofs.read_name.Tie as tie
 use Rattle.book_read.specs.declared.Parts.{Parts}
 
--- Places that the answers below look back to.
+-- places that the proofs below look back to
 abbrev after-parts-at : tie.After-copy → tie.After-parts-at
 after-parts-at c = c .before .before .before .before
 

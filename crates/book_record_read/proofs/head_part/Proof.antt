@@ -15,7 +15,7 @@ use Rattle.octets.proofs.Stores.{part-bytes}
 use Rattle.book_record_read.proofs.head_part.Statement.{statement}
 use Rattle.book_record_read.proofs.head_part.Tie as tie
 
--- Places that the answers below look back to.
+-- places that the proofs below look back to
 abbrev begin : tie.Else2 → tie.Start
 begin c = c .before .before .before .before .before
 

@@ -18,7 +18,7 @@ use Rattle.book_record_read.proofs.Steps.{step-bad, step-own}
 use Rattle.book_record_read.proofs.read_record.Statement.{statement}
 use Rattle.book_record_read.proofs.read_record.Tie as tie
 
--- Places that the answers below look back to.
+-- places that the proofs below look back to
 abbrev begin : tie.After-part-at-arg → tie.Start
 begin c = c .before .before .before .before
 

@@ -15,7 +15,7 @@ use Rattle.octets.proofs.Stores.{part-bytes}
 use Rattle.book_record_read.proofs.tail_part.Statement.{statement}
 use Rattle.book_record_read.proofs.tail_part.Tie as tie
 
--- Places that the answers below look back to.
+-- places that the proofs below look back to
 abbrev else3 : tie.After-is-prefix → tie.Else3
 else3 c = c .before .before .before .before
 

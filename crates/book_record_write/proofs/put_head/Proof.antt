@@ -8,7 +8,7 @@ use Rattle.book_record_write.proofs.Writing.{head-stores}
 use Rattle.book_record_write.proofs.put_head.Statement.{statement}
 use Rattle.book_record_write.proofs.put_head.Tie as tie
 
--- Places that the answers below look back to.
+-- places that the proofs below look back to
 abbrev begin : tie.After-slice-known2 → tie.Start
 begin c = c .before .before .before .before .before .before
 

@@ -8,7 +8,7 @@ use Rattle.book_record_write.proofs.Writing.{record-head, record-tail}
 use Rattle.book_record_write.proofs.put_record.Statement.{statement}
 use Rattle.book_record_write.proofs.put_record.Tie as tie
 
--- Places that the answers below look back to.
+-- places that the proofs below look back to
 abbrev begin : tie.Then1 → tie.Start
 begin c = c .before .before .before .before .before
 

@@ -10,7 +10,7 @@ use Rattle.book_record_write.proofs.Writing.{rest-length, tail-length, 
 use Rattle.book_record_write.proofs.put_tail.Statement.{statement}
 use Rattle.book_record_write.proofs.put_tail.Tie as tie
 
--- Places that the answers below look back to.
+-- places that the proofs below look back to
 abbrev after-common-prefix : tie.After-slice-known2 → tie.After-common-prefix
 after-common-prefix c = c .before .before .before .before .before
 

@@ -10,7 +10,7 @@ use Rattle.book_record_write.proofs.Writing.{record-head, record-tail, 
 use Rattle.book_record_write.proofs.record_size.Statement.{statement}
 use Rattle.book_record_write.proofs.record_size.Tie as tie
 
--- Places that the answers below look back to.
+-- places that the proofs below look back to
 abbrev begin-of-then1 : tie.Then1 → tie.Start
 begin-of-then1 c = c .before .before .before .before
 

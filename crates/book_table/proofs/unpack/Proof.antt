@@ -19,7 +19,7 @@ Inv-loop book n names₀ lens₀ scores₀ name₀ at₀ i₀ names lens scores 
 abbrev μ-loop : tie.MeasureT-loop
 μ-loop book n names₀ lens₀ scores₀ name₀ at₀ i₀ names lens scores name at i = n - i
 
--- Places that the answers below look back to.
+-- places that the proofs below look back to
 abbrev begin : tie.After-slice-known3 Inv-loop μ-loop → tie.Start Inv-loop μ-loop
 begin c = c .before .before .before .before
 

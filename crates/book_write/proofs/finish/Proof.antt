@@ -4,7 +4,7 @@ use Rattle.book_write.proofs.Stores.{book-finished}
 use Rattle.book_write.proofs.finish.Statement.{statement}
 use Rattle.book_write.proofs.finish.Tie as tie
 
--- Places that the answers below look back to.
+-- places that the proofs below look back to
 abbrev after-put-peaks : tie.After-put-frame → tie.After-put-peaks
 after-put-peaks c = c .before .before .before .before
 

@@ -6,7 +6,7 @@ use Rattle.book_write.proofs.Stores.{entry-put}
 use Rattle.book_write.proofs.put_entry.Statement.{statement}
 use Rattle.book_write.proofs.put_entry.Tie as tie
 
--- Places that the answers below look back to.
+-- places that the proofs below look back to
 abbrev after-put-offset : tie.After-put-record → tie.After-put-offset
 after-put-offset c = c .before .before .before .before
 

@@ -22,7 +22,7 @@ Inv-loop book p₀ q₀ p q = GoesOn (inBook book) (q₀ .ranges) p₀ (q .range
 abbrev μ-loop : tie.MeasureT-loop
 μ-loop book p₀ q₀ p q = p .turns
 
--- Places that the answers below look back to.
+-- places that the proofs below look back to
 abbrev begin : tie.Then1 Inv-loop μ-loop → tie.Start Inv-loop μ-loop
 begin c = c .before .before .before .before
 

@@ -9,7 +9,7 @@ use Rattle.completion_book.proofs.Answering.{begun-some, match-none}
 use Rattle.completion_book.proofs.begin.Statement.{statement}
 use Rattle.completion_book.proofs.begin.Tie as tie
 
--- Places that the answers below look back to.
+-- places that the proofs below look back to
 abbrev begin-of-place2 : tie.After-place2 → tie.Start
 begin-of-place2 c = c .before .before .before .before
 

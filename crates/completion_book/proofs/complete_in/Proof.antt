@@ -10,7 +10,7 @@ use Rattle.completion_book.proofs.Answering.{answerable, asked-runs, co
 use Rattle.completion_book.proofs.complete_in.Statement.{statement}
 use Rattle.completion_book.proofs.complete_in.Tie as tie
 
--- Places that the answers below look back to.
+-- places that the proofs below look back to
 abbrev begin : tie.After-run → tie.Start
 begin c = c .before .before .before .before .before .before
 

@@ -15,7 +15,7 @@ use Rattle.completion_book.proofs.Putting.{entry-here}
 use Rattle.completion_book.proofs.put_position.Statement.{statement}
 use Rattle.completion_book.proofs.put_position.Tie as tie
 
--- Places that the answers below look back to.
+-- places that the proofs below look back to
 abbrev begin : tie.After-name2 → tie.Start
 begin c = c .before .before .before .before .before .before
 
@@ -60,7 +60,8 @@ returns c =
     let a = p .before in
     let k = a .before .before .before .before in
     let z = k .before .before .before in
-    let e = entry-here (z .pre .0) (z .args .position) (z .pre .1) (k .cursor-at .ensures .0) (a .score-at .ensures) in (
+    let e = entry-here (z .pre .0) (z .args .position) (z .pre .1) (k .cursor-at .ensures .0) (a .score-at .ensures)
+    in (
       rw (← e) (p .put-entry .ensures .0),
       p .put-entry .ensures .1
           ∙ omega (

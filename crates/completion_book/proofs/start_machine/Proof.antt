@@ -10,7 +10,7 @@ use Rattle.book_check.proofs.Held.{checked-damaged, checked-held}
 use Rattle.completion_book.proofs.start_machine.Statement.{statement}
 use Rattle.completion_book.proofs.start_machine.Tie as tie
 
--- Places that the answers below look back to.
+-- places that the proofs below look back to
 abbrev after-n : tie.Else5 → tie.After-n
 after-n c = c .before .before .before .before .before .before .before
 

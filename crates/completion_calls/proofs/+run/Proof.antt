@@ -1,7 +1,6 @@
 -- `completion_calls::run` meets its contract: a walk of its MIR, by hand, in a cycle of one. The measure is the number
--- of turns left.
--- The slice is lent again to `put`, `put` and `take_best`, and comes back from each (`Lent.antt`, `Calls.antt`); it
--- goes to the call of itself at its own lifetime, and is given up for good. Assumes nothing.
+-- of turns left. The slice is lent again to `put`, `put` and `take_best`, and comes back from each (`Lent.antt`,
+-- `Calls.antt`); it goes to the call of itself at its own lifetime, and is given up for good. Assumes nothing.
 use mathlib.Core.Path.{_∙_, _≡_, ap, refl, subst, sym}
 use Prim.Native.Nat.{_+_, _-_, _<_, _^_, _≤_, ℕ}
 use native.Mathlib.Nat.{pos-of-ne-zero}

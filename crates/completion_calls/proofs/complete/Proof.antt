@@ -1,8 +1,6 @@
 -- `completion_calls::complete` meets its contract: a walk of its MIR, by hand. It is three calls: `start_machine`,
--- `run` with the
--- ranges, `write_answer` with the destination. Each `&mut` goes to its one callee at its own lifetime, and is given up
--- for
--- good. Assumes nothing.
+-- `run` with the ranges, `write_answer` with the destination. Each `&mut` goes to its one callee at its own lifetime,
+-- and is given up for good. Assumes nothing.
 use mathlib.Core.Path.{_≡_, refl}
 use Prim.Native.Nat.{_<_, _^_, ℕ}
 use mathlib.Core.List.{List, [], _∷_}

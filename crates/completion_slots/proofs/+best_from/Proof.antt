@@ -1,8 +1,7 @@
 -- `completion_slots::best_from` meets its contract: a walk of its MIR, by hand, in a cycle of one. The measure is the
--- number
--- of ranges still ahead.
--- The slice goes to the call of itself at its own lifetime, share and ghost name, and is given up for good
--- (`gave-slice`); where there is no call, what it owns is given up for its last list. Assumes nothing.
+-- number of ranges still ahead. The slice goes to the call of itself at its own lifetime, share and ghost name, and is
+-- given up for good (`gave-slice`); where there is no call, what it owns is given up for its last list. Assumes
+-- nothing.
 use mathlib.Core.Path.{_∙_, _≡_, ap, refl, subst, sym}
 use Prim.Native.Nat.{_+_, _-_, _<_, _^_, _≤_, suc, ℕ}
 use native.Mathlib.Omega.{arith}

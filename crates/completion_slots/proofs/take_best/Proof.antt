@@ -1,6 +1,5 @@
 -- `completion_slots::take_best` meets its contract: a walk of its MIR, by hand. The first element is read; the slice is
--- lent
--- again to `best_from` and comes back (`Lent.antt`); the last of the n is read, and stored over the best. Assumes
+-- lent again to `best_from` and comes back (`Lent.antt`); the last of the n is read, and stored over the best. Assumes
 -- nothing.
 use mathlib.Core.Path.{_≡_, ap, refl, subst, sym}
 use Prim.Native.Nat.{_-_, _<_, _^_, _≤_, ℕ}

@@ -7,7 +7,7 @@ use Rattle.completion_turn.proofs.Ranges.{open-none, parts-are}
 use Rattle.completion_turn.proofs.parts_of.Statement.{statement}
 use Rattle.completion_turn.proofs.parts_of.Tie as tie
 
--- Places that the answers below look back to.
+-- places that the proofs below look back to
 abbrev begin-of-then3 : tie.Then3 → tie.Start
 begin-of-then3 c = c .before .before .before .before .before
 

@@ -7,7 +7,7 @@ use Rattle.completion_turn.specs.Turns.{kth, next}
 use Rattle.completion_turn.proofs.turn.Statement.{statement}
 use Rattle.completion_turn.proofs.turn.Tie as tie
 
--- Places that the answers below look back to.
+-- places that the proofs below look back to
 abbrev after-parts-of : tie.After-struct-known5 → tie.After-parts-of
 after-parts-of c = c .before .before .before .before .before .before .before
 

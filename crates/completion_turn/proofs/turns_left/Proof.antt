@@ -1,5 +1,4 @@
--- `completion_turn::turns_left` meets its contract: its one test.
--- No loop, so no invariant. Assumes nothing.
+-- `completion_turn::turns_left` meets its contract: its one test. No loop, so no invariant. Assumes nothing.
 use native.Mathlib.Omega.{arith}
 use borrow.Author.Tests.{eq-eqb, ne-eqb}
 use Rattle.completion_turn.proofs.turns_left.Statement.{statement}

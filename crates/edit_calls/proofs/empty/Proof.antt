@@ -5,7 +5,7 @@ use Rattle.edit_calls.proofs.Nothing.{nothing-refused, nothing-written}
 use Rattle.edit_calls.proofs.empty.Statement.{statement}
 use Rattle.edit_calls.proofs.empty.Tie as tie
 
--- Places that the answers below look back to.
+-- places that the proofs below look back to
 abbrev else1 : tie.After-slice-known2 → tie.Else1
 else1 c = c .before .before .before .before
 

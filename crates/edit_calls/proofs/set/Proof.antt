@@ -16,7 +16,7 @@ use Rattle.edit_write.proofs.Editing.{held-set, new-asked, new-set, set-full}
 use Rattle.edit_calls.proofs.set.Statement.{statement}
 use Rattle.edit_calls.proofs.set.Tie as tie
 
--- Places that the answers below look back to.
+-- places that the proofs below look back to
 abbrev after-n : tie.After-look-up → tie.After-n
 after-n c = c .before .before .before .before
 

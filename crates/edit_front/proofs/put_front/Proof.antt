@@ -10,7 +10,7 @@ use Rattle.edit_front.proofs.Front.{front-inside, front-low, front-put,
 use Rattle.edit_front.proofs.put_front.Statement.{statement}
 use Rattle.edit_front.proofs.put_front.Tie as tie
 
--- Places that the answers below look back to.
+-- places that the proofs below look back to
 abbrev else1 : tie.After-copy → tie.Else1
 else1 c = c .before .before .before .before
 

@@ -17,7 +17,7 @@ Inv-loop book n m dst₀ count old new j₀ dst j = OffsetsLeft book n count m d
 abbrev μ-loop : tie.MeasureT-loop
 μ-loop book n m dst₀ count old new j₀ dst j = m - j
 
--- Places that the answers below look back to.
+-- places that the proofs below look back to
 abbrev begin : tie.After-records-at2 Inv-loop μ-loop → tie.Start Inv-loop μ-loop
 begin c = c .before .before .before .before
 

@@ -13,7 +13,7 @@ use Rattle.edit_rescore.proofs.Whole.{rescored-whole}
 use Rattle.edit_rescore.proofs.rescore.Statement.{statement}
 use Rattle.edit_rescore.proofs.rescore.Tie as tie
 
--- Places that the answers below look back to.
+-- places that the proofs below look back to
 abbrev begin : tie.After-copy-arg2 → tie.Start
 begin c = c .before .before .before .before
 

@@ -1,4 +1,4 @@
--- `edit_splice::pass` meets its contract: its calls pass the parts of the result one after the other (proofs/Parts).
+-- `edit_splice::pass` meets its contract: its calls pass the parts of the result one after the other (proofs/Passes).
 -- No loop. Assumes nothing.
 use native.Mathlib.Omega.{arith}
 use borrow.Author.Needs.{needs}

@@ -1,4 +1,4 @@
--- `edit_splice::pass_new` meets its contract: no entry, or one, behind the cursor (proofs/Parts).
+-- `edit_splice::pass_new` meets its contract: no entry, or one, behind the cursor (proofs/Passes).
 -- No loop. Assumes nothing.
 use mathlib.Core.Path.{_≡_}
 use mathlib.Core.List.{[], _∷_}
@@ -14,7 +14,7 @@ use Rattle.edit_splice.proofs.Passes.{fresh-fits, fresh-passed}
 use Rattle.edit_splice.proofs.pass_new.Statement.{statement}
 use Rattle.edit_splice.proofs.pass_new.Tie as tie
 
--- Places that the answers below look back to.
+-- places that the proofs below look back to
 abbrev after-held2 : tie.After-held3 → tie.After-held2
 after-held2 c = c .before .before .before .before
 

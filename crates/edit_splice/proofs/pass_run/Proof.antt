@@ -25,7 +25,7 @@ Inv-loop book end dst₀ n store i₀ at₀ name₀ index₀ put₀ held₀ kept
 abbrev μ-loop : tie.MeasureT-loop
 μ-loop book end dst₀ n store i₀ at₀ name₀ index₀ put₀ held₀ kept₀ dst i at name index put held kept = end - i
 
--- Places that the answers below look back to.
+-- places that the proofs below look back to
 abbrev begin : tie.After-held Inv-loop μ-loop → tie.Start Inv-loop μ-loop
 begin c = c .before .before .before .before
 

@@ -10,7 +10,7 @@ use Rattle.edit_splice.proofs.Passes.{parts-count, parts-few, parts-out
 use Rattle.edit_splice.proofs.write.Statement.{statement}
 use Rattle.edit_splice.proofs.write.Tie as tie
 
--- Places that the answers below look back to.
+-- places that the proofs below look back to
 abbrev begin : tie.After-pass-arg → tie.Start
 begin c = c .before .before .before .before
 

@@ -8,7 +8,7 @@ use Rattle.book_write.proofs.Reports.{whole-refused, whole-written}
 use Rattle.edit_write.proofs.write_edit.Statement.{statement}
 use Rattle.edit_write.proofs.write_edit.Tie as tie
 
--- Places that the answers below look back to.
+-- places that the proofs below look back to
 abbrev begin : tie.After-measure → tie.Start
 begin c = c .before .before .before .before
 

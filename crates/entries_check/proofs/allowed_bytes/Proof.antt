@@ -15,7 +15,7 @@ Inv-loop w i₀ i = (i ≤ length w) × (allowedBytes (drop i w) ≡ allowedByte
 abbrev μ-loop : tie.MeasureT-loop
 μ-loop w i₀ i = length w - i
 
--- Places that the answers below look back to.
+-- places that the proofs below look back to
 abbrev at-loop : tie.Then2 Inv-loop μ-loop → tie.At-loop Inv-loop μ-loop
 at-loop c = c .before .before .before .before
 

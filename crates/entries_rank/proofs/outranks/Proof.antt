@@ -5,7 +5,7 @@ use borrow.Author.Tests.{eq-eqb, ne-eqb}
 use Rattle.entries_rank.proofs.outranks.Statement.{statement}
 use Rattle.entries_rank.proofs.outranks.Tie as tie
 
--- Places that the answers below look back to.
+-- places that the proofs below look back to
 abbrev begin : tie.After-is-below → tie.Start
 begin c = c .before .before .before .before
 

@@ -4,7 +4,7 @@ use Rattle.frame_code.proofs.Stored.{frame-put}
 use Rattle.frame_code.proofs.put_frame.Statement.{statement}
 use Rattle.frame_code.proofs.put_frame.Tie as tie
 
--- Places that the answers below look back to.
+-- places that the proofs below look back to
 abbrev after-write-u32 : tie.After-write-u16 → tie.After-write-u32
 after-write-u32 c = c .before .before .before .before
 

@@ -21,7 +21,7 @@ abbrev μ-loop : tie.MeasureT-loop
 μ-loop part line₀ first₀ second₀ out₀ used₀ kept₀ turned₀ line first second out used kept turned =
     length part - used
 
--- Places that the answers below look back to.
+-- places that the proofs below look back to
 abbrev begin : tie.After-slice-known4 Inv-loop μ-loop → tie.Start Inv-loop μ-loop
 begin c = c .before .before .before .before .before
 

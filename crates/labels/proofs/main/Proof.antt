@@ -6,7 +6,7 @@ use borrow.Author.Needs.{needs}
 use Rattle.labels.proofs.main.Statement.{statement}
 use Rattle.labels.proofs.main.Tie as tie
 
--- Places that the answers below look back to.
+-- places that the proofs below look back to
 abbrev after-finish : tie.After-out5 → tie.After-finish
 after-finish c = c .before .before .before .before
 

@@ -14,7 +14,7 @@ Inv-loop input₀ line₀ first₀ second₀ out₀ reads₀ s₀ input line fir
 abbrev μ-loop : tie.MeasureT-loop
 μ-loop input₀ line₀ first₀ second₀ out₀ reads₀ s₀ input line first second out reads s = reads
 
--- Places that the answers below look back to.
+-- places that the proofs below look back to
 abbrev begin : tie.After-slice-known5 Inv-loop μ-loop → tie.Start Inv-loop μ-loop
 begin c = c .before .before .before .before .before
 

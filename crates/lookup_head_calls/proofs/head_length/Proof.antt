@@ -16,7 +16,7 @@ use Rattle.book_check.proofs.Held.{checked-damaged, checked-held}
 use Rattle.lookup_head_calls.proofs.head_length.Statement.{statement}
 use Rattle.lookup_head_calls.proofs.head_length.Tie as tie
 
--- Places that the answers below look back to.
+-- places that the proofs below look back to
 abbrev after-n : tie.After-head-name → tie.After-n
 after-n c = c .before .before .before .before
 

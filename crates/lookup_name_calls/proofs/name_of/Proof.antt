@@ -16,7 +16,7 @@ use Rattle.lookup_name_calls.proofs.Naming.{of-name}
 use Rattle.lookup_name_calls.proofs.name_of.Statement.{statement}
 use Rattle.lookup_name_calls.proofs.name_of.Tie as tie
 
--- Places that the answers below look back to.
+-- places that the proofs below look back to
 abbrev begin : tie.Else1 → tie.Start
 begin c = c .before .before .before .before .before .before .before .before .before
 

@@ -11,7 +11,7 @@ use Rattle.lookup_name_calls.proofs.Ranges.{span-none, span-some}
 use Rattle.lookup_name_calls.proofs.prefix_range.Statement.{statement}
 use Rattle.lookup_name_calls.proofs.prefix_range.Tie as tie
 
--- Places that the answers below look back to.
+-- places that the proofs below look back to
 abbrev after-n : tie.After-place → tie.After-n
 after-n c = c .before .before .before .before
 

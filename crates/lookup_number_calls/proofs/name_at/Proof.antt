@@ -16,7 +16,7 @@ use Rattle.lookup_number_calls.proofs.Entry.{at-position}
 use Rattle.lookup_number_calls.proofs.name_at.Statement.{statement}
 use Rattle.lookup_number_calls.proofs.name_at.Tie as tie
 
--- Places that the answers below look back to.
+-- places that the proofs below look back to
 abbrev after-cursor-at : tie.After-write-entry-arg → tie.After-cursor-at
 after-cursor-at c = c .before .before .before .before
 

@@ -5,7 +5,7 @@ use Rattle.book_write.proofs.Calls.{name-copied}
 use Rattle.merge_read.proofs.choose.Statement.{statement}
 use Rattle.merge_read.proofs.choose.Tie as tie
 
--- Places that the answers below look back to.
+-- places that the proofs below look back to
 abbrev begin-of-then1 : tie.Then1 → tie.Start
 begin-of-then1 c = c .before .before .before .before .before .before
 

@@ -5,7 +5,7 @@ use Rattle.merge_read.proofs.Dues.{due-other, due-same}
 use Rattle.merge_read.proofs.is_due_too.Statement.{statement}
 use Rattle.merge_read.proofs.is_due_too.Tie as tie
 
--- Places that the answers below look back to.
+-- places that the proofs below look back to
 abbrev begin : tie.After-equal → tie.Start
 begin c = c .before .before .before .before
 

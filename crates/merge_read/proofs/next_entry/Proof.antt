@@ -7,7 +7,7 @@ use Rattle.merge_read.proofs.Turning.{due-low, loaded-few, loaded-fits,
 use Rattle.merge_read.proofs.next_entry.Statement.{statement}
 use Rattle.merge_read.proofs.next_entry.Tie as tie
 
--- Places that the answers below look back to.
+-- places that the proofs below look back to
 abbrev begin : tie.After-slice-known3 → tie.Start
 begin c = c .before .before .before .before .before
 

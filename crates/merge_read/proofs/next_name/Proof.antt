@@ -8,7 +8,7 @@ use Rattle.merge_read.proofs.Loading.{loaded-given, loaded-inside, load
 use Rattle.merge_read.proofs.next_name.Statement.{statement}
 use Rattle.merge_read.proofs.next_name.Tie as tie
 
--- Places that the answers below look back to.
+-- places that the proofs below look back to
 abbrev after-read-name : tie.After-struct-known2 → tie.After-read-name
 after-read-name c = c .before .before .before .before
 

@@ -15,7 +15,7 @@ Inv-loop a b n i₀ i = (i ≤ n) × (i + common (drop i a) (drop i b) ≡ commo
 abbrev μ-loop : tie.MeasureT-loop
 μ-loop a b n i₀ i = n - i
 
--- Places that the answers below look back to.
+-- places that the proofs below look back to
 abbrev at-loop : tie.Then1 Inv-loop μ-loop → tie.At-loop Inv-loop μ-loop
 at-loop c = c .before .before .before .before
 

@@ -17,7 +17,7 @@ Inv-loop dst₀ at src n j₀ dst j = (j ≤ n) × (length dst ≡ length dst₀
 abbrev μ-loop : tie.MeasureT-loop
 μ-loop dst₀ at src n j₀ dst j = n - j
 
--- Places that the answers below look back to.
+-- places that the proofs below look back to
 abbrev begin : tie.At-loop Inv-loop μ-loop → tie.Start Inv-loop μ-loop
 begin c = c .before .before .before .before .before
 

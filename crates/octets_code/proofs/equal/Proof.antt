@@ -6,7 +6,7 @@ use Rattle.octets_code.proofs.Loops.{same-apart, same-begins}
 use Rattle.octets_code.proofs.equal.Statement.{statement}
 use Rattle.octets_code.proofs.equal.Tie as tie
 
--- Places that the answers below look back to.
+-- places that the proofs below look back to
 abbrev begin : tie.After-starts-with → tie.Start
 begin c = c .before .before .before .before
 

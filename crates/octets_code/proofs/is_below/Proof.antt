@@ -6,7 +6,7 @@ use Rattle.octets_code.proofs.Loops.{below-at}
 use Rattle.octets_code.proofs.is_below.Statement.{statement}
 use Rattle.octets_code.proofs.is_below.Tie as tie
 
--- Places that the answers below look back to.
+-- places that the proofs below look back to
 abbrev after-common-prefix : tie.After-shared-slice-known4 → tie.After-common-prefix
 after-common-prefix c = c .before .before .before .before
 

@@ -1,5 +1,4 @@
--- `octets_code::least` meets its contract, by arithmetic.
--- No loop. Assumes nothing.
+-- `octets_code::least` meets its contract, by arithmetic. No loop. Assumes nothing.
 use native.Mathlib.Omega.{arith}
 use Rattle.octets_code.proofs.least.Statement.{statement}
 use Rattle.octets_code.proofs.least.Tie as tie

@@ -1,8 +1,6 @@
 -- `panel_calls::press` meets its contract: a walk of its MIR, by hand. The borrow is opened, the panel is copied out
--- and
--- passed to `step_in`, the panel that `step_in` returned is stored in its place, and the borrow is closed at it. All
--- that it knows of `step_in` is that it meets its contract.
--- Assumes nothing.
+-- and passed to `step_in`, the panel that `step_in` returned is stored in its place, and the borrow is closed at it.
+-- All that it knows of `step_in` is that it meets its contract. Assumes nothing.
 use mathlib.Core.Path.{ap, refl}
 use Prim.Native.Nat.{_<_, _^_, ℕ}
 use mathlib.Core.List.{List, [], _∷_}

@@ -6,7 +6,7 @@ use Rattle.panel.specs.Panel.{acts}
 use Rattle.panel_keys.proofs.act.Statement.{statement}
 use Rattle.panel_keys.proofs.act.Tie as tie
 
--- Places that the answers below look back to.
+-- places that the proofs below look back to
 abbrev begin : tie.Then2 → tie.Start
 begin c = c .before .before .before .before
 

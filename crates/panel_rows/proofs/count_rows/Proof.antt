@@ -6,7 +6,7 @@ use Rattle.panel_rows.proofs.Rows.{rows-counted}
 use Rattle.panel_rows.proofs.count_rows.Statement.{statement}
 use Rattle.panel_rows.proofs.count_rows.Tie as tie
 
--- Places that the answers below look back to.
+-- places that the proofs below look back to
 abbrev begin : tie.After-place2 → tie.Start
 begin c = c .before .before .before .before
 

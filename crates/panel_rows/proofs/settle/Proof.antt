@@ -11,7 +11,7 @@ use Rattle.panel_rows.proofs.Typing.{settled}
 use Rattle.panel_rows.proofs.settle.Statement.{statement}
 use Rattle.panel_rows.proofs.settle.Tie as tie
 
--- Places that the answers below look back to.
+-- places that the proofs below look back to
 abbrev begin : tie.After-count-rows → tie.Start
 begin c = c .before .before .before .before
 

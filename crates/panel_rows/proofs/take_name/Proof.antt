@@ -1,6 +1,5 @@
 -- `panel_rows::take_name` meets its contract: the row's position is one that completion offers, and the name there
--- becomes the text (proofs/Rows).
--- No loop, so no invariant. Assumes nothing.
+-- becomes the text (proofs/Rows). No loop, so no invariant. Assumes nothing.
 use Prim.Native.Nat.{_<_}
 use mathlib.Core.Path.{_≡_, sym}
 use lib.ListN.{length}

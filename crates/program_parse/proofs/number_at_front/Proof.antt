@@ -10,7 +10,7 @@ use Rattle.program_parse.proofs.Parsing.{number-large, number-long, num
 use Rattle.program_parse.proofs.number_at_front.Statement.{statement}
 use Rattle.program_parse.proofs.number_at_front.Tie as tie
 
--- Places that the answers below look back to.
+-- places that the proofs below look back to
 abbrev after-count-digits : tie.Else3 → tie.After-count-digits
 after-count-digits c = c .before .before .before .before
 

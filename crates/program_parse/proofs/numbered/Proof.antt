@@ -11,7 +11,7 @@ use Rattle.program_parse.proofs.Parsing.{numbered-bad, numbered-set, nu
 use Rattle.program_parse.proofs.numbered.Statement.{statement}
 use Rattle.program_parse.proofs.numbered.Tie as tie
 
--- Places that the answers below look back to.
+-- places that the proofs below look back to
 abbrev begin : tie.After-value → tie.Start
 begin c = c .before .before .before .before .before
 

@@ -6,7 +6,7 @@ use Rattle.program_parse.proofs.Parsing.{other-line, set-line, top-line
 use Rattle.program_parse.proofs.parse.Statement.{statement}
 use Rattle.program_parse.proofs.parse.Tie as tie
 
--- Places that the answers below look back to.
+-- places that the proofs below look back to
 abbrev begin : tie.Then1 → tie.Start
 begin c = c .before .before .before .before
 

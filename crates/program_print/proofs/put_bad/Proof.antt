@@ -1,12 +1,11 @@
--- `program_print::put_bad` meets its contract: four bytes, copied.
--- No loop, so no invariant. Assumes nothing.
+-- `program_print::put_bad` meets its contract: four bytes, copied. No loop, so no invariant. Assumes nothing.
 use borrow.Author.Needs.{needs}
 use Rattle.program.specs.Program.{badLine}
 use Rattle.program_print.proofs.Printing.{put-part}
 use Rattle.program_print.proofs.put_bad.Statement.{statement}
 use Rattle.program_print.proofs.put_bad.Tie as tie
 
--- Places that the answers below look back to.
+-- places that the proofs below look back to
 abbrev begin : tie.After-copy → tie.Start
 begin c = c .before .before .before .before
 

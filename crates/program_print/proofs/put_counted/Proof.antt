@@ -9,7 +9,7 @@ use Rattle.program_print.proofs.Printing.{put-append, put-byte, put-par
 use Rattle.program_print.proofs.put_counted.Statement.{statement}
 use Rattle.program_print.proofs.put_counted.Tie as tie
 
--- Places that the answers below look back to.
+-- places that the proofs below look back to
 abbrev after-copy : tie.After-put-decimal → tie.After-copy
 after-copy c = c .before .before .before .before
 

@@ -5,7 +5,7 @@ use Rattle.program_print.proofs.Printing.{put-digits}
 use Rattle.program_print.proofs.put_decimal.Statement.{statement}
 use Rattle.program_print.proofs.put_decimal.Tie as tie
 
--- Places that the answers below look back to.
+-- places that the proofs below look back to
 abbrev after-digits-of : tie.After-copy → tie.After-digits-of
 after-digits-of c = c .before .before .before .before .before
 

@@ -9,7 +9,7 @@ use Rattle.program_print.proofs.Printing.{put-append, put-byte, put-par
 use Rattle.program_print.proofs.put_entry_line.Statement.{statement}
 use Rattle.program_print.proofs.put_entry_line.Tie as tie
 
--- Places that the answers below look back to.
+-- places that the proofs below look back to
 abbrev begin : tie.After-put-decimal → tie.Start
 begin c = c .before .before .before .before
 

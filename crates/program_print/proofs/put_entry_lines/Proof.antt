@@ -1,6 +1,5 @@
 -- `program_print::put_entry_lines` meets its contract. The loop's invariant: the lines of the entries that are left,
--- written
--- now, give all lines. The measure is how many entries are left. Assumes nothing.
+-- written now, give all lines. The measure is how many entries are left. Assumes nothing.
 use Prim.Native.Nat.{_-_}
 use native.Mathlib.Omega.{arith}
 use borrow.Author.Needs.{needs}
@@ -16,7 +15,7 @@ Inv-loop answer n out₀ at₀ end₀ i₀ out at end i = Offering answer n out�
 abbrev μ-loop : tie.MeasureT-loop
 μ-loop answer n out₀ at₀ end₀ i₀ out at end i = n - i
 
--- Places that the answers below look back to.
+-- places that the proofs below look back to
 abbrev begin : tie.In-loop Inv-loop μ-loop → tie.Start Inv-loop μ-loop
 begin c = c .before .before .before .before
 

@@ -10,7 +10,7 @@ use Rattle.program_run.proofs.Feeding.{feed-begun, feed-line, part-with
 use Rattle.program_run.proofs.feed.Statement.{statement}
 use Rattle.program_run.proofs.feed.Tie as tie
 
--- Places that the answers below look back to.
+-- places that the proofs below look back to
 abbrev begin : tie.After-line-length → tie.Start
 begin c = c .before .before .before .before .before .before
 

@@ -9,7 +9,7 @@ use Rattle.program_run.proofs.Feeding.{finish-line, finish-none}
 use Rattle.program_run.proofs.finish.Statement.{statement}
 use Rattle.program_run.proofs.finish.Tie as tie
 
--- Places that the answers below look back to.
+-- places that the proofs below look back to
 abbrev begin : tie.Then1 → tie.Start
 begin c = c .before .before .before .before .before
 

@@ -7,7 +7,7 @@ use Rattle.program_step.proofs.Editing.{printed-refused, printed-wrote}
 use Rattle.program_step.proofs.print_edit.Statement.{statement}
 use Rattle.program_step.proofs.print_edit.Tie as tie
 
--- Places that the answers below look back to.
+-- places that the proofs below look back to
 abbrev after-w : tie.After-put-counted → tie.After-w
 after-w c = c .before .before .before .before
 

@@ -1,6 +1,5 @@
 -- `program_step::print_top` meets its contract: by the answer's kind; the entries' lines take at most 960 bytes, and
--- the
--- looks are few. No loop, so no invariant. Assumes nothing.
+-- the looks are few. No loop, so no invariant. Assumes nothing.
 use Prim.Native.Nat.{_≤_}
 use native.Mathlib.Omega.{arith}
 use borrow.Author.Needs.{needs}
@@ -12,7 +11,7 @@ use Rattle.program_step.proofs.Completing.{offered-lines, offered-print
 use Rattle.program_step.proofs.print_top.Statement.{statement}
 use Rattle.program_step.proofs.print_top.Tie as tie
 
--- Places that the answers below look back to.
+-- places that the proofs below look back to
 abbrev begin : tie.After-c2 → tie.Start
 begin c = c .before .before .before .before
 

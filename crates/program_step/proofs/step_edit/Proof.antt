@@ -5,7 +5,7 @@ use Rattle.program_step.proofs.Editing.{edit-done}
 use Rattle.program_step.proofs.step_edit.Statement.{statement}
 use Rattle.program_step.proofs.step_edit.Tie as tie
 
--- Places that the answers below look back to.
+-- places that the proofs below look back to
 abbrev after-perform : tie.After-print-edit → tie.After-perform
 after-perform c = c .before .before .before .before .before .before
 

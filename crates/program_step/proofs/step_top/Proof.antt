@@ -5,7 +5,7 @@ use Rattle.program_step.proofs.Stepping.{top-first, top-second}
 use Rattle.program_step.proofs.step_top.Statement.{statement}
 use Rattle.program_step.proofs.step_top.Tie as tie
 
--- Places that the answers below look back to.
+-- places that the proofs below look back to
 abbrev begin : tie.Then1 → tie.Start
 begin c = c .before .before .before .before .before
 

@@ -7,7 +7,7 @@ use Rattle.program_step.proofs.Completing.{top-shown}
 use Rattle.program_step.proofs.top_from.Statement.{statement}
 use Rattle.program_step.proofs.top_from.Tie as tie
 
--- Places that the answers below look back to.
+-- places that the proofs below look back to
 abbrev begin : tie.After-complete-in → tie.Start
 begin c = c .before .before .before .before .before
 

@@ -6,7 +6,7 @@ use Rattle.script_call.proofs.Calling.{set-called, withdraw-called}
 use Rattle.script_call.proofs.call.Statement.{statement}
 use Rattle.script_call.proofs.call.Tie as tie
 
--- Places that the answers below look back to.
+-- places that the proofs below look back to
 abbrev begin : tie.Then1 → tie.Start
 begin c = c .before .before .before .before
 

@@ -8,7 +8,7 @@ use Rattle.script_call.proofs.Calling.{call-parts, part-name}
 use Rattle.script_call.proofs.perform_at.Statement.{statement}
 use Rattle.script_call.proofs.perform_at.Tie as tie
 
--- Places that the answers below look back to.
+-- places that the proofs below look back to
 abbrev begin : tie.After-shared-slice-known2 → tie.Start
 begin c = c .before .before .before .before
 

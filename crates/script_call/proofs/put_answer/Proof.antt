@@ -10,7 +10,7 @@ use Rattle.script_call.proofs.Calling.{stored}
 use Rattle.script_call.proofs.put_answer.Statement.{statement}
 use Rattle.script_call.proofs.put_answer.Tie as tie
 
--- Places that the answers below look back to.
+-- places that the proofs below look back to
 abbrev after-write-u16 : tie.After-write-u32 → tie.After-write-u16
 after-write-u16 c = c .before .before .before .before
 

@@ -22,7 +22,7 @@ Inv-loop script first₀ second₀ out₀ at₀ slot₀ turned₀ first second o
 abbrev μ-loop : tie.MeasureT-loop
 μ-loop script first₀ second₀ out₀ at₀ slot₀ turned₀ first second out at slot turned = length script - at
 
--- Places that the answers below look back to.
+-- places that the proofs below look back to
 abbrev begin : tie.After-slice-known3 Inv-loop μ-loop → tie.Start Inv-loop μ-loop
 begin c = c .before .before .before .before
 

@@ -9,7 +9,7 @@ use Rattle.script_run.proofs.Running.{run-damaged, run-done, run-narrow
 use Rattle.script_run.proofs.run.Statement.{statement}
 use Rattle.script_run.proofs.run.Tie as tie
 
--- Places that the answers below look back to.
+-- places that the proofs below look back to
 abbrev else3 : tie.After-play-arg3 → tie.Else3
 else3 c = c .before .before .before .before .before .before .before
 

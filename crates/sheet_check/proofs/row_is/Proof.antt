@@ -14,7 +14,7 @@ use Rattle.sheet_check.specs.Check.{rowIs, rowLength, rowName}
 use Rattle.sheet_check.proofs.row_is.Statement.{statement}
 use Rattle.sheet_check.proofs.row_is.Tie as tie
 
--- Places that the answers below look back to.
+-- places that the proofs below look back to
 abbrev begin : tie.Else2 → tie.Start
 begin c = c .before .before .before .before .before
 

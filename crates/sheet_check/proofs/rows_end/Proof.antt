@@ -1,6 +1,5 @@
 -- `sheet_check::rows_end` meets its contract. The loop's invariant: the entries from the index reached on end where all
--- of
--- them do. The measure is the number of entries left. Assumes nothing.
+-- of them do. The measure is the number of entries left. Assumes nothing.
 use Prim.Native.Nat.{_+_, _-_, _≤_}
 use mathlib.Core.Path.{_∙_, _≡_, ap, sym}
 use mathlib.Core.Bool.{true}

@@ -17,7 +17,7 @@ Inv-loop sheet n total₀ at₀ prev₀ prev-end₀ i₀ total at prev prev-end 
 abbrev μ-loop : tie.MeasureT-loop
 μ-loop sheet n total₀ at₀ prev₀ prev-end₀ i₀ total at prev prev-end i = n - i
 
--- Places that the answers below look back to.
+-- places that the proofs below look back to
 abbrev in-loop : tie.After-record-size Inv-loop μ-loop → tie.In-loop Inv-loop μ-loop
 in-loop c = c .before .before .before .before
 

@@ -18,7 +18,7 @@ Inv-loop sheet n total dst₀ at₀ from₀ prev₀ prev-end₀ i₀ dst at from
 abbrev μ-loop : tie.MeasureT-loop
 μ-loop sheet n total dst₀ at₀ from₀ prev₀ prev-end₀ i₀ dst at from prev prev-end i = n - i
 
--- Places that the answers below look back to.
+-- places that the proofs below look back to
 abbrev in-loop : tie.After-put-entry-arg Inv-loop μ-loop → tie.In-loop Inv-loop μ-loop
 in-loop c = c .before .before .before .before
 

@@ -18,7 +18,7 @@ Inv-loop book n total dst₀ name₀ from₀ at₀ i₀ dst name from at i = Wri
 abbrev μ-loop : tie.MeasureT-loop
 μ-loop book n total dst₀ name₀ from₀ at₀ i₀ dst name from at i = n - i
 
--- Places that the answers below look back to.
+-- places that the proofs below look back to
 abbrev begin : tie.After-slice-known2 Inv-loop μ-loop → tie.Start Inv-loop μ-loop
 begin c = c .before .before .before .before .before .before
 

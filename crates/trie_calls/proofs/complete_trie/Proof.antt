@@ -17,7 +17,7 @@ use Rattle.trie_calls.proofs.Calling.{offers-all}
 use Rattle.trie_calls.proofs.complete_trie.Statement.{statement}
 use Rattle.trie_calls.proofs.complete_trie.Tie as tie
 
--- Places that the answers below look back to.
+-- places that the proofs below look back to
 abbrev begin : tie.After-enum-told → tie.Start
 begin c = c .before .before .before .before .before .before
 

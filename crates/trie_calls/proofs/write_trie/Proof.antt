@@ -11,7 +11,7 @@ use Rattle.answer_write.proofs.Converting.{no-room, not-read, whole}
 use Rattle.trie_calls.proofs.write_trie.Statement.{statement}
 use Rattle.trie_calls.proofs.write_trie.Tie as tie
 
--- Places that the answers below look back to.
+-- places that the proofs below look back to
 abbrev after-write : tie.After-total → tie.After-write
 after-write c = c .before .before .before .before
 

@@ -1,6 +1,5 @@
 -- `trie_check_fields::group_end` meets its contract. Invariant: the group ends where the rest of it from `from` on
--- does.
--- Measure: the bytes from `from` on. Assumes nothing.
+-- does. Measure: the bytes from `from` on. Assumes nothing.
 use Prim.Native.Nat.{_-_}
 use lib.ListN.{length}
 use native.Mathlib.Omega.{arith}
@@ -17,7 +16,7 @@ Inv-loop buf at from₀ from = EndsWith buf at from
 abbrev μ-loop : tie.MeasureT-loop
 μ-loop buf at from₀ from = length buf - from
 
--- Places that the answers below look back to.
+-- places that the proofs below look back to
 abbrev at-loop : tie.Then1 Inv-loop μ-loop → tie.At-loop Inv-loop μ-loop
 at-loop c = c .before .before .before .before .before
 

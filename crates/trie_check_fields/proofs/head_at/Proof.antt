@@ -1,6 +1,5 @@
 -- `trie_check_fields::head_at` meets its contract: each return gives the test that failed, or all that was read, to the
--- law
--- of the answer (proofs/Heads). No loop, so no invariant. Assumes nothing.
+-- law of the answer (proofs/Heads). No loop, so no invariant. Assumes nothing.
 use native.Mathlib.Omega.{arith}
 use borrow.Author.Needs.{needs}
 use borrow.Author.Tests.{not-false, not-true}
@@ -10,7 +9,7 @@ use Rattle.trie_check_fields.proofs.Heads.{head-short, head-wide, label
 use Rattle.trie_check_fields.proofs.head_at.Statement.{statement}
 use Rattle.trie_check_fields.proofs.head_at.Tie as tie
 
--- Places that the answers below look back to.
+-- places that the proofs below look back to
 abbrev else1 : tie.After-label-length → tie.Else1
 else1 c = c .before .before .before .before
 

@@ -1,5 +1,4 @@
--- `trie_check_rules::after_node` meets its contract, field by field.
--- No loop, so no invariant. Assumes nothing.
+-- `trie_check_rules::after_node` meets its contract, field by field. No loop, so no invariant. Assumes nothing.
 use mathlib.Core.Bool.{false}
 use borrow.Author.Needs.{needs}
 use Rattle.trie_check_rules.proofs.after_node.Statement.{statement}

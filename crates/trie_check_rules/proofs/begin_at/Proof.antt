@@ -1,5 +1,4 @@
--- `trie_check_rules::begin_at` meets its contract, field by field.
--- No loop, so no invariant. Assumes nothing.
+-- `trie_check_rules::begin_at` meets its contract, field by field. No loop, so no invariant. Assumes nothing.
 use mathlib.Core.Path.{refl}
 use native.Mathlib.Omega.{arith}
 use Rattle.trie_check_rules.proofs.begin_at.Statement.{statement}

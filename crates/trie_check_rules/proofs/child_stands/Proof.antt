@@ -6,7 +6,7 @@ use Rattle.trie_check_rules.proofs.Rules.{child-away, child-leaf, child
 use Rattle.trie_check_rules.proofs.child_stands.Statement.{statement}
 use Rattle.trie_check_rules.proofs.child_stands.Tie as tie
 
--- Places that the answers below look back to.
+-- places that the proofs below look back to
 abbrev begin : tie.Then2 → tie.Start
 begin c = c .before .before .before .before .before
 

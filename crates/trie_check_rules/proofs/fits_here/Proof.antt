@@ -6,7 +6,7 @@ use Rattle.trie_check_rules.proofs.Rules.{all-three, no-label, no-score
 use Rattle.trie_check_rules.proofs.fits_here.Statement.{statement}
 use Rattle.trie_check_rules.proofs.fits_here.Tie as tie
 
--- Places that the answers below look back to.
+-- places that the proofs below look back to
 abbrev begin : tie.Then2 → tie.Start
 begin c = c .before .before .before .before
 

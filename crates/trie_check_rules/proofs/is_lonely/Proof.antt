@@ -4,7 +4,7 @@ use borrow.Author.Tests.{not-false, not-true}
 use Rattle.trie_check_rules.proofs.is_lonely.Statement.{statement}
 use Rattle.trie_check_rules.proofs.is_lonely.Tie as tie
 
--- Places that the answers below look back to.
+-- places that the proofs below look back to
 abbrev begin : tie.Then2 → tie.Start
 begin c = c .before .before .before .before
 

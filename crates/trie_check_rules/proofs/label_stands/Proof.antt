@@ -4,7 +4,7 @@ use Rattle.trie_check_rules.proofs.Rules.{label-deep, label-long, label
 use Rattle.trie_check_rules.proofs.label_stands.Statement.{statement}
 use Rattle.trie_check_rules.proofs.label_stands.Tie as tie
 
--- Places that the answers below look back to.
+-- places that the proofs below look back to
 abbrev begin : tie.Then2 → tie.Start
 begin c = c .before .before .before .before .before
 

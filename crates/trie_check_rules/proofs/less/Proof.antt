@@ -1,5 +1,4 @@
--- `trie_check_rules::less` meets its contract, by arithmetic.
--- No loop, so no invariant. Assumes nothing.
+-- `trie_check_rules::less` meets its contract, by arithmetic. No loop, so no invariant. Assumes nothing.
 use native.Mathlib.Omega.{arith}
 use Rattle.trie_check_rules.proofs.less.Statement.{statement}
 use Rattle.trie_check_rules.proofs.less.Tie as tie

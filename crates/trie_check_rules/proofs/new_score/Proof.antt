@@ -4,7 +4,7 @@ use borrow.Author.Tests.{eq-eqb, ne-eqb, not-false, not-true}
 use Rattle.trie_check_rules.proofs.new_score.Statement.{statement}
 use Rattle.trie_check_rules.proofs.new_score.Tie as tie
 
--- Places that the answers below look back to.
+-- places that the proofs below look back to
 abbrev begin : tie.After-struct-known3 → tie.Start
 begin c = c .before .before .before .before
 

@@ -7,7 +7,7 @@ use Rattle.trie_check_rules.proofs.Rules.{score-zero}
 use Rattle.trie_check_rules.proofs.score_stands.Statement.{statement}
 use Rattle.trie_check_rules.proofs.score_stands.Tie as tie
 
--- Places that the answers below look back to.
+-- places that the proofs below look back to
 abbrev then1-of-else3 : tie.Else3 → tie.Then1
 then1-of-else3 c = c .before .before .before .before
 

@@ -16,7 +16,7 @@ Inv-loop trie prefix k dst₀ queue₀ offered₀ bytes₀ dst queue offered byt
 abbrev μ-loop : tie.MeasureT-loop
 μ-loop trie prefix k dst₀ queue₀ offered₀ bytes₀ dst queue offered bytes = k - offered
 
--- Places that the answers below look back to.
+-- places that the proofs below look back to
 abbrev begin : tie.After-start Inv-loop μ-loop → tie.Start Inv-loop μ-loop
 begin c = c .before .before .before .before
 

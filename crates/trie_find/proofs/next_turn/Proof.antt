@@ -12,7 +12,7 @@ use Rattle.trie_find.proofs.Offering.{first-and-rest, some-todo, turn-g
 use Rattle.trie_find.proofs.next_turn.Statement.{statement}
 use Rattle.trie_find.proofs.next_turn.Tie as tie
 
--- Places that the answers below look back to.
+-- places that the proofs below look back to
 abbrev begin : tie.After-rest → tie.Start
 begin c = c .before .before .before .before
 

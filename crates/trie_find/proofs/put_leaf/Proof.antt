@@ -11,7 +11,7 @@ use Rattle.trie_find_queue.specs.Waits.{knownOf, pathOf}
 use Rattle.trie_find.proofs.put_leaf.Statement.{statement}
 use Rattle.trie_find.proofs.put_leaf.Tie as tie
 
--- Places that the answers below look back to.
+-- places that the proofs below look back to
 abbrev begin : tie.After-path2 → tie.Start
 begin c = c .before .before .before .before
 

@@ -13,7 +13,7 @@ use Rattle.trie_find.proofs.Starting.{empty-start, first-reached, none-
 use Rattle.trie_find.proofs.start.Statement.{statement}
 use Rattle.trie_find.proofs.start.Tie as tie
 
--- Places that the answers below look back to.
+-- places that the proofs below look back to
 abbrev begin-of-else1 : tie.Else1 → tie.Start
 begin-of-else1 c = c .before .before .before .before
 

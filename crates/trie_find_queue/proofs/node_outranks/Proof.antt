@@ -9,7 +9,7 @@ use Rattle.entries.specs.Names.{longestName}
 use Rattle.trie_find_queue.proofs.node_outranks.Statement.{statement}
 use Rattle.trie_find_queue.proofs.node_outranks.Tie as tie
 
--- Places that the answers below look back to.
+-- places that the proofs below look back to
 abbrev begin : tie.After-q2 → tie.Start
 begin c = c .before .before .before .before
 

@@ -1,7 +1,6 @@
 -- `trie_find_queue::place_of` meets its contract: the nodes in front of x are counted until one does not come before
--- it.
--- Invariant: the count so far and the place among the nodes that are left make the place. The nodes left fall. Assumes
--- nothing.
+-- it. Invariant: the count so far and the place among the nodes that are left make the place. The nodes left fall.
+-- Assumes nothing.
 use Prim.Native.Nat.{_-_, _≤_}
 use mathlib.Core.Path.{_∙_, _≡_, sym}
 use lib.ListN.{length}
@@ -21,7 +20,7 @@ Inv-loop x nodes count i₀ i = Placing x nodes count i
 abbrev μ-loop : tie.MeasureT-loop
 μ-loop x nodes count i₀ i = count - i
 
--- Places that the answers below look back to.
+-- places that the proofs below look back to
 abbrev begin : tie.After-y Inv-loop μ-loop → tie.Start Inv-loop μ-loop
 begin c = c .before .before .before .before
 

@@ -1,8 +1,6 @@
 -- `trie_find_queue::put_at` meets its contract: from place i on each node takes the place of the next; what is carried
--- at
--- the end is put behind the last if there is room.
--- Invariant: the nodes up to j, the one carried, and the nodes from j on are the list with x put in. The nodes left
--- fall. Assumes nothing.
+-- at the end is put behind the last if there is room. Invariant: the nodes up to j, the one carried, and the nodes from
+-- j on are the list with x put in. The nodes left fall. Assumes nothing.
 use Prim.Native.Nat.{_-_, _≤_}
 use mathlib.Core.Path.{_≡_}
 use lib.ListN.{length}
@@ -21,7 +19,7 @@ Inv-loop i most count nodes₀ carry₀ j₀ nodes carry j = Moving (record { no
 abbrev μ-loop : tie.MeasureT-loop
 μ-loop i most count nodes₀ carry₀ j₀ nodes carry j = count - j
 
--- Places that the answers below look back to.
+-- places that the proofs below look back to
 abbrev begin : tie.After-y Inv-loop μ-loop → tie.Start Inv-loop μ-loop
 begin c = c .before .before .before .before
 

@@ -18,7 +18,7 @@ Inv-loop count nodes₀ i₀ nodes i = Closing (record { nodes = nodes₀; count
 abbrev μ-loop : tie.MeasureT-loop
 μ-loop count nodes₀ i₀ nodes i = count - i
 
--- Places that the answers below look back to.
+-- places that the proofs below look back to
 abbrev begin : tie.After-y Inv-loop μ-loop → tie.Start Inv-loop μ-loop
 begin c = c .before .before .before .before
 

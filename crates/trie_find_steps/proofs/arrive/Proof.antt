@@ -1,6 +1,5 @@
 -- `trie_find_steps::arrive` meets its contract: the label is copied behind the path, and the header says its length and
--- the
--- mark. No loop, so no invariant. Assumes nothing.
+-- the mark. No loop, so no invariant. Assumes nothing.
 use mathlib.Core.Path.{_∙_, ap}
 use lib.Seq.{sets}
 use borrow.Author.Needs.{needs}
@@ -8,7 +7,7 @@ use Rattle.trie_find_steps.proofs.Fields.{arrive-is}
 use Rattle.trie_find_steps.proofs.arrive.Statement.{statement}
 use Rattle.trie_find_steps.proofs.arrive.Tie as tie
 
--- Places that the answers below look back to.
+-- places that the proofs below look back to
 abbrev begin : tie.After-last-mark → tie.Start
 begin c = c .before .before .before .before .before .before .before .before
 

@@ -1,6 +1,5 @@
 -- `trie_find_steps::children_at` meets its contract: the number behind the score field, of the size that the header
--- says,
--- counted from `from`. No loop, so no invariant. Assumes nothing.
+-- says, counted from `from`. No loop, so no invariant. Assumes nothing.
 use Prim.Native.Nat.{_+_}
 use mathlib.Core.Path.{_∙_, _≡_, ap, sym}
 use native.Mathlib.Omega.{arith}
@@ -12,7 +11,7 @@ use Rattle.trie.proofs.Header.{child-most}
 use Rattle.trie_find_steps.proofs.children_at.Statement.{statement}
 use Rattle.trie_find_steps.proofs.children_at.Tie as tie
 
--- Places that the answers below look back to.
+-- places that the proofs below look back to
 abbrev begin : tie.After-child-size → tie.Start
 begin c = c .before .before .before .before
 

@@ -6,7 +6,7 @@ use Rattle.trie_find_steps.proofs.Fields.{arrive-same}
 use Rattle.trie_find_steps.proofs.first_child.Statement.{statement}
 use Rattle.trie_find_steps.proofs.first_child.Tie as tie
 
--- Places that the answers below look back to.
+-- places that the proofs below look back to
 abbrev begin : tie.After-arrive → tie.Start
 begin c = c .before .before .before .before
 

@@ -6,7 +6,7 @@ use Rattle.trie_find_steps.proofs.Fields.{from-inner, from-leaf}
 use Rattle.trie_find_steps.proofs.from_behind.Statement.{statement}
 use Rattle.trie_find_steps.proofs.from_behind.Tie as tie
 
--- Places that the answers below look back to.
+-- places that the proofs below look back to
 abbrev begin : tie.After-children-at → tie.Start
 begin c = c .before .before .before .before
 

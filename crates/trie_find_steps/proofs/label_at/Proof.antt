@@ -10,7 +10,7 @@ use Rattle.trie_find_laws.specs.Places.{headerAt, labelFrom}
 use Rattle.trie_find_steps.proofs.label_at.Statement.{statement}
 use Rattle.trie_find_steps.proofs.label_at.Tie as tie
 
--- Places that the answers below look back to.
+-- places that the proofs below look back to
 abbrev begin : tie.After-label-part → tie.Start
 begin c = c .before .before .before .before .before .before
 

@@ -10,7 +10,7 @@ use Rattle.trie_find_steps.proofs.Fields.{arrive-same}
 use Rattle.trie_find_steps.proofs.next_sibling.Statement.{statement}
 use Rattle.trie_find_steps.proofs.next_sibling.Tie as tie
 
--- Places that the answers below look back to.
+-- places that the proofs below look back to
 abbrev begin : tie.After-struct-known → tie.Start
 begin c = c .before .before .before .before .before .before .before
 

@@ -1,6 +1,5 @@
 -- `trie_find_steps::score_field` meets its contract: the number behind the header byte, of the size that the header
--- says.
--- No loop, so no invariant. Assumes nothing.
+-- says. No loop, so no invariant. Assumes nothing.
 use Prim.Native.Nat.{_+_}
 use mathlib.Core.Path.{_∙_, ap, sym}
 use native.Mathlib.Omega.{arith}
@@ -11,7 +10,7 @@ use Rattle.trie.proofs.Header.{score-most}
 use Rattle.trie_find_steps.proofs.score_field.Statement.{statement}
 use Rattle.trie_find_steps.proofs.score_field.Tie as tie
 
--- Places that the answers below look back to.
+-- places that the proofs below look back to
 abbrev begin : tie.After-field-at → tie.Start
 begin c = c .before .before .before .before
 

@@ -1,7 +1,6 @@
 -- `trie_find_turns::descend` meets its contract: the way goes down or to the next sibling until the prefix begins the
--- node's
--- path. Invariant: where the way leads from the first node it leads from this one. The bytes ahead of the node fall.
--- Assumes nothing.
+-- node's path. Invariant: where the way leads from the first node it leads from this one. The bytes ahead of the node
+-- fall. Assumes nothing.
 use Prim.Native.Nat.{_-_}
 use mathlib.Core.Path.{_∙_, _≡_, ap, sym}
 use mathlib.Core.Bool.{false}
@@ -21,7 +20,7 @@ Inv-loop trie prefix node₀ node = Heading trie prefix node₀ node
 abbrev μ-loop : tie.MeasureT-loop
 μ-loop trie prefix node₀ node = length trie - node .at
 
--- Places that the answers below look back to.
+-- places that the proofs below look back to
 abbrev begin-of-only : tie.After-only Inv-loop μ-loop → tie.Start Inv-loop μ-loop
 begin-of-only c = c .before .before .before .before .before .before
 

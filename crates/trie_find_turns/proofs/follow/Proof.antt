@@ -1,6 +1,5 @@
 -- `trie_find_turns::follow` meets its contract: each node's next sibling is put among those that wait, until the node
--- is a
--- leaf. Invariant: what a turn gives from the first node it gives from this one. The bytes ahead of the node fall.
+-- is a leaf. Invariant: what a turn gives from the first node it gives from this one. The bytes ahead of the node fall.
 -- Assumes nothing.
 use Prim.Native.Nat.{_-_}
 use mathlib.Core.Path.{_∙_, _≡_, ap, sym}
@@ -22,7 +21,7 @@ Inv-loop trie most node₀ queue₀ node queue = Following trie most node₀ que
 abbrev μ-loop : tie.MeasureT-loop
 μ-loop trie most node₀ queue₀ node queue = length trie - node .at
 
--- Places that the answers below look back to.
+-- places that the proofs below look back to
 abbrev begin : tie.After-put-next Inv-loop μ-loop → tie.Start Inv-loop μ-loop
 begin c = c .before .before .before .before .before
 

@@ -9,7 +9,7 @@ use Rattle.entries.specs.Names.{longestName}
 use Rattle.trie_find_turns.proofs.goes_down.Statement.{statement}
 use Rattle.trie_find_turns.proofs.goes_down.Tie as tie
 
--- Places that the answers below look back to.
+-- places that the proofs below look back to
 abbrev begin : tie.After-path → tie.Start
 begin c = c .before .before .before .before .before
 

@@ -5,7 +5,7 @@ use borrow.Author.Needs.{needs}
 use Rattle.trie_find_turns.proofs.next_on_way.Statement.{statement}
 use Rattle.trie_find_turns.proofs.next_on_way.Tie as tie
 
--- Places that the answers below look back to.
+-- places that the proofs below look back to
 abbrev begin : tie.Then1 → tie.Start
 begin c = c .before .before .before .before
 

@@ -1,6 +1,5 @@
 -- `trie_find_turns::put_next` meets its contract: without a next sibling nothing comes to wait, else it is put in its
--- place.
--- No loop, so no invariant. Assumes nothing.
+-- place. No loop, so no invariant. Assumes nothing.
 use Prim.Native.Nat.{_≤_}
 use Rattle.entries.specs.Names.{longestName}
 use Rattle.trie_find_turns.proofs.Standing.{next-short}
@@ -8,7 +7,7 @@ use Rattle.trie_find_turns.proofs.Turning.{put-kept, put-more}
 use Rattle.trie_find_turns.proofs.put_next.Statement.{statement}
 use Rattle.trie_find_turns.proofs.put_next.Tie as tie
 
--- Places that the answers below look back to.
+-- places that the proofs below look back to
 abbrev begin : tie.After-put → tie.Start
 begin c = c .before .before .before .before
 

@@ -8,7 +8,7 @@ use Rattle.trie_header.proofs.Fields.{number-none, number-one}
 use Rattle.trie_header.proofs.field_at.Statement.{statement}
 use Rattle.trie_header.proofs.field_at.Tie as tie
 
--- Places that the answers below look back to.
+-- places that the proofs below look back to
 abbrev begin : tie.After-shared-slice-known2 → tie.Start
 begin c = c .before .before .before .before
 

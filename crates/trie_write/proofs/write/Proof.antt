@@ -11,7 +11,7 @@ use Rattle.trie_write.proofs.Whole.{answered-same}
 use Rattle.trie_write.proofs.write.Statement.{statement}
 use Rattle.trie_write.proofs.write.Tie as tie
 
--- Places that the answers below look back to.
+-- places that the proofs below look back to
 abbrev after-scores : tie.After-names3 → tie.After-scores
 after-scores c = c .before .before .before .before .before
 

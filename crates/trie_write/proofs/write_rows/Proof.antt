@@ -10,7 +10,7 @@ use Rattle.trie_write.proofs.Whole.{measured, ready, refused, size-is, 
 use Rattle.trie_write.proofs.write_rows.Statement.{statement}
 use Rattle.trie_write.proofs.write_rows.Tie as tie
 
--- Places that the answers below look back to.
+-- places that the proofs below look back to
 abbrev begin : tie.After-slice-known → tie.Start
 begin c = c .before .before .before .before
 

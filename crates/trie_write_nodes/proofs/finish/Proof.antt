@@ -1,6 +1,5 @@
 -- `trie_write_nodes::finish` meets its contract: measured without and with the child field that counts its own bytes,
--- then
--- put. No loop, so no invariant. Assumes nothing.
+-- then put. No loop, so no invariant. Assumes nothing.
 use Prim.Native.Nat.{_+_, _≤_}
 use native.Mathlib.Omega.{arith}
 use borrow.Author.Needs.{needs}
@@ -8,7 +7,7 @@ use Rattle.trie_write_nodes.proofs.Loops.{able-sized, all-fit, finish-n
 use Rattle.trie_write_nodes.proofs.finish.Statement.{statement}
 use Rattle.trie_write_nodes.proofs.finish.Tie as tie
 
--- Places that the answers below look back to.
+-- places that the proofs below look back to
 abbrev after-nodes-size2 : tie.After-slice-known2 → tie.After-nodes-size2
 after-nodes-size2 c = c .before .before .before .before .before
 

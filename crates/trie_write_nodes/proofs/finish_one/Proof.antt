@@ -1,6 +1,5 @@
 -- `trie_write_nodes::finish_one` meets its contract: measured without and with the child field that counts its own
--- bytes,
--- then put. No loop, so no invariant. Assumes nothing.
+-- bytes, then put. No loop, so no invariant. Assumes nothing.
 use Prim.Native.Nat.{_+_, _≤_}
 use mathlib.Core.Path.{refl}
 use native.Mathlib.Omega.{arith}
@@ -9,7 +8,7 @@ use Rattle.trie_write_nodes.proofs.Loops.{alone, finish-alone, finish-n
 use Rattle.trie_write_nodes.proofs.finish_one.Statement.{statement}
 use Rattle.trie_write_nodes.proofs.finish_one.Tie as tie
 
--- Places that the answers below look back to.
+-- places that the proofs below look back to
 abbrev after-node-size2 : tie.After-slice-known2 → tie.After-node-size2
 after-node-size2 c = c .before .before .before .before .before
 

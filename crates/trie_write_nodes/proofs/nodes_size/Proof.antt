@@ -1,6 +1,5 @@
 -- `trie_write_nodes::nodes_size` meets its contract. The loop's invariant: the bytes counted, with the nodes left
--- counted
--- now, are the whole. The measure is the number of nodes left. Assumes nothing.
+-- counted now, are the whole. The measure is the number of nodes left. Assumes nothing.
 use Prim.Native.Nat.{_-_}
 use native.Mathlib.Omega.{arith}
 use borrow.Author.Needs.{needs}

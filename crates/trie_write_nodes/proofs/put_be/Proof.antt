@@ -8,7 +8,7 @@ use Rattle.trie_write_nodes.proofs.Bytes.{be-part}
 use Rattle.trie_write_nodes.proofs.put_be.Statement.{statement}
 use Rattle.trie_write_nodes.proofs.put_be.Tie as tie
 
--- Places that the answers below look back to.
+-- places that the proofs below look back to
 abbrev begin : tie.After-slice-known2 → tie.Start
 begin c = c .before .before .before .before .before .before .before
 

@@ -1,6 +1,5 @@
 -- `trie_write_nodes::put_node` meets its contract: the header, the two fields and the label, one store behind the
--- other.
--- No loop, so no invariant. Assumes nothing.
+-- other. No loop, so no invariant. Assumes nothing.
 use Prim.Native.Nat.{_+_, _≤_}
 use mathlib.Core.Path.{_∙_, ap}
 use lib.ListN.{length, length-set}
@@ -13,7 +12,7 @@ use Rattle.trie_write_nodes.proofs.Bytes.{label-part, node-put}
 use Rattle.trie_write_nodes.proofs.put_node.Statement.{statement}
 use Rattle.trie_write_nodes.proofs.put_node.Tie as tie
 
--- Places that the answers below look back to.
+-- places that the proofs below look back to
 abbrev after-child-field-value : tie.After-put-be-arg → tie.After-child-field-value
 after-child-field-value c = c .before .before .before .before
 

@@ -1,6 +1,5 @@
 -- `trie_write_nodes::put_nodes` meets its contract. The loop's invariant: the bytes put, with the nodes left put now,
--- are the
--- whole. The measure is the number of nodes left. Assumes nothing.
+-- are the whole. The measure is the number of nodes left. Assumes nothing.
 use Prim.Native.Nat.{_-_}
 use mathlib.Core.Path.{refl}
 use native.Mathlib.Omega.{arith}
@@ -17,7 +16,7 @@ Inv-loop names d runs count dst₀ start f₀ at₀ i₀ dst f at i = Putting na
 abbrev μ-loop : tie.MeasureT-loop
 μ-loop names d runs count dst₀ start f₀ at₀ i₀ dst f at i = count - i
 
--- Places that the answers below look back to.
+-- places that the proofs below look back to
 abbrev after-score-at : tie.After-slice-known2 Inv-loop μ-loop → tie.After-score-at Inv-loop μ-loop
 after-score-at c = c .before .before .before .before
 

@@ -1,6 +1,5 @@
 -- `trie_write_runs::next_after` meets its contract: a leaf leaves the child field as it was, another node counts what
--- stands
--- under it. No loop, so no invariant. Assumes nothing.
+-- stands under it. No loop, so no invariant. Assumes nothing.
 use borrow.Author.Needs.{needs}
 use borrow.Author.Tests.{eq-eqb}
 use Rattle.trie_write_runs.specs.Fields.{after}
@@ -8,7 +7,7 @@ use Rattle.trie_write_runs.proofs.Fields.{after-inner}
 use Rattle.trie_write_runs.proofs.next_after.Statement.{statement}
 use Rattle.trie_write_runs.proofs.next_after.Tie as tie
 
--- Places that the answers below look back to.
+-- places that the proofs below look back to
 abbrev begin : tie.After-size-of → tie.Start
 begin c = c .before .before .before .before
 

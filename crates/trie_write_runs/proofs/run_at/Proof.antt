@@ -5,7 +5,7 @@ use Rattle.trie_write_runs.proofs.Runs.{run-is}
 use Rattle.trie_write_runs.proofs.run_at.Statement.{statement}
 use Rattle.trie_write_runs.proofs.run_at.Tie as tie
 
--- Places that the answers below look back to.
+-- places that the proofs below look back to
 abbrev begin : tie.After-shared-slice-known5 → tie.Start
 begin c = c .before .before .before .before .before
 

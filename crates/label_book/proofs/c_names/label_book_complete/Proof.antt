@@ -1,7 +1,6 @@
 -- `label_book_complete` meets its contract: a walk of its MIR, by hand. The destination and the ranges are passed on to
 -- `complete`, its answer and the pointers to the counts to `tell_offered`. All that it knows of the two is that they
--- meet their contracts.
--- Assumes nothing.
+-- meet their contracts. Assumes nothing.
 use mathlib.Core.Path.{_≡_, refl}
 use Prim.Native.Nat.{_<_, _^_, ℕ}
 use mathlib.Core.List.{List, [], _∷_}

@@ -4,7 +4,7 @@ use Rattle.label_book.proofs.Told.{offered-left}
 use Rattle.label_book.proofs.c_names.label_book_complete_trie.Statement.{statement}
 use Rattle.label_book.proofs.c_names.label_book_complete_trie.Tie as tie
 
--- Places that the answers below look back to.
+-- places that the proofs below look back to
 abbrev after-complete-trie : tie.After-tell-offered → tie.After-complete-trie
 after-complete-trie c = c .before .before .before .before .before .before
 
