@@ -1,6 +1,6 @@
 -- The edits of document 01 as splices of a book that was checked: what measuring and writing ask holds of them, and the
 -- entries of the result are those of the edit.
-use Prim.Native.Nat.{_+_, _-_, _<_, _^_, _≤_, ℕ}
+use Prim.Native.Nat.{_+_, _-_, _<_, _≤_, ℕ}
 use mathlib.Core.Path.{_≡_, sym}
 use mathlib.Core.Bool.{Bool, false, true}
 use mathlib.Core.List.{List}
@@ -8,12 +8,12 @@ use lib.Dec.{leb}
 use lib.ListN.{length, length-append, length-drop}
 use lib.Seq.{length-take-le}
 use native.Mathlib.Omega.{arith}
-use borrow.Author.Tests.{lt-leb, lt-ltb}
+use borrow.Author.Tests.{lt-leb}
 use Rattle.entries.proofs.Valid.{score-fits}
 use Rattle.octets.specs.Lists.{if_then_else_}
 use Rattle.octets.proofs.Tests.{by-test}
 use Rattle.entries.specs.Entries.{Entry, entry, holds, maxEntries, position, rising, with, without}
-use Rattle.entries.specs.Names.{isName, isScore}
+use Rattle.entries.specs.Names.{isName}
 use Rattle.entries_laws.specs.Place.{place}
 use Rattle.entries.proofs.Edits.{valid-with, valid-without}
 use Rattle.entries_laws.proofs.Place.{place-most, position-at}
