@@ -8,49 +8,47 @@ ghost use Rattle.entries.specs.Names.{longestName};
 ghost use Rattle.book_laws.specs.Cursor.{cursorOf};
 ghost use Rattle.book_append.specs.Append.{AppendDone, Fits, cursorBehind};
 
-// Passes an entry as the one at a position of n, behind the name prev: puts it, its record at index `at`, or, without
-// `store`, only measures the record. Where the record ends.
-fn pass_entry(
-    dst: &mut [u8],
-    n: usize,
-    index: usize,
-    at: usize,
-    prev: &[u8],
-    name: &[u8],
-    score: u32,
-    store: bool,
-) -> usize
-    requires { ⌜ Fits store n (cursorBehind at index (now prev)) (entry (now name) score ∷ []) (now dst) ⌝ }
-    ensures { λ r. ⌜ AppendDone store n (cursorBehind at index (now (prev .entry)))
-        (entry (now (name .entry)) score ∷ []) (now (dst .entry))
-        (cursorBehind r (index + 1) (now (name .entry))) (now (dst .exit)) ⌝ }
-{
-    if store {
-        return book_write::put_entry(dst, n, index, at, prev, name, score);
-    }
-    at + book_record_write::record_size(index, prev, name)
+// Where an entry is put: as the one at a position of a book of n, its record at index `at`; without `store` it is only
+// measured.
+pub struct Slot {
+    pub n: usize,
+    pub index: usize,
+    pub at: usize,
+    pub store: bool,
 }
 
-// Passes an entry behind the name held, which is the one at the front of held; the entry's own name takes its place.
-// Where the record ends.
+// Passes an entry behind the name prev: puts it, or only measures its record. Where the record ends.
+fn pass_entry(dst: &mut [u8], slot: Slot, prev: &[u8], name: &[u8], score: u32) -> usize
+    requires { ⌜ Fits (slot .store) (slot .n) (cursorBehind (slot .at) (slot .index) (now prev))
+        (entry (now name) score ∷ []) (now dst) ⌝ }
+    ensures { λ r. ⌜ AppendDone (slot .store) (slot .n) (cursorBehind (slot .at) (slot .index) (now (prev .entry)))
+        (entry (now (name .entry)) score ∷ []) (now (dst .entry))
+        (cursorBehind r (slot .index + 1) (now (name .entry))) (now (dst .exit)) ⌝ }
+{
+    if slot.store {
+        return book_write::put_entry(dst, slot.n, slot.index, slot.at, prev, name, score);
+    }
+    slot.at + book_record_write::record_size(slot.index, prev, name)
+}
+
+// Passes an entry behind the name before, the first len bytes of prev; the entry's own name takes its place. Where the
+// record ends.
 pub fn pass_next(
     dst: &mut [u8],
-    n: usize,
-    index: usize,
-    at: usize,
-    held: &mut [u8],
-    kept: usize,
+    slot: Slot,
+    prev: &mut [u8],
+    len: usize,
     name: &[u8],
     score: u32,
-    store: bool,
 ) -> usize
-    requires { ⌜ Fits store n (cursorOf at index (now held) kept) (entry (now name) score ∷ []) (now dst)
-        × (length (now held) ≡ longestName) ⌝ }
-    ensures { λ r. ⌜ AppendDone store n (cursorOf at index (now (held .entry)) kept)
+    requires { ⌜ Fits (slot .store) (slot .n) (cursorOf (slot .at) (slot .index) (now prev) len)
+        (entry (now name) score ∷ []) (now dst)
+        × (length (now prev) ≡ longestName) ⌝ }
+    ensures { λ r. ⌜ AppendDone (slot .store) (slot .n) (cursorOf (slot .at) (slot .index) (now (prev .entry)) len)
         (entry (now (name .entry)) score ∷ []) (now (dst .entry))
-        (cursorOf r (index + 1) (now (held .exit)) (length (now (name .entry)))) (now (dst .exit)) ⌝ }
+        (cursorOf r (slot .index + 1) (now (prev .exit)) (length (now (name .entry)))) (now (dst .exit)) ⌝ }
 {
-    let end = pass_entry(dst, n, index, at, &held[..kept], name, score, store);
-    octets_code::copy(held, 0, name);
+    let end = pass_entry(dst, slot, &prev[..len], name, score);
+    octets_code::copy(prev, 0, name);
     end
 }

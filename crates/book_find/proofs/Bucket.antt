@@ -37,7 +37,7 @@ pub record Reached (es : List Entry) (buf : List ℕ) (first end : ℕ) (c : Cur
   pub from : first ≤ c .index
   pub upto : c .index ≤ end
   pub head : bucketHead first ≡ true
-  pub place : c .at ≡ recordAt es (c .index)
+  pub start : c .at ≡ recordAt es (c .index)
   pub name : first < c .index → nameIn c ≡ at es (c .index - 1) .name
 
 module _ {buf : List ℕ} {es : List Entry} where
@@ -53,7 +53,7 @@ module _ {buf : List ℕ} {es : List Entry} where
         from = omega arith;
         upto = h;
         head = eq-eqb (bucketSize * bucket % bucketSize) 0 (omega arith);
-        place = e;
+        start = e;
         name = λ z. absurd (omega arith);
       }
 
@@ -90,11 +90,11 @@ module _ {buf : List ℕ} {es : List Entry} where
       reach-name : nameIn (step .next) ≡ at es (c .index) .name
       reach-name = step-name es v buf c (w .ahead) low step stepped
 
-      reach-place : step .next .at ≡ recordAt es (suc (c .index))
-      reach-place =
+      reach-at : step .next .at ≡ recordAt es (suc (c .index))
+      reach-at =
           step-at es v buf c (w .ahead) low step stepped
           ∙ rw (
-            w .place,
+            w .start,
             same-record bucketHead (c .index) (nameIn c) (nameBefore es (c .index))
                 (at es (c .index) .name) reach-before,
           )
@@ -109,7 +109,7 @@ module _ {buf : List ℕ} {es : List Entry} where
             from = omega (arith, w .from);
             upto = omega arith;
             head = w .head;
-            place = rw (add-one (c .index)) reach-place;
+            start = rw (add-one (c .index)) reach-at;
             name = λ m. rw z reach-name;
           }
 
@@ -125,7 +125,7 @@ module _ {buf : List ℕ} {es : List Entry} where
       record {
         ahead = w .ahead;
         index = z;
-        place = rw z at (w .place);
+        start = rw z at (w .start);
         name = reach-end w h l ∙ sym (rw (← add-one i) at (last-next es i k));
       }
 

@@ -59,6 +59,6 @@ front-first buf es s c p q z =
     record {
       ahead = ahead-first buf es s c p q z;
       index = q;
-      place = p ∙ sym (add-zero (recordsAt layout21 (length es)));
+      start = p ∙ sym (add-zero (recordsAt layout21 (length es)));
       name = rw z;
     }

@@ -28,9 +28,9 @@ recordAt es i = recordsAt layout21 (length es) + length (records bucketHead 0 []
 abbrev pub nameBefore : List Entry → ℕ → List ℕ
 nameBefore es i = lastOr [] (take i (names es))
 
--- the cursor stands in front of position i, at its place in the image, and holds the name before
+-- the cursor stands in front of position i, where its record begins, and has the name before
 pub record InFront (es : List Entry) (s : List ℕ) (i : ℕ) (c : Cursor) : Type 0 where
   pub ahead : Ahead es s c
   pub index : c .index ≡ i
-  pub place : c .at ≡ recordAt es i
+  pub start : c .at ≡ recordAt es i
   pub name : nameIn c ≡ nameBefore es i

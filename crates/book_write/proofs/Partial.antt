@@ -23,7 +23,7 @@ pub record Partial (es : List Entry) (d₀ : List ℕ) (c : Cursor) (d : List �
   pub sameLength : length d ≡ length d₀
   pub untouched : drop (length (imageIn layout21 es)) d ≡ drop (length (imageIn layout21 es)) d₀
   pub index : c .index ≤ length es
-  pub place : c .at ≡ recordAt es (c .index)
+  pub start : c .at ≡ recordAt es (c .index)
   pub name : nameIn c ≡ nameBefore es (c .index)
   pub small : c .len ≤ longestName
   pub scored : (k : ℕ) → k < c .index → begins (be 4 (at es k .score)) (drop (scorePlace k) d) ≡ true
@@ -43,7 +43,7 @@ partial-start es d c h p q z =
       sameLength = refl;
       untouched = refl;
       index = rw q (omega arith);
-      place = rw q (p ∙ sym (add-zero (recordsAt layout21 (length es))));
+      start = rw q (p ∙ sym (add-zero (recordsAt layout21 (length es))));
       name = rw (q, z);
       small = rw z (omega arith);
       scored = λ k l. absurd (omega arith);

@@ -55,10 +55,10 @@ module _
 
     -- there is room
     pub room : c .at + length record-bytes ≤ length (imageIn layout21 es)
-    room = rw (p .place, p .name) (record-within es i h)
+    room = rw (p .start, p .name) (record-within es i h)
 
     starts : recordsAt layout21 n ≤ c .at
-    starts = let q = p .place in omega arith
+    starts = let q = p .start in omega arith
 
     long₁ : length d₁ ≡ length d
     long₁ = length-sets d (scorePlace i) (be 4 (at es i .score))
@@ -123,7 +123,7 @@ module _
     head-offset k e =
         let hd : bucketHead i ≡ true = eq-eqb (i % bucketSize) 0 (omega arith) in
         let f : i / bucketSize ≡ k = omega arith in
-        rw (e, ← p .place, ← f, hd) (sets-stands d₁ (be 2 (c .at)) slot slot-room)
+        rw (e, ← p .start, ← f, hd) (sets-stands d₁ (be 2 (c .at)) slot slot-room)
 
     record-stands : begins record-bytes (drop (c .at) d₃) ≡ true
     unfolding putEntry
@@ -150,7 +150,7 @@ module _
     unfolding recordsAt
     records-stand′ =
         let s = starts in
-        let q = p .place in
+        let q = p .start in
         let before = records bucketHead 0 [] (take i (names es)) in
         rw (
           records-next es i h,
@@ -188,13 +188,13 @@ module _
         let m = record-next es i h in
         let o : length record-bytes ≡ length (recordOf bucketHead i (lastOr [] (take i (names es))) w) = ap
         (λ u. length (recordOf bucketHead i u w)) (p .name) in
-        let q = p .place in
+        let q = p .start in
         record {
           fits = rw long₃ (p .fits);
           sameLength = long₃ ∙ p .sameLength;
           untouched = past ∙ p .untouched;
           index = rw e h;
-          place = rw e (omega arith);
+          start = rw e (omega arith);
           name = rw e (z ∙ sym (last-next es i h));
           small = l;
           scored = rw e score-stands;

@@ -7,7 +7,7 @@ use Rattle.octets.specs.Lists.{ceil}
 use Rattle.octets.specs.Octets.{be}
 use Rattle.book.specs.Records.{bucketHead, recordOf}
 use Rattle.frame_code.specs.Stored.{putFrame}
-use Rattle.book_record_write.specs.Written.{Wrote}
+use Rattle.book_record_write.specs.Written.{RecordPut}
 use Rattle.book.specs.Book.{blockSize, layout21}
 use Rattle.book_laws.specs.Check.{scorePlace}
 use Rattle.book_write.specs.Calls.{EntryPut}
@@ -16,7 +16,7 @@ use Rattle.book_write.specs.Writing.{finished, putEntry, putOffset, putP
 pub entry-put :
     (d : List ℕ) {d₁ d₂ d₃ : List ℕ} (n i at : ℕ) (prev w : List ℕ) (s : ℕ) {place end : ℕ}
     → place ≡ scorePlace i → d₁ ≡ sets d place (be 4 s)
-    → d₂ ≡ putOffset n i at d₁ → Wrote d₂ d₃ at (recordOf bucketHead i prev w) end → EntryPut d d₃ n i at prev w s end
+    → d₂ ≡ putOffset n i at d₁ → RecordPut d₂ d₃ at (recordOf bucketHead i prev w) end → EntryPut d d₃ n i at prev w s end
 unfolding putEntry
 entry-put d n i at prev w s there scored pointed recorded =
     record { bytes = rw (recorded .bytes, pointed, scored, there); end = recorded .end }

@@ -44,10 +44,10 @@ names-take (suc k) (e ∷ es) = ap (λ l. e .name ∷ l) (names-take k es)
 -- the bytes lie in the book
 module _ {book : List ℕ} {n i at₀ count : ℕ} (a : FrontOf book n i at₀ count) where
   pub front-low : recordsAt layout21 n ≤ at₀
-  front-low = rw (a .place, a .held .count) (omega arith)
+  front-low = rw (a .start, a .held .count) (omega arith)
 
   pub front-inside : at₀ ≤ length book
-  front-inside = omega (arith, a .place, front-within layout21 (inBook book) i, held-stored (a .held) .inside)
+  front-inside = omega (arith, a .start, front-within layout21 (inBook book) i, held-stored (a .held) .inside)
 
   pub scores-inside : scorePlace i ≤ length book
   unfolding recordsAt
@@ -84,8 +84,8 @@ module _ {book : List ℕ} {n i at₀ count : ℕ} (a : FrontOf book n i at₀ c
   moved-record : (m : ℕ) → m ≤ i → movedTo n (length fs) (recordAt es m) ≡ recordAt fs m
   moved-record m g = let c = a .held .count in rw (names-same m g, c) (omega arith)
 
-  pub place-moved : movedTo n (length fs) at₀ ≡ recordAt fs i
-  place-moved = rw (a .place) (moved-record i (omega arith))
+  pub start-moved : movedTo n (length fs) at₀ ≡ recordAt fs i
+  start-moved = rw (a .start) (moved-record i (omega arith))
 
   offset-moved : (j : ℕ) → bucketSize * j < i
       → movedTo n (length fs) (offsetAt book n j) ≡ offset layout21 fs j
@@ -123,7 +123,7 @@ module _ {book : List ℕ} {n i at₀ count : ℕ} (a : FrontOf book n i at₀ c
       ap (records bucketHead 0 []) (sym (take-append-drop i (names es)))
       ∙ records-append bucketHead (take i (names es)) (drop i (names es)) 0 []
       in
-      let z : at₀ - recordsAt layout21 n ≡ length front = rw (a .place, c) (omega arith) in
+      let z : at₀ - recordsAt layout21 n ≡ length front = rw (a .start, c) (omega arith) in
       let b : begins front (drop (recordsAt layout21 (length es)) book) ≡ true = and-true _ _
       (sym (begins-parts front back (drop (recordsAt layout21 (length es)) book))
       ∙ (rw split at (sections .hasRecords))) .0 in
@@ -213,7 +213,7 @@ module _ {book : List ℕ} {n i at₀ count : ℕ} (a : FrontOf book n i at₀ c
           sameLength = length-sets d from new ∙ p .long;
           untouched = sets-behind d new from there (length (imageIn layout21 fs)) within ∙ p .untouched;
           index = rw x inside;
-          place = rw x y;
+          start = rw x y;
           name = rw x z;
           small = s;
           scored = rw x (λ k l. stays d new from there (be 4 (at fs k .score)) (scorePlace k)

@@ -38,7 +38,7 @@ putFront n count i at book d =
 pub record FrontOf (book : List ℕ) (n i at count : ℕ) : Type 0 where
   pub held : Held book n
   pub within : i ≤ n
-  pub place : at ≡ recordAt (inBook book) i
+  pub start : at ≡ recordAt (inBook book) i
   pub few : count ≤ maxEntries
 
 -- a cursor at a record of a book of n entries; r is the cursor there in a book of count entries

@@ -18,7 +18,7 @@ use Rattle.book_laws.proofs.Held.{held-few, held-stored}
 use Rattle.book_laws.proofs.Stored.{front-within}
 use Rattle.book_write.proofs.Partial.{Partial}
 use Rattle.edit_front.specs.Front.{CanMove, FrontOf, Moved, putFront}
-use Rattle.edit_front.proofs.Front.{front-low, front-partial, name-same, names-take, place-moved}
+use Rattle.edit_front.proofs.Front.{front-low, front-partial, name-same, names-take, start-moved}
 use Rattle.book_append.specs.Append.{AppendDone, BookDone, Fits, Went, afterPass}
 use Rattle.edit_splice.specs.Runs.{Reads, RunDone, RunRoom}
 use Rattle.edit_splice.specs.Splice.{Spliced, countAfter, leftOut, putIn, splicedBook}
@@ -80,7 +80,7 @@ module _ {book : List ℕ} {n i : ℕ} {fresh : Bool} {w : List ℕ} {s : ℕ} (
       counted = many ∙ result-count a
 
       pub parts-front : FrontOf book n i (from .at) count
-      parts-front = record { held = a .held; within = parts-in; place = f .place; few = parts-count many }
+      parts-front = record { held = a .held; within = parts-in; start = f .start; few = parts-count many }
 
       pub parts-move : CanMove n count from
       parts-move =
@@ -88,7 +88,7 @@ module _ {book : List ℕ} {n i : ℕ} {fresh : Bool} {w : List ℕ} {s : ℕ} (
             few = parts-few;
             small = parts-count many;
             within = front-low parts-front;
-            near = omega (arith, f .place, front-within layout21 (inBook book) i, held-stored (a .held) .small);
+            near = omega (arith, f .start, front-within layout21 (inBook book) i, held-stored (a .held) .small);
           }
 
       pub out-reads : Reads book from × (from .index + leftOut fresh ≤ length (inBook book))
@@ -99,7 +99,7 @@ module _ {book : List ℕ} {n i : ℕ} {fresh : Bool} {w : List ℕ} {s : ℕ} (
 
       module _ {to : Cursor} (t : Moved n count from to) where
         to-place : to .at ≡ recordAt all-of i
-        to-place = t .at ∙ rw counted (place-moved parts-front all-of front-same)
+        to-place = t .at ∙ rw counted (start-moved parts-front all-of front-same)
 
         to-name : nameIn to ≡ nameBefore all-of i
         to-name = t .name ∙ f .name ∙ sym (name-same parts-front all-of front-same)

@@ -2,6 +2,7 @@
 // One pass does both: those in front of the place are not walked (edit_front), then come the new one, if there is one,
 // and one by one those behind the place or behind the one left out. Scores, offsets and peaks are the result's own.
 // With `fresh` an entry is put in, else one is left out.
+use book_append::Slot;
 use book_laws::Cursor;
 ghost use mathlib.Core.Path.{_≡_};
 ghost use mathlib.Core.Bool.{true};
@@ -33,25 +34,21 @@ fn pass_run(
     let mut name = from.name;
     let mut index = to.index;
     let mut put = to.at;
-    let mut held = to.name;
-    let mut kept = to.len;
+    let mut prev = to.name;
+    let mut prev_len = to.len;
     while i < end {
         let p = book_read::read_name(book, at, i, &mut name);
         at += p.start + p.own;
         let len = p.kept + p.own;
         let score = book_layout::score_at(book, i);
-        put = book_append::pass_next(
-            dst,
-            n,
-            index,
-            put,
-            &mut held,
-            kept,
-            &name[..len],
-            score,
-            store,
-        );
-        kept = len;
+        let slot = Slot {
+            n: n,
+            index: index,
+            at: put,
+            store: store,
+        };
+        put = book_append::pass_next(dst, slot, &mut prev, prev_len, &name[..len], score);
+        prev_len = len;
         i += 1;
         index += 1;
     }
@@ -78,12 +75,19 @@ fn pass_new(
     let at = c.at;
     let index = c.index;
     let len = c.len;
-    let mut held = c.name;
-    let end = book_append::pass_next(dst, n, index, at, &mut held, len, name, score, store);
+    let mut prev = c.name;
+    let slot = Slot {
+        n: n,
+        index: index,
+        at: at,
+        store: store,
+    };
+    let end = book_append::pass_next(dst, slot, &mut prev, len, name, score);
+    let next = index + 1;
     Cursor {
         at: end,
-        index: index + 1,
-        name: held,
+        index: next,
+        name: prev,
         len: name.len(),
     }
 }

@@ -8,6 +8,9 @@ ghost use Prim.Native.Nat.{_≤_};
 ghost use Rattle.program_run.specs.Feed.{FeedRoom};
 ghost use Rattle.program.specs.Console.{keptBytes};
 
+// The bytes that are read at a time.
+const INPUT_ROOM: usize = 65536;
+
 // Between two reads: the bytes kept of the line begun, whether the second buffer holds the book, and whether the input
 // goes on.
 struct State {
@@ -99,7 +102,7 @@ fn main() {
     let mut first = [0u8; BUFFER_LENGTH];
     let mut second = [0u8; BUFFER_LENGTH];
     let mut line = [0u8; KEPT_BYTES];
-    let mut input = [0u8; 65536];
+    let mut input = [0u8; INPUT_ROOM];
     let mut out = [0u8; LINE_ROOM];
     edit_calls::empty(&mut first);
     let s = read_all(&mut input, &mut line, &mut first, &mut second, &mut out);

@@ -1,6 +1,7 @@
 // Merges two books into a third buffer: both are passed side by side, first to measure the entries chosen, then to
 // write them.
 use answer::Written;
+use book_append::Slot;
 use frame_code::Image;
 use limits::LONGEST_NAME;
 use limits::MAX_ENTRIES;
@@ -51,8 +52,8 @@ fn pass(
     let mut a = [0u8; LONGEST_NAME];
     let mut b = [0u8; LONGEST_NAME];
     let mut name = [0u8; LONGEST_NAME];
-    let mut held = [0u8; LONGEST_NAME];
-    let mut kept = 0;
+    let mut prev = [0u8; LONGEST_NAME];
+    let mut prev_len = 0;
     let mut put = at;
     let mut index = 0;
     let mut x = merge_read::first_name(first, n, &mut a);
@@ -61,16 +62,23 @@ fn pass(
         let t = merge_read::next_entry(first, n, x, &mut a, second, m, y, &mut b, &mut name);
         let len = t.len;
         let w = &name[..len];
-        put = book_append::pass_next(dst, count, index, put, &mut held, kept, w, t.score, store);
-        kept = len;
+        let slot = Slot {
+            n: count,
+            index: index,
+            at: put,
+            store: store,
+        };
+        put = book_append::pass_next(dst, slot, &mut prev, prev_len, w, t.score);
+        prev_len = len;
         x = t.first;
         y = t.second;
         index += 1;
     }
+    let next = x.len + y.len;
     MergePass {
         entries: index,
         end: put,
-        more: 0 < x.len + y.len,
+        more: 0 < next,
     }
 }
 

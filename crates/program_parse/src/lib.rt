@@ -6,6 +6,13 @@ ghost use lib.ListN.{drop, length};
 ghost use Rattle.program.specs.Program.{commandOf, digits, isDigit, numbered, valueOn};
 ghost use Rattle.program_parse.specs.Parsing.{Asks, makeOf, numberAs};
 
+// The bytes of a command's word and the space behind it.
+const WORD_LENGTH: usize = 4;
+// The same with the space behind a number.
+const NUMBER_OVERHEAD: usize = WORD_LENGTH + 1;
+// The first number that is no score.
+const SCORES_END: u64 = 4294967296;
+
 // A number at the front of bytes and how many digits it has, or that there is none of the form.
 enum Number {
     Value { value: u32, digits: usize },
@@ -70,7 +77,7 @@ fn number_at_front(s: &[u8]) -> Number
         return Number::Missing;
     }
     let v = value_of(s, n);
-    if 4294967296 <= v {
+    if SCORES_END <= v {
         return Number::Missing;
     }
     if !octets_code::starts_with(&s[n..], b" ") {
@@ -87,10 +94,10 @@ fn numbered(line: &[u8], top: bool) -> ParsedLine
     requires { ⌜ 4 ≤ length (now line) ⌝ }
     ensures { λ r. ⌜ Asks (now (line .entry)) (numbered (makeOf top) (drop 4 (now (line .entry)))) r ⌝ }
 {
-    let Number::Value { value, digits } = number_at_front(&line[4..]) else {
+    let Number::Value { value, digits } = number_at_front(&line[WORD_LENGTH..]) else {
         return ParsedLine::Bad;
     };
-    let rest = digits + 5;
+    let rest = digits + NUMBER_OVERHEAD;
     if top {
         return ParsedLine::Top {
             k: value,
@@ -114,7 +121,7 @@ pub fn parse(line: &[u8]) -> ParsedLine
         return numbered(line, true);
     }
     if octets_code::starts_with(line, b"del ") {
-        return ParsedLine::Withdraw { rest: 4 };
+        return ParsedLine::Withdraw { rest: WORD_LENGTH };
     }
     ParsedLine::Bad
 }

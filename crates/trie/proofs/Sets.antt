@@ -16,8 +16,9 @@ use Rattle.octets.proofs.Lists.{in-append-left, in-append-right, map-in}
 use Rattle.octets.proofs.Order.{begins-self, begins-split, begins-take}
 use Rattle.octets.proofs.Tests.{and-true, by-test, eqb-self}
 use Rattle.entries.specs.Completion.{different}
-use Rattle.entries.specs.Entries.{Entry, at, entry}
+use Rattle.entries.specs.Entries.{Entry, at, entry, rising}
 use Rattle.entries.proofs.Same.{entry-eq}
+use Rattle.entries.proofs.Valid.{rising-left, rising-right}
 use Rattle.trie.specs.Trie.{byFirst, commonPrefix, highest, joinFirst, labelOf, remains, sameFirst, usedUp}
 
 abbrev pub flat : List (List Entry) → List Entry
@@ -37,6 +38,14 @@ pub in-flat : (e : Entry) (s : List Entry) (ss : List (List Entry)) → e ∈ s 
 in-flat e s [] m n = absurd n
 in-flat e s (t ∷ ss) m (inl q) = in-append-left e t (flat ss) (rw q at m)
 in-flat e s (t ∷ ss) m (inr n) = in-append-right e t (flat ss) (in-flat e s ss m n)
+
+rising-part : (s : List Entry) (ss : List (List Entry)) → rising (flat ss) ≡ true → s ∈ ss → rising s ≡ true
+rising-part s [] h m = absurd m
+rising-part s (t ∷ ss) h (inl q) = rw q (rising-left t (flat ss) h)
+rising-part s (t ∷ ss) h (inr m) = rising-part s ss (rising-right t (flat ss) h) m
+
+pub set-rising : (es s : List Entry) → rising es ≡ true → s ∈ byFirst es → rising s ≡ true
+set-rising es s r m = rising-part s (byFirst es) (rw (byFirst-flat es) r) m
 
 different-left : (xs ys : List Entry) → different (xs ++ ys) → different xs
 different-left [] ys d = tt

@@ -430,27 +430,32 @@ set-different es s d m = different-flat s (byFirst es) (rw (byFirst-flat es) d) 
 pub run-some : (s : List Entry) → OneFirst s → 0 < length s
 run-some s (one-first e es k) = omega arith
 
+-- what remains of a set behind its label is shorter
+pub remains-shorter :
+    (d : ℕ) (es s : List Entry) → ((e : Entry) → e ∈ es → length (e .name) < suc d) → different s → s ∈ byFirst es
+    → usedUp (length (labelOf s)) s ≡ false
+    → (e : Entry) → e ∈ remains (length (labelOf s)) s → length (e .name) < d
+remains-shorter d es s short a m u e n =
+    let q = map-in (stripped (length (labelOf s))) e s n in
+    let p = label-progress s (byFirst-run es s m) a u in
+    let b = short (q .0) (set-in es s (q .0) m (q .1)) in
+    let c = ap length (label-split s (q .0) (q .1)) in
+    let f = length-append (labelOf s) (drop (length (labelOf s)) (q .0 .name)) in
+    let g = ap (λ x. length (x .name)) (q .2) in
+    omega arith
+
 pub set-fit : (d : ℕ) (es s : List Entry) → Fit (suc d) es → s ∈ byFirst es → usedUp (length (labelOf s)) s ≡ false
     → Fit d (remains (length (labelOf s)) s)
 set-fit d es s h m u =
     let ds = set-different es s (h .apart) m in
     let r = byFirst-run es s m in
     record {
-      short = λ e n. shorter (map-in (stripped (length (labelOf s))) e s n);
+      short = remains-shorter d es s (h .short) ds m u;
       fits = λ e n. lower (map-in (stripped (length (labelOf s))) e s n);
       apart = different-remains (labelOf s) s (label-split s) ds;
       some = rw length-remains (run-some s r);
     }
   where
-    shorter : {e : Entry} → (x : Entry) × (x ∈ s) × (e ≡ stripped (length (labelOf s)) x) → length (e .name) < d
-    shorter {e} q =
-        let p = label-progress s (byFirst-run es s m) (set-different es s (h .apart) m) u in
-        let a = h .short (q .0) (set-in es s (q .0) m (q .1)) in
-        let b = ap length (label-split s (q .0) (q .1)) in
-        let c = length-append (labelOf s) (drop (length (labelOf s)) (q .0 .name)) in
-        let f = ap (λ x. length (x .name)) (q .2) in
-        omega arith
-
     lower : {e : Entry} → (x : Entry) × (x ∈ s) × (e ≡ stripped (length (labelOf s)) x) → e .score < 2 ^ 32
     lower {e} q = let a = h .fits (q .0) (set-in es s (q .0) m (q .1)) in let f = ap (λ x. x .score) (q .2) in rw f a
 

@@ -12,6 +12,7 @@ use native.Mathlib.Omega.{arith}
 use borrow.Author.Tests.{eq-eqb, eqb-false, eqb-true, ltb-true, ne-eqb}
 use Rattle.octets.proofs.Tests.{by-test}
 use Rattle.octets.specs.Lists.{_∈_, if_then_else_}
+use Rattle.octets.proofs.Lists.{some-in}
 use Rattle.entries.proofs.BestList.{different-rising}
 use Rattle.entries.specs.Entries.{Entry}
 use Rattle.entries.specs.Names.{allowedBytes}
@@ -25,7 +26,7 @@ use Rattle.trie_group_laws.proofs.Groups.{Siblings, first-top, scatter, scatter
 use Rattle.trie_group_laws.proofs.Groups.{scattered-top, set-before}
 use Rattle.trie_group_laws.proofs.Keys.{keysDiffer}
 use Rattle.trie_group_laws.proofs.Made.{Made, Suffixes, inner, leaf, made-facts}
-use Rattle.trie_group_laws.proofs.Sort.{chain}
+use Rattle.trie_group_laws.proofs.Sort.{chain, chain-tail}
 use Rattle.trie_laws.specs.Keys.{key, setBefore, setKey}
 use Rattle.trie_check_laws.proofs.Heads.{fieldsFor, node-behind, node-read, node-within}
 use Rattle.trie_check_laws.proofs.Sound.{isNil, last-nodes}
@@ -497,7 +498,7 @@ module _ (s : List ℕ) (d : ℕ) (kids : KidsT s d) (t : List Entry) (ss : List
         record {
           made = λ u m. run .made u (inr m);
           light = λ u m. run .light u (inr m);
-          order = tail (run .order);
+          order = chain-tail setBefore t ss (run .order);
           differ = run .differ .1;
           fresh = rest-fresh 0 0 0 lf-lab (a .within) lf-empty lf-left lf-child lf-size;
           array = length-set seen (lf-n .key) 1 ∙ run .array;
@@ -516,13 +517,6 @@ module _ (s : List ℕ) (d : ℕ) (kids : KidsT s d) (t : List Entry) (ss : List
               ++ r) mt (run .fits) size-none (omega arith) lf-bytes;
           there = run .there ∙ ap (λ w. w ++ q) lf-under;
         }
-      where
-        tail : chain setBefore (t ∷ ss) → chain setBefore ss
-        tail c = go ss c
-          where
-            go : (us : List (List Entry)) → chain setBefore (t ∷ us) → chain setBefore us
-            go [] y = tt
-            go (u ∷ us) y = y .1
 
     leaf-on : (k : ℕ) → 2 * (length s - p .at) + 2 * (length s - p .next) < k
         → walkOf s k (inNode p seen) ≡ Next (p .next + length (unders (x ∷ xs))) l
@@ -568,11 +562,7 @@ module _ (s : List ℕ) (d : ℕ) (kids : KidsT s d) (t : List Entry) (ss : List
     in-lab = ap length (node-label (groupOf d 0) t)
 
     in-part : (e : Entry) × (e ∈ a .es)
-    in-part = go (a .es) (a .below .some)
-      where
-        go : (es : List Entry) → 0 < length es → (e : Entry) × (e ∈ es)
-        go [] h = absurd (omega arith)
-        go (e ∷ es) h = (e, inl refl)
+    in-part = some-in (a .es) (a .below .some)
 
     in-within : p .path + length (labelOf t) ≤ 48
     in-within = let b = a .below .short (in-part .0) (in-part .1) in omega arith
@@ -646,7 +636,7 @@ module _ (s : List ℕ) (d : ℕ) (kids : KidsT s d) (t : List Entry) (ss : List
         record {
           made = λ v y. run .made v (inr y);
           light = λ v y. run .light v (inr y);
-          order = tail ss (run .order);
+          order = chain-tail setBefore t ss (run .order);
           differ = run .differ .1;
           fresh = rest-fresh (p .back) size 0 in-lab in-within in-empty in-left in-child in-size;
           array = length-set seen (in-n .key) 1 ∙ run .array;
@@ -672,10 +662,6 @@ module _ (s : List ℕ) (d : ℕ) (kids : KidsT s d) (t : List Entry) (ss : List
               ∙ ap (λ w. siblings f′ w (sizeOf w) xs ++ r) in-back;
           there = in-behind;
         }
-      where
-        tail : (us : List (List Entry)) → chain setBefore (t ∷ us) → chain setBefore us
-        tail [] y = tt
-        tail (v ∷ us) y = y .1
 
     in-group : (k : ℕ) → 4 * (length s - p .next) < k
         → walkOf s k (inGroup (p .next) (p .path + in-n .len) (scoreOf p in-n) (eqb (in-n .len) 7) (p .left)) ≡ Next m

@@ -13,6 +13,7 @@ use borrow.Author.Tests.{eqb-false, eqb-true, leb-true, lt-ltb}
 use Rattle.octets.proofs.Numbers.{Bytes}
 use Rattle.octets.proofs.Tests.{and-true, by-test}
 use Rattle.octets.specs.Lists.{_∈_, if_then_else_}
+use Rattle.octets.proofs.Lists.{some-in}
 use Rattle.entries.specs.Entries.{Entry, entry}
 use Rattle.entries.specs.Names.{allowedBytes}
 use Rattle.trie.proofs.Sets.{flat}
@@ -40,7 +41,7 @@ use Rattle.trie_check_laws.specs.declared.Head.{Head}
 use Rattle.trie_check_laws.specs.declared.Among.{Among}
 use Rattle.trie_check_laws.specs.declared.WalkEnd.the-variants.{Bad, Next}
 use Rattle.trie_check_laws.specs.declared.WalkEnd.{WalkEnd}
-use Rattle.trie_laws.proofs.Keys.{label-key}
+use Rattle.trie_laws.proofs.Keys.{key-some, label-key}
 
 abbrev pub isNil : List (List Entry) → Bool
 isNil [] = true
@@ -174,10 +175,6 @@ key-small (x ∷ l) h =
     let b = and-true (leb 0x20 x) (leb x 0x7E) (a .0) in
     let c = leb-true x 0x7E (b .1) in
     omega arith
-
-key-some : (l : List ℕ) → (length l ≡ 0 → ⊥) → 0 < key l
-key-some [] h = absurd (h refl)
-key-some (x ∷ l) h = omega arith
 
 chain-cons : (s : List Entry) (ss : List (List Entry))
     → ((t : List Entry) (ts : List (List Entry)) → ss ≡ t ∷ ts → setBefore s t ≡ true) → chain setBefore ss
@@ -517,10 +514,6 @@ group-step s k at path score e full left q l h n =
 
     suffixes : Suffixes path full (gathered ss)
     suffixes = gather path full ss sets
-
-    some-in : (es : List Entry) → 0 < length es → (x : Entry) × (x ∈ es)
-    some-in [] y = absurd (omega arith)
-    some-in (x ∷ es) y = (x, inl refl)
 
     bytes : (d : ℕ) → 48 < path + d → drop at s ≡ groupOf d (n .f) (gathered ss) ++ drop q s
     bytes zero y = absurd (let i = some-in (gathered ss) (suffixes .some) in let a = suffixes .short (i .0) (i .1) in

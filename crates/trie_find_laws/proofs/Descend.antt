@@ -12,7 +12,7 @@ use borrow.Author.Tests.{eq-eqb, eqb-true}
 use Rattle.octets.specs.Lists.{_∈_, concatMap, keep, sortBy}
 use Rattle.octets.specs.Octets.{begins}
 use Rattle.octets.proofs.Count.{count, count-concat-sort, count-map}
-use Rattle.octets.proofs.Lists.{all-in, append-in, in-append-left, keep-none, sort-in}
+use Rattle.octets.proofs.Lists.{all-in, concat-in, in-append-left, keep-none, sort-in}
 use Rattle.octets.proofs.Tests.{and-true, by-test}
 use Rattle.entries.specs.Completion.{completion, matches}
 use Rattle.entries.specs.Entries.{Entry, entry, valid}
@@ -21,7 +21,7 @@ use Rattle.entries.proofs.BestList.{different-rising}
 use Rattle.entries.proofs.Valid.{name-length, valid-of}
 use Rattle.trie.specs.Reading.{prefixed}
 use Rattle.trie.specs.Trie.{byFirst, highest, labelOf, levels, remains, usedUp}
-use Rattle.trie.proofs.Sets.{byFirst-flat, byFirst-run, flat, label-progress, label-split, used-up}
+use Rattle.trie.proofs.Sets.{byFirst-flat, byFirst-run, flat, label-progress, label-split, set-rising, used-up}
 use Rattle.trie_laws.proofs.Keys.{label-key, run-key}
 use Rattle.trie_find_laws.specs.Search.{Forest, Proper, WaitingForest, inside, none, ownEntries, searchOffers}
 use Rattle.trie_find_laws.specs.Search.{top, tree, wait, waitingEntries}
@@ -31,7 +31,7 @@ use Rattle.trie_find_laws.specs.Descend.{descend, orElse, startFor}
 use Rattle.trie_find_laws.proofs.Planted.{Fine, From, Placed, begins-key, book-offers, inside-cons, kids-none}
 use Rattle.trie_find_laws.proofs.Planted.{kids-some, plant-count, plant-proper, prefixed-append, prefixed-from}
 use Rattle.trie_find_laws.proofs.Planted.{prefixed-more, prefixed-none, remains-planted, set-count, set-fine}
-use Rattle.trie_find_laws.proofs.Planted.{set-rising, sets-placed}
+use Rattle.trie_find_laws.proofs.Planted.{sets-placed}
 use Rattle.trie_laws.specs.Keys.{key, setBefore, setKey}
 
 -- the search from where it starts
@@ -142,15 +142,6 @@ inner-some (tree a b c d) h = refl
 abbrev all : List WaitingForest → List Entry
 all ws = concatMap waitingEntries ws
 
-in-flat : (f : Entry) (ss : List (List Entry)) → f ∈ flat ss → (t : List Entry) × (t ∈ ss) × (f ∈ t)
-in-flat f [] m = absurd m
-in-flat f (s ∷ ss) m = go (append-in f s (flat ss) m) (in-flat f ss)
-  where
-    go : (f ∈ s) ⊎ (f ∈ flat ss) → (f ∈ flat ss → (t : List Entry) × (t ∈ ss) × (f ∈ t)) → (t : List Entry)
-        × (t ∈ (s ∷ ss)) × (f ∈ t)
-    go (inl n) ih = (s, inl refl, n)
-    go (inr n) ih = let r = ih n in (r .0, inr (r .1), r .2)
-
 -- no other set has a match where p goes on with the first byte of this one
 others-none : (p q : List ℕ) (es s : List Entry) (ss : List (List Entry)) → begins p q ≡ false
     → ((t : List Entry) → t ∈ ss → t ∈ byFirst es) → ((t : List Entry) → t ∈ ss → setKey s ≡ setKey t → ⊥)
@@ -161,7 +152,7 @@ others-none p q es s ss n h k e = keep-none (hit p) (prefixed q (flat ss)) (λ x
     no x f =
         by-test (hit p x)
         (λ t.
-        let r = in-flat (f .of) ss (f .in-set) in
+        let r = concat-in (λ s. s) (f .of) ss (f .in-set) in
         let g : begins p (q ++ f .of .name) ≡ true = rw (ap (λ y. y .name) (f .eq)) at t in
         absurd (k (r .0) (r .1) (sym e ∙ next-key p q (f .of .name) n g
         ∙ run-key (r .0) (byFirst-run es (r .0) (h (r .0) (r .1))) (f .of) (r .2))))

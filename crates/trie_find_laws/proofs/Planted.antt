@@ -7,7 +7,7 @@ use mathlib.Core.List.{List, [], _++_, _∷_, append-assoc, map}
 use native.Mathlib.Nat.{not-suc-le-zero}
 use native.Mathlib.Omega.{arith}
 use lib.Dec.{eqb}
-use lib.ListN.{drop, length, length-append, take}
+use lib.ListN.{drop, length, take}
 use borrow.Author.Tests.{eqb-true, le-ltb}
 use lib.Seq.{drop-append-seam}
 use Rattle.octets.specs.Lists.{_∈_, insertBy, sortBy}
@@ -22,12 +22,12 @@ use Rattle.entries.specs.Names.{isName}
 use Rattle.entries.proofs.BestList.{different-rising, outranks-false}
 use Rattle.entries.proofs.Rank.{not-outranks-trans, rank-sorted}
 use Rattle.entries.proofs.Same.{counted, in-counted, sameEntry}
-use Rattle.entries.proofs.Valid.{name-length, rising-tail, valid-of}
+use Rattle.entries.proofs.Valid.{name-length, valid-of}
 use Rattle.trie.specs.Reading.{prefixed}
 use Rattle.trie.specs.Trie.{byFirst, highest, labelOf, levels, remains, usedUp}
-use Rattle.trie.proofs.Sets.{OneFirst, byFirst-flat, byFirst-run, flat, highest-remains, label-progress, label-split}
-use Rattle.trie.proofs.Sets.{one-first, stripped, used-up}
-use Rattle.trie.proofs.Trie.{highest-append, highest-flat, highest-sort, set-in}
+use Rattle.trie.proofs.Sets.{OneFirst, byFirst-flat, byFirst-run, highest-remains, label-progress, label-split}
+use Rattle.trie.proofs.Sets.{flat, one-first, set-rising, stripped, used-up}
+use Rattle.trie.proofs.Trie.{highest-append, highest-flat, highest-sort, remains-shorter}
 use Rattle.trie_laws.proofs.Keys.{Ordered, byFirst-ordered, label-key, run-key}
 use Rattle.trie_find_laws.proofs.Search.{forest-offers, rank-same}
 use Rattle.trie_find_laws.specs.Search.{Clear, Forest, Proper, WaitingForest, frontWaits, inside, known, none}
@@ -40,21 +40,6 @@ use Rattle.trie_laws.specs.Keys.{key, nodeEntry, setBefore, setKey}
 pub record Fine (d : ℕ) (es : List Entry) : Type 0 where
   pub short : (e : Entry) → e ∈ es → length (e .name) < d
   pub rises : rising es ≡ true
-
-rising-left : (xs ys : List Entry) → rising (xs ++ ys) ≡ true → rising xs ≡ true
-rising-left [] ys h = refl
-rising-left (x ∷ []) ys h = refl
-rising-left (x ∷ y ∷ xs) ys h = let a = and-true (below (x .name) (y .name)) (rising (y ∷ xs ++ ys)) h in
-    and-intro (below (x .name) (y .name)) (rising (y ∷ xs)) (a .0) (rising-left (y ∷ xs) ys (a .1))
-
-rising-right : (xs ys : List Entry) → rising (xs ++ ys) ≡ true → rising ys ≡ true
-rising-right [] ys h = h
-rising-right (x ∷ xs) ys h = rising-right xs ys (rising-tail x (xs ++ ys) h)
-
-rising-flat : (s : List Entry) (ss : List (List Entry)) → rising (flat ss) ≡ true → s ∈ ss → rising s ≡ true
-rising-flat s [] h m = absurd m
-rising-flat s (t ∷ ss) h (inl q) = rw q (rising-left t (flat ss) h)
-rising-flat s (t ∷ ss) h (inr m) = rising-flat s ss (rising-right t (flat ss) h) m
 
 rising-remains : (l : List ℕ) (s : List Entry) → ((e : Entry) → e ∈ s → e .name ≡ l ++ drop (length l) (e .name))
     → rising s ≡ true → rising (remains (length l) s) ≡ true
@@ -69,25 +54,14 @@ rising-remains l (x ∷ y ∷ s) h r =
     ∙ a .0)
     (rising-remains l (y ∷ s) (λ e m. h e (inr m)) (a .1))
 
-pub set-rising : (es s : List Entry) → rising es ≡ true → s ∈ byFirst es → rising s ≡ true
-set-rising es s r m = rising-flat s (byFirst es) (rw (byFirst-flat es) r) m
-
 pub set-fine : (d : ℕ) (es s : List Entry) → Fine (suc d) es → s ∈ byFirst es → usedUp (length (labelOf s)) s ≡ false
     → Fine d (remains (length (labelOf s)) s)
 set-fine d es s z m u =
+    let r = set-rising es s (z .rises) m in
     record {
-      short = λ e n. shorter e (map-in (stripped (length (labelOf s))) e s n);
-      rises = rising-remains (labelOf s) s (label-split s) (set-rising es s (z .rises) m);
+      short = remains-shorter d es s (z .short) (different-rising s r) m u;
+      rises = rising-remains (labelOf s) s (label-split s) r;
     }
-  where
-    shorter : (e : Entry) → (x : Entry) × (x ∈ s) × (e ≡ stripped (length (labelOf s)) x) → length (e .name) < d
-    shorter e q =
-        let p = label-progress s (byFirst-run es s m) (different-rising s (set-rising es s (z .rises) m)) u in
-        let a = z .short (q .0) (set-in es s (q .0) m (q .1)) in
-        let b = ap length (label-split s (q .0) (q .1)) in
-        let c = length-append (labelOf s) (drop (length (labelOf s)) (q .0 .name)) in
-        let f = ap (λ x. length (x .name)) (q .2) in
-        omega arith
 
 -- what a forest holds
 pub inside-cons : (p l : List ℕ) (s : ℕ) (kids next : Forest) → inside p (tree l s kids next) ≡ ownEntries p l s kids

@@ -12,7 +12,7 @@ use Rattle.entries.proofs.BestList.{outranks-false}
 use Rattle.octets.specs.Lists.{_∈_, concatMap, insertBy}
 use Rattle.octets.specs.Octets.{begins, below}
 use Rattle.octets.proofs.Count.{count, count-append, count-concat-insert, count-sort}
-use Rattle.octets.proofs.Lists.{append-in, drop-in, in-append-left, in-append-right, insert-in, take-in}
+use Rattle.octets.proofs.Lists.{append-in, concat-in, drop-in, in-append-left, in-append-right, insert-in, take-in}
 use Rattle.octets.proofs.Order.{begins-append, begins-split}
 use Rattle.octets.proofs.Sorted.{sorted}
 use Rattle.octets.proofs.Tests.{and-true, by-test, eqb-self}
@@ -153,17 +153,6 @@ flip (wait p l s k n) (wait p′ l′ s′ k′ n′) z = record {
   far = λ e g m o q. z .far g e o m (sym q);
 }
 
-in-flat : (e : Entry) (ws : List WaitingForest) → e ∈ allWaiting ws → (v : WaitingForest) × (v ∈ ws)
-    × (e ∈ waitingEntries v)
-in-flat e [] m = absurd m
-in-flat e (w ∷ ws) m = go (append-in e (waitingEntries w) (allWaiting ws) m) (in-flat e ws)
-  where
-    go : (e ∈ waitingEntries w) ⊎ (e ∈ allWaiting ws)
-        → (e ∈ allWaiting ws → (v : WaitingForest) × (v ∈ ws) × (e ∈ waitingEntries v)) → (v : WaitingForest)
-        × (v ∈ (w ∷ ws)) × (e ∈ waitingEntries v)
-    go (inl a) ih = (w, inl refl, a)
-    go (inr a) ih = let r = ih a in (r .0, inr (r .1), r .2)
-
 known-best : (v : WaitingForest) → Right v → (e : Entry) → e ∈ waitingEntries v → outranks e (known v) ≡ false
 known-best (wait p l s k n) r e m = r .0 e m
 
@@ -179,7 +168,7 @@ best-leads (wait p l s k n) v r rv z o e m = stronger p l s k n r e (not-outrank
 
 leads : (w : WaitingForest) (ws : List WaitingForest) → AllWait (w ∷ ws) → (e : Entry) → e ∈ allWaiting ws
     → outranks e (bestUnder w) ≡ false
-leads w ws k e m = let r = in-flat e ws m in
+leads w ws k e m = let r = concat-in waitingEntries e ws m in
     best-leads w (r .0) (k .0) (right-of ws (k .3) (r .0) (r .1)) (k .1 (r .0) (r .1)) (k .2 (r .0) (r .1)) e (r .2)
 
 kept-insert : (x : WaitingForest) (ws : List WaitingForest) → AllWait ws → Right x
@@ -246,7 +235,7 @@ enough : (k : ℕ) (ws : List WaitingForest) → AllWait ws → (y : Entry) → 
 enough zero ws z y m = omega arith
 enough (suc k) [] z y m = absurd m
 enough (suc k) (w ∷ ws) z y m =
-    let r = in-flat y (drop k ws) m in
+    let r = concat-in waitingEntries y (drop k ws) m in
     let n = drop-in k (r .0) ws (r .1) in
     let a = above w (r .0) (z .0) (right-of ws (z .3) (r .0) n) (z .1 (r .0) n) (z .2 (r .0) n) y (r .2) in
     let b = count-some (λ e. outranks e y) (bestUnder w) (waitingEntries w) (best-in w) a in

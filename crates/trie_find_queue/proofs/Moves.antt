@@ -147,7 +147,7 @@ module _ (q : NodeQueue) (i : ℕ) (x : WaitingNode) (nodes : List WaitingNode) 
       let a = length-append (take (q .count) nodes) (carry ∷ []) in
       let b = length-take-le (q .count) nodes (omega arith) in
       record {
-        held = rw (add-one (q .count), take-suc-set nodes (q .count) carry (omega arith)) (w
+        waiting = rw (add-one (q .count), take-suc-set nodes (q .count) carry (omega arith)) (w
             ∙ sym (take-all most (putAt i x (waits q)) (omega arith)));
         few = omega arith;
       }
@@ -158,7 +158,7 @@ module _ (q : NodeQueue) (i : ℕ) (x : WaitingNode) (nodes : List WaitingNode) 
       let l = v .long in
       let b : most ≤ length (take most nodes) = omega (arith, length-take most nodes) in
       record {
-        held =
+        waiting =
             ap (λ n. take n nodes) k
             ∙ sym (take-append-le most (take most nodes) (carry ∷ []) b ∙ take-take most most nodes (omega arith))
             ∙ ap (take most) (ap (λ n. take n nodes ++ (carry ∷ [])) (sym k) ∙ whole h);

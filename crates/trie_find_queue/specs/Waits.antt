@@ -54,5 +54,5 @@ putInRank x ws = insertBy nodeOutranks x ws
 
 -- a queue of the first `most` of a list
 pub record Queued (most : ℕ) (ws : List WaitingNode) (q : NodeQueue) : Type 0 where
-  pub held : waits q ≡ take most ws
+  pub waiting : waits q ≡ take most ws
   pub few : q .count ≤ most

@@ -105,7 +105,7 @@ put-all :
     → Queued most (withNext bs x (waits q)) r
     → StandAll bs (waits r) (take most (search.putAllInRank (frontWaits (d .p) (d .next)) (d .ws)))
 put-all bs most x q r t d u =
-    rw (u .held)
+    rw (u .waiting)
     (all-take bs most (withNext bs x (waits q)) (search.putAllInRank (frontWaits (d .p) (d .next)) (d .ws))
     (all-next bs x (d .p) (d .l) (d .s) (d .kids) (d .next) (d .is) (waits q) (d .ws) (d .all)))
 
@@ -196,7 +196,7 @@ pub put-kept : (bs : List ℕ) (most : ℕ) (x : WaitingNode) (q : NodeQueue) �
     → Queued most (withNext bs x (waits q)) q
 put-kept bs most x q h t =
     let a = length-take (q .count) (q .nodes) in
-    rw t (record { held = sym (take-all most (waits q) (omega arith)); few = h })
+    rw t (record { waiting = sym (take-all most (waits q) (omega arith)); few = h })
 
 pub put-more : (bs : List ℕ) (most : ℕ) (x y : WaitingNode) (q r : NodeQueue) → x .last ≡ false → y ≡ nextSibling bs x
     → Queued most (putInRank y (waits q)) r → Queued most (withNext bs x (waits q)) r

@@ -8,23 +8,23 @@ use lib.Dec.{eqb, ltb}
 use lib.ListN.{length, length-append, take}
 use native.Mathlib.Omega.{arith}
 use borrow.Author.Tests.{eqb-false, eqb-true, ltb-true}
-use Rattle.octets.proofs.Lists.{in-sort, sort-in, sort-length, sort-map}
+use Rattle.octets.proofs.Lists.{concat-in, in-sort, sort-in, sort-length, sort-map}
 use Rattle.octets.proofs.Order.{begins-split}
 use Rattle.octets.proofs.Tests.{by-test}
 use Rattle.octets.specs.Lists.{_∈_, if_then_else_, insertBy, sortBy}
 use Rattle.octets.specs.Octets.{begins, below}
 use Rattle.entries.proofs.Rank.{not-outranks-trans, outranks-asym, outranks-total}
 use Rattle.entries.specs.Entries.{Entry, entry, rising}
-use Rattle.trie.proofs.Sets.{OneFirst, byFirst-flat, byFirst-run, commonPrefix-begins, flat, in-flat}
+use Rattle.trie.proofs.Sets.{OneFirst, byFirst-flat, byFirst-run, commonPrefix-begins, flat, in-flat, set-rising}
 use Rattle.trie.proofs.Trie.{byFirst-some, highest-append, highest-sort}
 use Rattle.trie.specs.Reading.{prefixed}
 use Rattle.trie.specs.Trie.{byFirst, commonPrefix, highest, labelOf, nodeOf, standsBefore, usedUp}
-use Rattle.trie_group_laws.proofs.Keys.{below-ltb, byFirst-of, byKey, differ-sort, flat-in, keysDiffer}
-use Rattle.trie_group_laws.proofs.Keys.{rising-flat, rising-part, run-in, sort-up, up-differ}
+use Rattle.trie_group_laws.proofs.Keys.{below-ltb, byFirst-of, byKey, differ-sort, keysDiffer}
+use Rattle.trie_group_laws.proofs.Keys.{rising-flat, run-in, sort-up, up-differ}
 use Rattle.trie_group_laws.proofs.Made.{Facts, Made, Suffixes, inner, leaf, made-facts, plain-made}
 use Rattle.trie_group_laws.proofs.Sort.{Order, allParted, chain, parted, sort-chain, sort-fixed, sort-sort}
 use Rattle.trie_laws.specs.Keys.{key, setBefore, setKey}
-use Rattle.trie_laws.proofs.Keys.{byFirst-ordered, label-key, run-key}
+use Rattle.trie_laws.proofs.Keys.{byFirst-ordered, key-some, label-key, run-key}
 
 set-order : Order setBefore
 set-order =
@@ -160,7 +160,7 @@ module _ (path : ℕ) (full : Bool) (ss : List (List Entry)) (h : Siblings path 
   siblings-up s m = facts s m .up
 
   whence : (e : Entry) → e ∈ gathered ss → (s : List Entry) × (s ∈ ss) × (e ∈ s)
-  whence e m = let q = flat-in e (sortBy byKey ss) m in (q .0, sort-in byKey (q .0) ss (q .1), q .2)
+  whence e m = let q = concat-in (λ s. s) e (sortBy byKey ss) m in (q .0, sort-in byKey (q .0) ss (q .1), q .2)
 
   whither : (s : List Entry) → s ∈ ss → (e : Entry) → e ∈ s → e ∈ gathered ss
   whither s m e n = in-flat e s (sortBy byKey ss) n (in-sort byKey s ss m)
@@ -224,11 +224,7 @@ abbrev pub scattered : List Entry → List (List Entry)
 scattered es = sortBy setBefore (byFirst es)
 
 made-key : {path : ℕ} {l : List ℕ} {v : ℕ} {s : List Entry} → Made path l v s → usedUp 0 s ≡ false → 0 < setKey s
-made-key (leaf {l} {v} h) u = go l (eqb-false (length l) 0 u)
-  where
-    go : (w : List ℕ) → (length w ≡ 0 → ⊥) → 0 < key w
-    go [] z = absurd (z refl)
-    go (x ∷ w) z = omega arith
+made-key (leaf {l} {v} h) u = key-some l (eqb-false (length l) 0 u)
 made-key {path} (inner {l} {es} h) u = go l es (h .some) (h .below .some)
   where
     go : (w : List ℕ) (fs : List Entry) → 0 < length w → 0 < length fs → 0 < setKey (prefixed w fs)
@@ -250,7 +246,7 @@ module _ (path : ℕ) (full : Bool) (es : List Entry) (h : Suffixes path full es
   set-of s m e n = rw (byFirst-flat es) at (in-flat e s (byFirst es) n m)
 
   set-up : (s : List Entry) → s ∈ byFirst es → rising s ≡ true
-  set-up s m = rising-part s (byFirst es) (ap rising (byFirst-flat es) ∙ h .up) m
+  set-up s m = set-rising es s (h .up) m
 
   set-made : (s : List Entry) → s ∈ byFirst es → Made path (labelOf s) (highest s) s
   set-made s m =

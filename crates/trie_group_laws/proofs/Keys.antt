@@ -8,7 +8,7 @@ use lib.Dec.{eqb, ltb}
 use lib.ListN.{length}
 use native.Mathlib.Omega.{arith}
 use borrow.Author.Tests.{eq-eqb, eqb-false, eqb-true, le-ltb, lt-ltb, ltb-false, ltb-true}
-use Rattle.octets.proofs.Lists.{all-append, all-in, all-of, append-in, in-append-left, insert-in, sort-in}
+use Rattle.octets.proofs.Lists.{all-append, all-of, concat-in, insert-in, sort-in}
 use Rattle.octets.proofs.Order.{below-cases}
 use Rattle.octets.proofs.Tests.{by-test}
 use Rattle.octets.specs.Lists.{_∈_, insertBy, sortBy}
@@ -154,38 +154,12 @@ rising-append (x ∷ xs) ys h k c =
     (all-of (λ f. below (x .name) (f .name)) ys (λ f m. c x f (inl refl) m)))
     (rising-append xs ys (rising-tail x xs h) k (λ e f m n. c e f (inr m) n))
 
-rising-right : (xs ys : List Entry) → rising (xs ++ ys) ≡ true → rising ys ≡ true
-rising-right [] ys h = h
-rising-right (x ∷ xs) ys h = rising-right xs ys (rising-tail x (xs ++ ys) h)
-
-rising-left : (xs ys : List Entry) → rising (xs ++ ys) ≡ true → rising xs ≡ true
-rising-left [] ys h = refl
-rising-left (x ∷ xs) ys h =
-    rising-cons x xs
-    (all-of (λ f. below (x .name) (f .name)) xs (λ f m. all-in (λ f. below (x .name) (f .name)) f (xs
-    ++ ys) (rising-head x (xs ++ ys) h) (in-append-left f xs ys m)))
-    (rising-left xs ys (rising-tail x (xs ++ ys) h))
-
-pub rising-part : (s : List Entry) (ss : List (List Entry)) → rising (flat ss) ≡ true → s ∈ ss → rising s ≡ true
-rising-part s [] h m = absurd m
-rising-part s (t ∷ ss) h (inl q) = rw q (rising-left t (flat ss) h)
-rising-part s (t ∷ ss) h (inr m) = rising-part s ss (rising-right t (flat ss) h) m
-
-pub flat-in : (e : Entry) (ss : List (List Entry)) → e ∈ flat ss → (s : List Entry) × (s ∈ ss) × (e ∈ s)
-flat-in e [] m = absurd m
-flat-in e (s ∷ ss) m = go (append-in e s (flat ss) m) (flat-in e ss)
-  where
-    go : (e ∈ s) ⊎ (e ∈ flat ss) → (e ∈ flat ss → (u : List Entry) × (u ∈ ss) × (e ∈ u)) → (u : List Entry)
-        × (u ∈ (s ∷ ss)) × (e ∈ u)
-    go (inl a) ih = (s, inl refl, a)
-    go (inr b) ih = let r = ih b in (r .0, inr (r .1), r .2)
-
 pub rising-flat : (ss : List (List Entry)) → ((s : List Entry) → s ∈ ss → OneFirst s)
     → ((s : List Entry) → s ∈ ss → rising s ≡ true) → Ordered ss → rising (flat ss) ≡ true
 rising-flat [] r h u = refl
 rising-flat (s ∷ ss) r h u =
     rising-append s (flat ss) (h s (inl refl)) (rising-flat ss (λ t m. r t (inr m)) (λ t m. h t (inr m)) (u .1))
-    (λ e f m n. before e f m (flat-in f ss n))
+    (λ e f m n. before e f m (concat-in (λ s. s) f ss n))
   where
     before : (e f : Entry) → e ∈ s → (t : List Entry) × (t ∈ ss) × (f ∈ t) → below (e .name) (f .name) ≡ true
     before e f m q =

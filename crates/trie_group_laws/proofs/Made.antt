@@ -21,6 +21,7 @@ use Rattle.trie.proofs.Sets.{one-first, used-up}
 use Rattle.trie.specs.Reading.{prefixed}
 use Rattle.trie.specs.Trie.{commonPrefix, highest, labelOf, remains, sameFirst, usedUp}
 use Rattle.trie_group_laws.proofs.Keys.{run-in}
+use Rattle.trie.proofs.Trie.{run-some}
 use Rattle.octets.proofs.Order.{below-append}
 
 common-more : (l p w : List ℕ) → common (l ++ p) (l ++ w) ≡ length l + common p w
@@ -250,10 +251,7 @@ plain-made path s h =
         }
 
     some : 0 < length es
-    some = rw length-remains (go s (h .run))
-      where
-        go : (u : List Entry) → OneFirst u → 0 < length u
-        go u (one-first e us k) = omega arith
+    some = rw length-remains (run-some s (h .run))
 
     back : (e : Entry) → e ∈ es → entry (labelOf s ++ e .name) (e .score) ∈ s
     back e m = in-eq (entry (labelOf s

@@ -19,6 +19,10 @@ module _ {A : Type 0} (r : A → A → Bool) where
   chain (x ∷ []) = Unit {0}
   chain (x ∷ y ∷ ys) = (r x y ≡ true) × chain (y ∷ ys)
 
+  pub chain-tail : (x : A) (xs : List A) → chain (x ∷ xs) → chain xs
+  chain-tail x [] c = tt
+  chain-tail x (y ∷ ys) c = c .1
+
   -- one of two stands before the other
   abbrev pub parted : A → A → Type 0
   parted x y = (r x y ≡ true) ⊎ (r y x ≡ true)
@@ -79,14 +83,10 @@ module _ {A : Type 0} {r : A → A → Bool} (o : Order r) where
   chain-after y x [] h c k = (h, k)
   chain-after y x (z ∷ zs) h c k = by-test (r z x) (λ t. rw t (c .0, rw t at k)) (λ t. rw t (h, rw t at k))
 
-  chain-tail : (x : A) (xs : List A) → chain r (x ∷ xs) → chain r xs
-  chain-tail x [] c = tt
-  chain-tail x (y ∷ ys) c = c .1
-
   chain-insert : (x : A) (ys : List A) → ((y : A) → y ∈ ys → parted r x y) → chain r ys → chain r (insertBy r x ys)
   chain-insert x [] p c = tt
   chain-insert x (y ∷ ys) p c =
-      let ih = chain-insert x ys (λ z m. p z (inr m)) (chain-tail y ys c) in
+      let ih = chain-insert x ys (λ z m. p z (inr m)) (chain-tail r y ys c) in
       by-test (r y x)
       (λ t. rw t (chain-after y x ys t c ih))
       (λ t. rw t (parted-flip y x (flip (p y (inl refl))) .1 t, c))

@@ -8,6 +8,18 @@ ghost use Rattle.octets.specs.Octets.{numberAt};
 ghost use Rattle.trie.specs.Reading.{childSize, labelLength, lastMark, scoreSize, sizeAt};
 ghost use Rattle.trie.specs.Trie.{codeOf, headerByte, ownSize, sizeOf};
 
+// Where the fields stand in a header byte: the score size in bits 7 and 6, the child size in 5 and 4, the last-sibling
+// mark in bit 3, the label length below.
+const SCORE_SHIFT: u8 = 6;
+
+const CHILD_SHIFT: u8 = 4;
+
+const MARK_SHIFT: u8 = 3;
+
+const SIZE_MASK: u8 = 3;
+
+const LABEL_MASK: u8 = 7;
+
 // The smallest size that holds a value.
 pub fn size_of(v: usize) -> usize
     ensures { λ r. ⌜ r ≡ sizeOf v ⌝ }
@@ -66,7 +78,7 @@ pub fn header(score: usize, child: usize, last: bool, label: usize) -> u8
     let high = code_of(score);
     let low = code_of(child);
     let mark = mark_of(last);
-    (high << 6) | ((low << 4) | (mark | label as u8))
+    (high << SCORE_SHIFT) | ((low << CHILD_SHIFT) | (mark | label as u8))
 }
 
 // Size codes 0, 1, 2, 3 mean 0, 1, 2, 4 bytes.
@@ -83,28 +95,28 @@ fn size_at(code: u8) -> usize
 pub fn score_size(h: u8) -> usize
     ensures { λ r. ⌜ r ≡ scoreSize h ⌝ }
 {
-    size_at(h >> 6)
+    size_at(h >> SCORE_SHIFT)
 }
 
 // The child size in bits 5 and 4.
 pub fn child_size(h: u8) -> usize
     ensures { λ r. ⌜ r ≡ childSize h ⌝ }
 {
-    size_at((h >> 4) & 3)
+    size_at((h >> CHILD_SHIFT) & SIZE_MASK)
 }
 
 // The last-sibling mark in bit 3.
 pub fn last_mark(h: u8) -> bool
     ensures { λ r. ⌜ r ≡ lastMark h ⌝ }
 {
-    (h >> 3) & 1 == 1
+    (h >> MARK_SHIFT) & 1 == 1
 }
 
 // The label length in bits 2 to 0.
 pub fn label_length(h: u8) -> usize
     ensures { λ r. ⌜ r ≡ labelLength h ⌝ }
 {
-    (h & 7) as usize
+    (h & LABEL_MASK) as usize
 }
 
 // The number in a field of 0, 1, 2 or 4 bytes.

@@ -5,7 +5,7 @@ use mathlib.Core.Logic.{_⊎_, inl, inr}
 use mathlib.Core.Bool.{false, false≢true, true}
 use mathlib.Core.List.{List, [], _∷_}
 use lib.Dec.{eqb}
-use lib.ListN.{take}
+use lib.ListN.{length, take}
 use native.Mathlib.Omega.{arith}
 use borrow.Author.Tests.{eqb-false, eqb-true}
 use Rattle.octets.specs.Lists.{_∈_}
@@ -61,6 +61,10 @@ key-below [] [] h = absurd (omega arith)
 key-below [] (y ∷ v) h = refl
 key-below (x ∷ u) [] h = absurd (omega arith)
 key-below (x ∷ u) (y ∷ v) h = below-less x y u v (omega arith)
+
+pub key-some : (l : List ℕ) → (length l ≡ 0 → ⊥) → 0 < key l
+key-some [] h = absurd (h refl)
+key-some (x ∷ l) h = omega arith
 
 below-key : (u v : List ℕ) → below u v ≡ true → sameFirst u v ≡ false → key u < key v
 below-key u [] h k = absurd (false≢true h)

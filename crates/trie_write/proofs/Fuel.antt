@@ -4,16 +4,15 @@ use mathlib.Core.Path.{_≡_, ap, refl}
 use mathlib.Core.Logic.{inl, inr}
 use mathlib.Core.Bool.{Bool, false, true}
 use mathlib.Core.List.{List, [], _∷_, map}
-use lib.ListN.{drop, length, length-append}
+use lib.ListN.{length}
 use native.Mathlib.Nat.{not-suc-le-zero}
 use native.Mathlib.Omega.{arith}
 use Rattle.octets.specs.Lists.{_∈_, sortBy}
-use Rattle.octets.proofs.Lists.{map-in}
 use Rattle.entries.specs.Completion.{different}
 use Rattle.entries.specs.Entries.{Entry}
 use Rattle.trie.specs.Trie.{Node, byFirst, groupBytes, groupOf, highest, labelOf, nodeOf, remains, standsBefore, usedUp}
-use Rattle.trie.proofs.Sets.{byFirst-run, different-remains, label-progress, label-split, length-remains, stripped}
-use Rattle.trie.proofs.Trie.{run-some, set-different, set-in}
+use Rattle.trie.proofs.Sets.{byFirst-run, different-remains, label-split, length-remains}
+use Rattle.trie.proofs.Trie.{remains-shorter, run-some, set-different}
 
 -- what a set must have so that d levels are enough
 pub record Enough (d : ℕ) (es : List Entry) : Type 0 where
@@ -26,19 +25,11 @@ enough-more d k es h z = record { short = λ e m. let a = z .short e m in omega 
 pub set-enough : (d : ℕ) (es s : List Entry) → Enough (suc d) es → s ∈ byFirst es
     → usedUp (length (labelOf s)) s ≡ false → Enough d (remains (length (labelOf s)) s)
 set-enough d es s h m u =
+    let ds = set-different es s (h .apart) m in
     record {
-      short = λ e n. shorter (map-in (stripped (length (labelOf s))) e s n);
-      apart = different-remains (labelOf s) s (label-split s) (set-different es s (h .apart) m);
+      short = remains-shorter d es s (h .short) ds m u;
+      apart = different-remains (labelOf s) s (label-split s) ds;
     }
-  where
-    shorter : {e : Entry} → (x : Entry) × (x ∈ s) × (e ≡ stripped (length (labelOf s)) x) → length (e .name) < d
-    shorter {e} q =
-        let p = label-progress s (byFirst-run es s m) (set-different es s (h .apart) m) u in
-        let a = h .short (q .0) (set-in es s (q .0) m (q .1)) in
-        let b = ap length (label-split s (q .0) (q .1)) in
-        let c = length-append (labelOf s) (drop (length (labelOf s)) (q .0 .name)) in
-        let f = ap (λ x. length (x .name)) (q .2) in
-        omega arith
 
 pub remains-some : (es s : List Entry) → s ∈ byFirst es → 0 < length (remains (length (labelOf s)) s)
 remains-some es s m = rw length-remains (run-some s (byFirst-run es s m))

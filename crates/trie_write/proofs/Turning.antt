@@ -12,7 +12,7 @@ use Rattle.trie.specs.Trie.{usedUp}
 use Rattle.book_table.specs.Table.{entries}
 use Rattle.trie_write_nodes.specs.Nodes.{Finished, Finishing}
 use Rattle.trie_write_runs.specs.Runs.{RunsKept, Within, firstRuns, noRun, runsIn, wordsOf}
-use Rattle.trie_write_runs.proofs.Runs.{held-length, run-put, within}
+use Rattle.trie_write_runs.proofs.Runs.{kept-length, run-put, within}
 use Rattle.trie_write_rows.specs.Rows.{SiblingRuns, setAt}
 use Rattle.trie_write_rows.proofs.Laws.{used-not}
 use Rattle.trie_write.specs.Writing.{Groupable, Grouped}
@@ -42,7 +42,7 @@ pub record Turning (es : List Entry) (d total back : ℕ) (put : Bool) (dst₀ w
 pub turn-start :
     {es : List Entry} {d total back : ℕ} {put : Bool} {dst ws : List ℕ} {n : ℕ} → RunsKept ws n
     → Turning es d total back put dst ws n dst ws back n
-turn-start k = record { long = refl; going = going-start (sym (held-length k)) }
+turn-start k = record { long = refl; going = going-start (sym (kept-length k)) }
 
 module _
     {u m sc : List ℕ} {lo hi d s size total back : ℕ} {put : Bool}
@@ -56,7 +56,7 @@ module _
 
     module _ (more : 0 < i) where
       low : i - 1 < count
-      low = omega (arith, v .going .upto, held-length k)
+      low = omega (arith, v .going .upto, kept-length k)
 
       pub place : Within ws (i - 1)
       place = within kept low

@@ -1,22 +1,21 @@
 -- The whole table: all rows share no byte, and what stands under them is the trie's body.
-use Prim.Native.Nat.{_+_, _-_, _<_, _≤_, suc, zero, ℕ}
+use Prim.Native.Nat.{_+_, _-_, _<_, _≤_, suc, ℕ}
 use mathlib.Core.Path.{_∙_, _≡_, ap, refl, sym}
 use mathlib.Core.Bool.{Bool, _&&_, false, true}
 use mathlib.Core.List.{List, [], _∷_}
 use lib.Dec.{leb}
 use lib.ListN.{length}
 use lib.Seq.{sets, slice, take-all}
-use native.Mathlib.Nat.{not-suc-le-zero}
 use native.Mathlib.Omega.{arith}
 use borrow.Author.Tests.{le-ltb, leb-true, lt-ltb, ne-eqb}
 use Rattle.octets.specs.Lists.{all}
-use Rattle.octets.specs.Octets.{below}
 use Rattle.octets.proofs.Lists.{all-imp}
 use Rattle.octets.proofs.Stores.{sets-overwrite}
 use Rattle.octets.proofs.Tests.{and-true}
 use Rattle.entries.specs.Entries.{Entry, at, rising, valid}
 use Rattle.entries.specs.Names.{allowedBytes, isName, isPrefix, longestName}
 use Rattle.entries.proofs.Valid.{Valid, valid-of}
+use Rattle.entries.proofs.Span.{rising-at}
 use Rattle.frame.specs.Frame.{framed}
 use Rattle.frame.proofs.Frame.{framed-length}
 use Rattle.frame_code.specs.Stored.{putFrame}
@@ -28,16 +27,8 @@ use Rattle.trie_write_nodes.specs.Nodes.{putIf}
 use Rattle.trie_write_rows.specs.Rows.{Named, Shared, setAt}
 use Rattle.trie_write.specs.Writing.{Groupable, Grouped, TrieWritten, underAt}
 use Rattle.trie.proofs.Bound.{group-bound}
-use Rattle.trie_write.specs.declared.Wrote.{Wrote}
-use Rattle.trie_write.specs.declared.Wrote.the-variants.{Bytes, TooShort}
-
-rising-at : (es : List Entry) (p : ℕ) → rising es ≡ true → suc p < length es
-    → below (at es p .name) (at es (suc p) .name) ≡ true
-rising-at [] p r h = absurd (not-suc-le-zero h)
-rising-at (e ∷ []) p r h = absurd (omega arith)
-rising-at (e ∷ f ∷ es) zero r h = and-true (below (e .name) (f .name)) (rising (f ∷ es)) r .0
-rising-at (e ∷ f ∷ es) (suc p) r h = rising-at (f
-    ∷ es) p (and-true (below (e .name) (f .name)) (rising (f ∷ es)) r .1) (omega arith)
+use Rattle.trie_write.specs.declared.Fitted.{Fitted}
+use Rattle.trie_write.specs.declared.Fitted.the-variants.{Bytes, TooShort}
 
 remains-none : (es : List Entry) → remains 0 es ≡ es
 remains-none [] = refl
@@ -93,7 +84,7 @@ module _
           order = omega arith;
           inside = omega arith;
           long = λ p a b. omega arith;
-          rises = λ p a b. rising-at es p (v .order) (omega arith);
+          rises = λ p a b. rising-at es (v .order) p (suc p) (omega arith) (omega arith);
         }
 
     all-named : Named es
@@ -159,6 +150,6 @@ module _
           }
 
 -- the same entries are answered alike
-pub answered-same : {es fs : List Entry} {dst : List ℕ} {r : Wrote} {out : List ℕ} → es ≡ fs → TrieWritten es dst r out
+pub answered-same : {es fs : List Entry} {dst : List ℕ} {r : Fitted} {out : List ℕ} → es ≡ fs → TrieWritten es dst r out
     → TrieWritten fs dst r out
 answered-same e a = record { answer = rw (← e) (a .answer); left = rw (← e) (a .left) }

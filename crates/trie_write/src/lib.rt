@@ -128,13 +128,13 @@ fn group(
 }
 
 // Too short a destination, or the bytes written.
-pub enum Wrote {
+pub enum Fitted {
     TooShort,
     Bytes(usize),
 }
 
 // Writes the trie of the table's entries to the front of dst, where it has room.
-fn write_rows(names: &[u8], lens: &[u8], scores: &[u32], dst: &mut [u8]) -> Wrote
+fn write_rows(names: &[u8], lens: &[u8], scores: &[u32], dst: &mut [u8]) -> Fitted
     requires { ⌜ Table (now names) (now lens) (now scores)
         × (valid (entries (now names) (now lens) (now scores)) ≡ true) ⌝ }
     ensures { λ r. ⌜ TrieWritten (entries (now (names .entry)) (now (lens .entry)) (now (scores .entry)))
@@ -146,15 +146,15 @@ fn write_rows(names: &[u8], lens: &[u8], scores: &[u32], dst: &mut [u8]) -> Wrot
     let size = group(names, lens, scores, 0, n, 0, top, dst, 0, 0, false);
     let total = size + FRAME_LENGTH;
     if dst.len() < total {
-        return Wrote::TooShort;
+        return Fitted::TooShort;
     }
     frame_code::put_frame(dst, TRIE_VERSION, total, n);
     group(names, lens, scores, 0, n, 0, top, dst, total, 0, true);
-    Wrote::Bytes(total)
+    Fitted::Bytes(total)
 }
 
 // Writes the trie of a book that was checked, where the destination has room.
-pub fn write(book: &[u8], n: usize, dst: &mut [u8]) -> Wrote
+pub fn write(book: &[u8], n: usize, dst: &mut [u8]) -> Fitted
     requires { ⌜ Held (now book) n ⌝ }
     ensures { λ r. ⌜ TrieWritten (inBook (now (book .entry))) (now (dst .entry)) r (now (dst .exit)) ⌝ }
 {

@@ -17,7 +17,7 @@ use Rattle.trie_write_runs.specs.Runs.{Each, RunsKept, endsHere, firstHigh, fir
 use Rattle.trie_write_runs.specs.Fields.{after, firstFields, nodeLength, plainFields}
 use Rattle.trie.proofs.Header.{ownSize-most}
 use Rattle.trie_write_runs.proofs.Fields.{after-size}
-use Rattle.trie_write_runs.proofs.Runs.{each-drop, each-map, falls-drop, held-end, held-length, held-next}
+use Rattle.trie_write_runs.proofs.Runs.{each-drop, each-map, falls-drop, kept-end, kept-length, kept-next}
 use Rattle.trie_write_nodes.specs.Nodes.{AllFit, Finished, Finishing, Measurable, OneFits, RunFits, RunsFit}
 use Rattle.trie_write_nodes.specs.Nodes.{groupOwnBytes, nodesBytes, nodesLength, oneNode, putIf}
 use Rattle.trie_write_nodes.proofs.Bytes.{length-oneNode}
@@ -43,10 +43,10 @@ module _
       here = getD (runsIn ws) i noRun
 
       pub here-short : here .len ≤ longestLabel
-      here-short = rw (held-next k more) at (each-drop (λ r. r .len ≤ longestLabel) (firstRuns ws n) i (z .short)) .0
+      here-short = rw (kept-next k more) at (each-drop (λ r. r .len ≤ longestLabel) (firstRuns ws n) i (z .short)) .0
 
       pub here-falls : firstHigh (drop (i + 1) (firstRuns ws n)) ≤ here .high
-      here-falls = rw (held-next k more) at (falls-drop (firstRuns ws n) i (z .falls)) .0
+      here-falls = rw (kept-next k more) at (falls-drop (firstRuns ws n) i (z .falls)) .0
 
       pub sizing-turn :
           {r : Run} {m s : ℕ} {g : NodeFields} → r ≡ here → (m ≡ nodeLength r f) × (m ≤ 16)
@@ -54,7 +54,7 @@ module _
           → NodesSizing ws n first g (sum + m) (i + 1)
       sizing-turn {s = s} p q t w =
           let a : sum + nodesLength f (here
-          ∷ drop (i + 1) (firstRuns ws n)) ≡ nodesLength first (firstRuns ws n) = rw (held-next k more) at (v .rest) in
+          ∷ drop (i + 1) (firstRuns ws n)) ≡ nodesLength first (firstRuns ws n) = rw (kept-next k more) at (v .rest) in
           record {
             upto = omega arith;
             rest = rw (w, t, q .0, p) (omega (arith, a));
@@ -64,7 +64,7 @@ module _
 
     pub sizing-end : n ≤ i → (sum ≡ nodesLength first (firstRuns ws n)) × (sum ≤ 1536)
     sizing-end h =
-        let a : sum + nodesLength f [] ≡ nodesLength first (firstRuns ws n) = rw (held-end k i h) at (v .rest) in
+        let a : sum + nodesLength f [] ≡ nodesLength first (firstRuns ws n) = rw (kept-end k i h) at (v .rest) in
         (omega (arith, a), omega (arith, v .low, v .upto, k .few))
 
 -- put so far, with the nodes left put now, is the whole
@@ -115,13 +115,13 @@ module _
       later = drop (i + 1) (firstRuns ws n)
 
       pub node-sound : RunFits (length names) d node
-      node-sound = rw (held-next k more) at (each-drop (RunFits (length names) d) (firstRuns ws n) i (z .able .each)) .0
+      node-sound = rw (kept-next k more) at (each-drop (RunFits (length names) d) (firstRuns ws n) i (z .able .each)) .0
 
       pub node-falls : firstHigh later ≤ node .high
-      node-falls = rw (held-next k more) at (falls-drop (firstRuns ws n) i (z .able .falls)) .0
+      node-falls = rw (kept-next k more) at (falls-drop (firstRuns ws n) i (z .able .falls)) .0
 
       room-here : at + (nodeLength node f + nodesLength (after node f (firstHigh later)) later) ≤ length dst₀
-      room-here = rw (held-next k more) at (v .room)
+      room-here = rw (kept-next k more) at (v .room)
 
       pub node-fits : {r : Run} → r ≡ node → OneFits (length names) d r f (length dst) at
       node-fits p = rw p (record { sound = node-sound; small = v .small; room = omega (arith, room-here, v .long) })
@@ -132,7 +132,7 @@ module _
       -- the last of the siblings is the one behind which none is held
       last-mark : {b : Bool} → b ≡ eqb (i + 1) n → endsHere later ≡ b
       last-mark {b} e =
-          let l = held-length k in
+          let l = kept-length k in
           let m = length-drop (i + 1) (firstRuns ws n) in
           ends-here later b (λ t. let q = eqb-true (i + 1) n (sym e ∙ t) in omega (arith, q))
           (λ t.
@@ -146,7 +146,7 @@ module _
       putting-turn {r} {m} {s} {b} {g} {out} p e q w y o =
           let rest = nodesBytes names d (after node f (firstHigh later)) later in
           let bytes : sets dst at (oneNode names d node f (endsHere later)
-          ++ rest) ≡ sets dst₀ start (nodesBytes names d first (firstRuns ws n)) = rw (held-next k more) at (v .bytes)
+          ++ rest) ≡ sets dst₀ start (nodesBytes names d first (firstRuns ws n)) = rw (kept-next k more) at (v .bytes)
           in
           let l = length-oneNode names d node f b node-sound in
           record {
@@ -166,7 +166,7 @@ module _
           }
 
     pub putting-end : n ≤ i → dst ≡ sets dst₀ start (nodesBytes names d first (firstRuns ws n))
-    putting-end h = rw (held-end k i h) at (v .bytes)
+    putting-end h = rw (kept-end k i h) at (v .bytes)
 
 -- one node alone
 pub alone : (r : Run) (f : NodeFields) {m : ℕ} → m ≡ nodeLength r f → m ≡ nodesLength f (r ∷ [])

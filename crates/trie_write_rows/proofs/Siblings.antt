@@ -13,6 +13,7 @@ use Rattle.octets.specs.Octets.{below, common}
 use Rattle.octets.proofs.Lists.{insert-ext, sort-in}
 use Rattle.octets.proofs.Order.{below-asym, below-cases, below-trans}
 use Rattle.octets.proofs.Tests.{and-true, by-test, eqb-self}
+use Rattle.octets.proofs.Coding.{common-most}
 use Rattle.entries.specs.Entries.{Entry, rising}
 use Rattle.entries.proofs.Valid.{rising-tail}
 use Rattle.trie.specs.Trie.{byFirst, commonPrefix, highest, labelOf, sameFirst}
@@ -169,17 +170,11 @@ prefix-ends e (f ∷ es) r =
     (lcp-three (e .name) (f .name) (lastEntry f es .name)
     (inl (and-true (below (e .name) (f .name)) (rising (f ∷ es)) r .0)) (rising-last f es (rising-tail e (f ∷ es) r)))
 
-common-le-left : (u v : List ℕ) → common u v ≤ length u
-common-le-left [] v = omega arith
-common-le-left (x ∷ u) [] = omega arith
-common-le-left (x ∷ u) (y ∷ v) = by-test (eqb x y) (λ t. let ih = common-le-left u v in
-    rw t (omega arith)) (λ t. rw t (omega arith))
-
 pub label-ends : (e : Entry) (es : List Entry) → rising (e ∷ es) ≡ true
     → length (labelOf (e ∷ es)) ≡ min 7 (common (e .name) (lastEntry e es .name))
 label-ends e es r =
     let c = common (e .name) (lastEntry e es .name) in
-    let a = common-le-left (e .name) (lastEntry e es .name) in
+    let a = common-most (e .name) (lastEntry e es .name) in
     let b = length-take c (e .name) in
     let d = length-take 7 (take c (e .name)) in
     rw (prefix-ends e es r) (omega arith)

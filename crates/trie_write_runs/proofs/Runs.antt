@@ -99,20 +99,20 @@ module _ {ws : List ℕ} {n : ℕ} (k : RunsKept ws n) where
   pub runs-long : length (runsIn ws) ≡ mostRuns
   runs-long = runs-length ws mostRuns (k .long)
 
-  pub held-length : length (firstRuns ws n) ≡ n
-  held-length = length-take-le n (runsIn ws) (omega (arith, runs-long, k .few))
+  pub kept-length : length (firstRuns ws n) ≡ n
+  kept-length = length-take-le n (runsIn ws) (omega (arith, runs-long, k .few))
 
-  pub held-end : (i : ℕ) → n ≤ i → drop i (firstRuns ws n) ≡ []
-  held-end i h = drop-of-length-le (firstRuns ws n) {i = i} (omega (arith, held-length))
+  pub kept-end : (i : ℕ) → n ≤ i → drop i (firstRuns ws n) ≡ []
+  kept-end i h = drop-of-length-le (firstRuns ws n) {i = i} (omega (arith, kept-length))
 
   module _ {i : ℕ} (h : i < n) where
     pub within : Within ws i
     within = record { room = omega (arith, k .few, k .long); low = omega (arith, k .few) }
 
-    pub held-next : drop i (firstRuns ws n) ≡ getD (runsIn ws) i noRun ∷ drop (i + 1) (firstRuns ws n)
-    held-next =
+    pub kept-next : drop i (firstRuns ws n) ≡ getD (runsIn ws) i noRun ∷ drop (i + 1) (firstRuns ws n)
+    kept-next =
         rw add-one
-        (drop-cons (firstRuns ws n) i noRun (omega (arith, held-length))
+        (drop-cons (firstRuns ws n) i noRun (omega (arith, kept-length))
         ∙ ap (λ x. x ∷ drop (suc i) (firstRuns ws n)) (getD-take n (runsIn ws) i noRun h))
 
 -- what is known of every run is known from an index on

@@ -32,12 +32,13 @@ record-size-requires : tie.Need-record-size-requires
 record-size-requires c κs = one-short (begin-of-else1 c .pre)
 
 add-result : tie.Need-add-result
-add-result c = omega (arith, c .record-size .ensures .small, begin-of-record-size c .pre .near)
+add-result c = let r = c .before in omega (arith, r .record-size .ensures .small, begin-of-record-size r .pre .near)
 
 returns-2 : tie.Need-returns-2
 returns-2 c =
-    let e = c .before in
-    passed-measured (begin-of-else1 e .pre) (e .if1 .left) (c .record-size .ensures)
+    let r = c .before in
+    let e = r .before in
+    passed-measured (begin-of-else1 e .pre) (e .if1 .left) (r .record-size .ensures)
 
 pub pass-entry-spec : {M : Type 1} → statement M
 pass-entry-spec =

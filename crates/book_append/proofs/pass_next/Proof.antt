@@ -1,4 +1,4 @@
--- `book_append::pass_next` meets its contract: the entry is passed behind the name held, and its own name is copied
+-- `book_append::pass_next` meets its contract: the entry is passed behind the name before, and its own name is copied
 -- over that one (proofs/Append). No loop. Assumes nothing.
 use Prim.Native.Nat.{_≤_}
 use mathlib.Core.Path.{refl, sym}
@@ -15,11 +15,11 @@ use Rattle.book_append.proofs.pass_next.Tie as tie
 abbrev after-pass-entry : tie.After-copy → tie.After-pass-entry
 after-pass-entry c = c .before .before .before .before
 
--- the entry, from where the name held is lent; the name is all there
+-- the entry, from where the name before is lent; the name is all there
 abbrev start : tie.After-pass-entry-arg → tie.Start
 start c = c .before .before .before .before
 
-within : (z : tie.Start) → z .args .kept ≤ length (z .args .held .now)
+within : (z : tie.Start) → z .args .len ≤ length (z .args .prev .now)
 within z = omega (arith, z .pre .0 .small, z .pre .1)
 
 slice-reshare-prefix-pass-entry : tie.Need-slice-reshare-prefix-pass-entry
@@ -28,7 +28,7 @@ slice-reshare-prefix-pass-entry c = within (start c)
 slice-aggregate-pass-entry : tie.Need-slice-aggregate-pass-entry
 slice-aggregate-pass-entry c =
     let z = start (c .before) in
-    sym (length-take-le (z .args .kept) (z .args .held .now) (within z))
+    sym (length-take-le (z .args .len) (z .args .prev .now) (within z))
 
 pass-entry-requires : tie.Need-pass-entry-requires
 pass-entry-requires c κs = plain-fits (start (c .before) .pre .0)
@@ -49,7 +49,7 @@ returns c =
     let z = start (p .before .before) in
     let short = one-short (plain-fits (z .pre .0)) in
     plain-passed (p .pass-entry .ensures) refl refl
-    (name-copied (z .args .held .now) (z .args .name .now) (omega (arith, z .pre .1, short)) (k .copy .ensures)) short
+    (name-copied (z .args .prev .now) (z .args .name .now) (omega (arith, z .pre .1, short)) (k .copy .ensures)) short
 
 pub pass-next-spec : {M : Type 1} → statement M
 pass-next-spec =

@@ -15,8 +15,8 @@ use Rattle.edit_splice.proofs.pass_new.Statement.{statement}
 use Rattle.edit_splice.proofs.pass_new.Tie as tie
 
 -- places that the proofs below look back to
-abbrev after-held2 : tie.After-held3 → tie.After-held2
-after-held2 c = c .before .before .before .before
+abbrev after-prev2 : tie.After-prev3 → tie.After-prev2
+after-prev2 c = c .before .before .before .before
 
 -- the array is 48 bytes long
 long : (c : tie.Start) → length (c .args .c .name) ≡ longestName
@@ -26,7 +26,7 @@ long c = search needs
 abbrev start : tie.Else1 → tie.Start
 start c = c .before .before .before
 
-abbrev other : tie.After-held2 → tie.Else1
+abbrev other : tie.After-prev2 → tie.Else1
 other c = c .before .before .before
 
 fits : (c : tie.Else1) → let a = start c .args in Fits (a .store) (a .n) (a .c) (entry (a .name .now) (a .score)
@@ -43,9 +43,9 @@ slice-aggregate-pass-next c = search needs
 pass-next-requires : tie.Need-pass-next-requires
 pass-next-requires c κs = let o = other c in (fits o, long (start o))
 
-add-t18 : tie.Need-add-t18
-add-t18 c =
-    let z = start (other (after-held2 c)) in
+add-next : tie.Need-add-next
+add-next c =
+    let z = start (other (after-prev2 c)) in
     omega (arith, z .pre .few, z .pre .low)
 
 same-length : tie.Need-same-length
@@ -60,4 +60,4 @@ returns-2 c =
 pub pass-new-spec : {M : Type 1} → statement M
 pass-new-spec =
     tie.close
-    (tie.spec returns slice-aggregate-pass-next pass-next-requires add-t18 same-length returns-2)
+    (tie.spec returns slice-aggregate-pass-next pass-next-requires add-next same-length returns-2)

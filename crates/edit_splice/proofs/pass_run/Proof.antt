@@ -18,15 +18,15 @@ use Rattle.edit_splice.proofs.pass_run.Statement.{statement}
 use Rattle.edit_splice.proofs.pass_run.Tie as tie
 
 abbrev Inv-loop : tie.InvT-loop
-Inv-loop book end dst₀ n store i₀ at₀ name₀ index₀ put₀ held₀ kept₀ dst i at name index put held kept =
-    RunLeft book i₀ end dst₀ n (cursorOf put₀ index₀ held₀ kept₀) store at i name dst (cursorOf put index held kept)
-    × (length held ≡ longestName)
+Inv-loop book end dst₀ n store i₀ at₀ name₀ index₀ put₀ prev₀ prev-len₀ dst i at name index put prev prev-len =
+    RunLeft book i₀ end dst₀ n (cursorOf put₀ index₀ prev₀ prev-len₀) store at i name dst (cursorOf put index prev prev-len)
+    × (length prev ≡ longestName)
 
 abbrev μ-loop : tie.MeasureT-loop
-μ-loop book end dst₀ n store i₀ at₀ name₀ index₀ put₀ held₀ kept₀ dst i at name index put held kept = end - i
+μ-loop book end dst₀ n store i₀ at₀ name₀ index₀ put₀ prev₀ prev-len₀ dst i at name index put prev prev-len = end - i
 
 -- places that the proofs below look back to
-abbrev begin : tie.After-held Inv-loop μ-loop → tie.Start Inv-loop μ-loop
+abbrev begin : tie.After-prev Inv-loop μ-loop → tie.Start Inv-loop μ-loop
 begin c = c .before .before .before .before
 
 -- the entry, from the loop
@@ -74,7 +74,7 @@ add-len c = omega (arith, given (c .before .before .before) .small)
 abbrev read : tie.After-score-at Inv-loop μ-loop → tie.After-read-name Inv-loop μ-loop
 read c = c .before .before .before .before
 
-abbrev scored : tie.After-held2 Inv-loop μ-loop → tie.After-score-at Inv-loop μ-loop
+abbrev scored : tie.After-prev2 Inv-loop μ-loop → tie.After-score-at Inv-loop μ-loop
 scored c = c .before .before
 
 name-fits : (r : tie.After-read-name Inv-loop μ-loop) → name-size r ≤ length (name-read r)
@@ -103,7 +103,7 @@ pass-next-requires c κs =
     (left-fits (v .0) (k .loop-test .taken) (given r) (s .score-at .ensures), v .1)
 
 -- the entry is passed: at the turn's end
-abbrev done : tie.After-held3 Inv-loop μ-loop → tie.After-pass-next Inv-loop μ-loop
+abbrev done : tie.After-prev3 Inv-loop μ-loop → tie.After-pass-next Inv-loop μ-loop
 done c = c .before .before .before
 
 abbrev before-done : tie.After-pass-next Inv-loop μ-loop → tie.After-score-at Inv-loop μ-loop
@@ -129,7 +129,7 @@ loop-again c =
     let v = t .before .loop .inv in
     let l = length-take-le (name-size r) (name-read r) (name-fits r) in (
       left-turn (v .0) (t .loop-test .taken) (given r) (s .score-at .ensures) (rw l at (p .pass-next .ensures)),
-      p .pass-next .kept .1 .1 .1 .1 .0 ∙ v .1,
+      p .pass-next .kept .1 .1 .0 ∙ v .1,
     )
 
 same-length : tie.Need-same-length Inv-loop μ-loop

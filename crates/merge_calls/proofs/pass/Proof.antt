@@ -17,14 +17,14 @@ use Rattle.merge_calls.proofs.pass.Statement.{statement}
 use Rattle.merge_calls.proofs.pass.Tie as tie
 
 abbrev Inv-loop : tie.InvT-loop
-Inv-loop first n second m dst₀ count at store a₀ b₀ name₀ held₀ kept₀ put₀ index₀ x₀ y₀ dst a b name held kept put
+Inv-loop first n second m dst₀ count at store a₀ b₀ name₀ prev₀ prev-len₀ put₀ index₀ x₀ y₀ dst a b name prev prev-len put
     index x y =
-    PassLeft first n second m dst₀ count at store x a y b dst (cursorOf put index held kept)
+    PassLeft first n second m dst₀ count at store x a y b dst (cursorOf put index prev prev-len)
     × (length name ≡ longestName)
-    × (length held ≡ longestName)
+    × (length prev ≡ longestName)
 
 abbrev μ-loop : tie.MeasureT-loop
-μ-loop first n second m dst₀ count at store a₀ b₀ name₀ held₀ kept₀ put₀ index₀ x₀ y₀ dst a b name held kept put index
+μ-loop first n second m dst₀ count at store a₀ b₀ name₀ prev₀ prev-len₀ put₀ index₀ x₀ y₀ dst a b name prev prev-len put index
     x y = count - index
 
 -- before the loop
@@ -104,7 +104,7 @@ name-length r = length-take-le (name-size r) (name-read r) (name-fits r)
 abbrev read : tie.After-name2 Inv-loop μ-loop → tie.After-next-entry Inv-loop μ-loop
 read c = c .before .before .before
 
-abbrev lent : tie.After-held Inv-loop μ-loop → tie.After-next-entry Inv-loop μ-loop
+abbrev lent : tie.After-prev Inv-loop μ-loop → tie.After-next-entry Inv-loop μ-loop
 lent c = read (c .before .before .before)
 
 array-share-prefix-name : tie.Need-array-share-prefix-name Inv-loop μ-loop
@@ -144,15 +144,15 @@ loop-again c =
     let l = name-length r in (
       left-turn (v .0) (r .next-entry .ensures) (goes k) (rw l at (p .pass-next .ensures)),
       name-long r,
-      p .pass-next .kept .1 .1 .1 .1 .0 ∙ v .2,
+      p .pass-next .kept .1 .1 .0 ∙ v .2,
     )
 
 -- no more is to be passed
 abbrev last : tie.Else1 Inv-loop μ-loop → tie.At-loop Inv-loop μ-loop
 last c = c .before .before
 
-add-t37 : tie.Need-add-t37 Inv-loop μ-loop
-add-t37 c = let v = last (c .before .before) .loop .inv .0 in omega (arith, v .ofFirst .small, v .ofSecond .small)
+add-next : tie.Need-add-next Inv-loop μ-loop
+add-next c = let v = last (c .before .before) .loop .inv .0 in omega (arith, v .ofFirst .small, v .ofSecond .small)
 
 same-length : tie.Need-same-length Inv-loop μ-loop
 same-length c = last (c .before .before) .loop .inv .0 .passing .sameLength
@@ -184,6 +184,6 @@ pass-spec =
     add-index
     loop-less
     loop-again
-    add-t37
+    add-next
     same-length
     returns)

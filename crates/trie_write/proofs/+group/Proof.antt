@@ -41,586 +41,201 @@ group-Inv-loop names lens scores lo hi d s dst₀ total back put runs₀ count b
 abbrev group-μ-loop : group-lts.MeasureT-loop
 group-μ-loop names lens scores lo hi d s dst₀ total back put runs₀ count b₀ i₀ dst runs b i = i
 
-group-sub-if1 : (t : ℕ) → group-lts.Need-sub-if1 (
-  lone-reads.Asked,
-  lone-reads.Learnt,
-  split-reads.Asked,
-  split-reads.Learnt,
-  run-at-reads.Asked,
-  run-at-reads.Learnt,
-  group-below t,
-  group.Post,
-  with-under-reads.Asked,
-  with-under-reads.Learnt,
-  put-run-reads.Asked,
-  put-run-reads.Learnt,
-  finish-reads.Asked,
-  finish-reads.Learnt,
-) (group-at t) group.Post group-Inv-loop group-μ-loop
-group-sub-if1 t c = omega (arith, c .before .before .before .before .pre .1 .able .shared .order)
+-- The function, where its measure is t.
+module _ (t : ℕ) where
+  abbrev claims : group-lts.Claims
+  claims = (
+    lone-reads.Asked,
+    lone-reads.Learnt,
+    split-reads.Asked,
+    split-reads.Learnt,
+    run-at-reads.Asked,
+    run-at-reads.Learnt,
+    group-below t,
+    group.Post,
+    with-under-reads.Asked,
+    with-under-reads.Learnt,
+    put-run-reads.Asked,
+    put-run-reads.Learnt,
+    finish-reads.Asked,
+    finish-reads.Learnt,
+  )
 
-group-lone-requires : (t : ℕ) → group-lts.Need-lone-requires (
-  lone-reads.Asked,
-  lone-reads.Learnt,
-  split-reads.Asked,
-  split-reads.Learnt,
-  run-at-reads.Asked,
-  run-at-reads.Learnt,
-  group-below t,
-  group.Post,
-  with-under-reads.Asked,
-  with-under-reads.Learnt,
-  put-run-reads.Asked,
-  put-run-reads.Learnt,
-  finish-reads.Asked,
-  finish-reads.Learnt,
-) (group-at t) group.Post group-Inv-loop group-μ-loop
-group-lone-requires t c κs = let h = c .before in
-    one-ready (h .before .before .before .before .before .pre .1) (h .if1 .taken)
+  group-sub-if1 : group-lts.Need-sub-if1 claims (group-at t) group.Post group-Inv-loop group-μ-loop
+  group-sub-if1 c = omega (arith, c .before .before .before .before .pre .1 .able .shared .order)
 
-group-same-length : (t : ℕ) → group-lts.Need-same-length (
-  lone-reads.Asked,
-  lone-reads.Learnt,
-  split-reads.Asked,
-  split-reads.Learnt,
-  run-at-reads.Asked,
-  run-at-reads.Learnt,
-  group-below t,
-  group.Post,
-  with-under-reads.Asked,
-  with-under-reads.Learnt,
-  put-run-reads.Asked,
-  put-run-reads.Learnt,
-  finish-reads.Asked,
-  finish-reads.Learnt,
-) (group-at t) group.Post group-Inv-loop group-μ-loop
-group-same-length t c = ap length (c .before .before .lone .ensures .bytes) ∙ length-put _ _ _ _
+  group-lone-requires : group-lts.Need-lone-requires claims (group-at t) group.Post group-Inv-loop group-μ-loop
+  group-lone-requires c κs = let h = c .before in
+      one-ready (h .before .before .before .before .before .pre .1) (h .if1 .taken)
 
-group-returns : (t : ℕ) → group-lts.Need-returns (
-  lone-reads.Asked,
-  lone-reads.Learnt,
-  split-reads.Asked,
-  split-reads.Learnt,
-  run-at-reads.Asked,
-  run-at-reads.Learnt,
-  group-below t,
-  group.Post,
-  with-under-reads.Asked,
-  with-under-reads.Learnt,
-  put-run-reads.Asked,
-  put-run-reads.Learnt,
-  finish-reads.Asked,
-  finish-reads.Learnt,
-) (group-at t) group.Post group-Inv-loop group-μ-loop
-group-returns t c = let o = c .before .before in let h = o .before .before in
-    one-grouped (h .before .before .before .before .before .pre .1) (h .if1 .taken) (o .lone .ensures)
+  group-same-length : group-lts.Need-same-length claims (group-at t) group.Post group-Inv-loop group-μ-loop
+  group-same-length c = ap length (c .before .before .lone .ensures .bytes) ∙ length-put _ _ _ _
 
-group-slice-aggregate-split : (t : ℕ) → group-lts.Need-slice-aggregate-split (
-  lone-reads.Asked,
-  lone-reads.Learnt,
-  split-reads.Asked,
-  split-reads.Learnt,
-  run-at-reads.Asked,
-  run-at-reads.Learnt,
-  group-below t,
-  group.Post,
-  with-under-reads.Asked,
-  with-under-reads.Learnt,
-  put-run-reads.Asked,
-  put-run-reads.Learnt,
-  finish-reads.Asked,
-  finish-reads.Learnt,
-) (group-at t) group.Post group-Inv-loop group-μ-loop
-group-slice-aggregate-split t c = search needs
+  group-returns : group-lts.Need-returns claims (group-at t) group.Post group-Inv-loop group-μ-loop
+  group-returns c = let o = c .before .before in let h = o .before .before in
+      one-grouped (h .before .before .before .before .before .pre .1) (h .if1 .taken) (o .lone .ensures)
 
-group-split-requires : (t : ℕ) → group-lts.Need-split-requires (
-  lone-reads.Asked,
-  lone-reads.Learnt,
-  split-reads.Asked,
-  split-reads.Learnt,
-  run-at-reads.Asked,
-  run-at-reads.Learnt,
-  group-below t,
-  group.Post,
-  with-under-reads.Asked,
-  with-under-reads.Learnt,
-  put-run-reads.Asked,
-  put-run-reads.Learnt,
-  finish-reads.Asked,
-  finish-reads.Learnt,
-) (group-at t) group.Post group-Inv-loop group-μ-loop
-group-split-requires t c κs = (
-  c .before .before .before .before .before .before .pre .1 .able,
-  record { few = omega arith; long = length-replicate {A = ℕ} 480 0 },
-)
+  group-slice-aggregate-split : group-lts.Need-slice-aggregate-split claims (group-at t) group.Post group-Inv-loop group-μ-loop
+  group-slice-aggregate-split c = search needs
 
-group-loop-holds : (t : ℕ) → group-lts.Need-loop-holds (
-  lone-reads.Asked,
-  lone-reads.Learnt,
-  split-reads.Asked,
-  split-reads.Learnt,
-  run-at-reads.Asked,
-  run-at-reads.Learnt,
-  group-below t,
-  group.Post,
-  with-under-reads.Asked,
-  with-under-reads.Learnt,
-  put-run-reads.Asked,
-  put-run-reads.Learnt,
-  finish-reads.Asked,
-  finish-reads.Learnt,
-) (group-at t) group.Post group-Inv-loop group-μ-loop
-group-loop-holds t c = turn-start (c .before .split .ensures .0)
+  group-split-requires : group-lts.Need-split-requires claims (group-at t) group.Post group-Inv-loop group-μ-loop
+  group-split-requires c κs = (
+    c .before .before .before .before .before .before .pre .1 .able,
+    record { few = omega arith; long = length-replicate {A = ℕ} 480 0 },
+  )
 
-group-sub-i : (t : ℕ) → group-lts.Need-sub-i (
-  lone-reads.Asked,
-  lone-reads.Learnt,
-  split-reads.Asked,
-  split-reads.Learnt,
-  run-at-reads.Asked,
-  run-at-reads.Learnt,
-  group-below t,
-  group.Post,
-  with-under-reads.Asked,
-  with-under-reads.Learnt,
-  put-run-reads.Asked,
-  put-run-reads.Learnt,
-  finish-reads.Asked,
-  finish-reads.Learnt,
-) (group-at t) group.Post group-Inv-loop group-μ-loop
-group-sub-i t c = c .loop-test .taken
+  group-loop-holds : group-lts.Need-loop-holds claims (group-at t) group.Post group-Inv-loop group-μ-loop
+  group-loop-holds c = turn-start (c .before .split .ensures .0)
 
-group-slice-aggregate-run-at : (t : ℕ) → group-lts.Need-slice-aggregate-run-at (
-  lone-reads.Asked,
-  lone-reads.Learnt,
-  split-reads.Asked,
-  split-reads.Learnt,
-  run-at-reads.Asked,
-  run-at-reads.Learnt,
-  group-below t,
-  group.Post,
-  with-under-reads.Asked,
-  with-under-reads.Learnt,
-  put-run-reads.Asked,
-  put-run-reads.Learnt,
-  finish-reads.Asked,
-  finish-reads.Learnt,
-) (group-at t) group.Post group-Inv-loop group-μ-loop
-group-slice-aggregate-run-at t c = search needs
+  group-sub-i : group-lts.Need-sub-i claims (group-at t) group.Post group-Inv-loop group-μ-loop
+  group-sub-i c = c .loop-test .taken
 
-group-run-at-requires : (t : ℕ) → group-lts.Need-run-at-requires (
-  lone-reads.Asked,
-  lone-reads.Learnt,
-  split-reads.Asked,
-  split-reads.Learnt,
-  run-at-reads.Asked,
-  run-at-reads.Learnt,
-  group-below t,
-  group.Post,
-  with-under-reads.Asked,
-  with-under-reads.Learnt,
-  put-run-reads.Asked,
-  put-run-reads.Learnt,
-  finish-reads.Asked,
-  finish-reads.Learnt,
-) (group-at t) group.Post group-Inv-loop group-μ-loop
-group-run-at-requires t c κs =
-    let h = c .before in
-    let l = h .before in
-    let p = l .before .before in
-    let e = p .before .before in
-    let s = e .before .before .before .before .before in
-    let n = not-one (s .pre .1) (e .if1 .left) in
-    place (s .pre .1) n (p .split .ensures .0) (p .split .ensures .1) (l .loop .inv) refl (h .loop-test .taken)
+  group-slice-aggregate-run-at : group-lts.Need-slice-aggregate-run-at claims (group-at t) group.Post group-Inv-loop group-μ-loop
+  group-slice-aggregate-run-at c = search needs
 
-group-cast-group : (t : ℕ) → group-lts.Need-cast-group (
-  lone-reads.Asked,
-  lone-reads.Learnt,
-  split-reads.Asked,
-  split-reads.Learnt,
-  run-at-reads.Asked,
-  run-at-reads.Learnt,
-  group-below t,
-  group.Post,
-  with-under-reads.Asked,
-  with-under-reads.Learnt,
-  put-run-reads.Asked,
-  put-run-reads.Learnt,
-  finish-reads.Asked,
-  finish-reads.Learnt,
-) (group-at t) group.Post group-Inv-loop group-μ-loop
-group-cast-group t c = search needs
+  group-run-at-requires : group-lts.Need-run-at-requires claims (group-at t) group.Post group-Inv-loop group-μ-loop
+  group-run-at-requires c κs =
+      let h = c .before in
+      let l = h .before in
+      let p = l .before .before in
+      let e = p .before .before in
+      let s = e .before .before .before .before .before in
+      let n = not-one (s .pre .1) (e .if1 .left) in
+      place (s .pre .1) n (p .split .ensures .0) (p .split .ensures .1) (l .loop .inv) refl (h .loop-test .taken)
 
-group-cast-group-2 : (t : ℕ) → group-lts.Need-cast-group-2 (
-  lone-reads.Asked,
-  lone-reads.Learnt,
-  split-reads.Asked,
-  split-reads.Learnt,
-  run-at-reads.Asked,
-  run-at-reads.Learnt,
-  group-below t,
-  group.Post,
-  with-under-reads.Asked,
-  with-under-reads.Learnt,
-  put-run-reads.Asked,
-  put-run-reads.Learnt,
-  finish-reads.Asked,
-  finish-reads.Learnt,
-) (group-at t) group.Post group-Inv-loop group-μ-loop
-group-cast-group-2 t c = search needs
+  group-cast-group : group-lts.Need-cast-group claims (group-at t) group.Post group-Inv-loop group-μ-loop
+  group-cast-group c = search needs
 
-group-cast-group-3 : (t : ℕ) → group-lts.Need-cast-group-3 (
-  lone-reads.Asked,
-  lone-reads.Learnt,
-  split-reads.Asked,
-  split-reads.Learnt,
-  run-at-reads.Asked,
-  run-at-reads.Learnt,
-  group-below t,
-  group.Post,
-  with-under-reads.Asked,
-  with-under-reads.Learnt,
-  put-run-reads.Asked,
-  put-run-reads.Learnt,
-  finish-reads.Asked,
-  finish-reads.Learnt,
-) (group-at t) group.Post group-Inv-loop group-μ-loop
-group-cast-group-3 t c = search needs
+  group-cast-group-2 : group-lts.Need-cast-group-2 claims (group-at t) group.Post group-Inv-loop group-μ-loop
+  group-cast-group-2 c = search needs
 
-group-add-group : (t : ℕ) → group-lts.Need-add-group (
-  lone-reads.Asked,
-  lone-reads.Learnt,
-  split-reads.Asked,
-  split-reads.Learnt,
-  run-at-reads.Asked,
-  run-at-reads.Learnt,
-  group-below t,
-  group.Post,
-  with-under-reads.Asked,
-  with-under-reads.Learnt,
-  put-run-reads.Asked,
-  put-run-reads.Learnt,
-  finish-reads.Asked,
-  finish-reads.Learnt,
-) (group-at t) group.Post group-Inv-loop group-μ-loop
-group-add-group t c =
-    let a = c .before .before .before in
-    let h = a .before .before in
-    let l = h .before in
-    let p = l .before .before in
-    let e = p .before .before in
-    let s = e .before .before .before .before .before in
-    let n = not-one (s .pre .1) (e .if1 .left) in
-    omega (
-      arith,
-      deep (s .pre .1) n (p .split .ensures .0) (p .split .ensures .1) (l .loop .inv) refl
-          (h .loop-test .taken) (a .run-at .ensures),
-    )
+  group-cast-group-3 : group-lts.Need-cast-group-3 claims (group-at t) group.Post group-Inv-loop group-μ-loop
+  group-cast-group-3 c = search needs
 
-group-group-requires : (t : ℕ) → group-lts.Need-group-requires (
-  lone-reads.Asked,
-  lone-reads.Learnt,
-  split-reads.Asked,
-  split-reads.Learnt,
-  run-at-reads.Asked,
-  run-at-reads.Learnt,
-  group-below t,
-  group.Post,
-  with-under-reads.Asked,
-  with-under-reads.Learnt,
-  put-run-reads.Asked,
-  put-run-reads.Learnt,
-  finish-reads.Asked,
-  finish-reads.Learnt,
-) (group-at t) group.Post group-Inv-loop group-μ-loop
-group-group-requires t c κs =
-    let a = c .before .before .before .before in
-    let h = a .before .before in
-    let l = h .before in
-    let p = l .before .before in
-    let e = p .before .before in
-    let s = e .before .before .before .before .before in
-    let n = not-one (s .pre .1) (e .if1 .left) in (
-      subst (λ (x : ℕ). (longestName - (s .args .d + a .run-at .result .len)) * 2048 +
-          (a .run-at .result .hi - a .run-at .result .lo) < x) (s .pre .0)
-          (under-falls (s .pre .1) n (p .split .ensures .0) (p .split .ensures .1) (l .loop .inv) refl
-          (h .loop-test .taken) (a .run-at .ensures)),
-      under-ready (s .pre .1) n (p .split .ensures .0) (p .split .ensures .1) (l .loop .inv) refl (h .loop-test .taken)
-          (a .run-at .ensures),
-    )
+  group-add-group : group-lts.Need-add-group claims (group-at t) group.Post group-Inv-loop group-μ-loop
+  group-add-group c =
+      let a = c .before .before .before in
+      let h = a .before .before in
+      let l = h .before in
+      let p = l .before .before in
+      let e = p .before .before in
+      let s = e .before .before .before .before .before in
+      let n = not-one (s .pre .1) (e .if1 .left) in
+      omega (
+        arith,
+        deep (s .pre .1) n (p .split .ensures .0) (p .split .ensures .1) (l .loop .inv) refl
+            (h .loop-test .taken) (a .run-at .ensures),
+      )
 
-group-sub-with-under : (t : ℕ) → group-lts.Need-sub-with-under (
-  lone-reads.Asked,
-  lone-reads.Learnt,
-  split-reads.Asked,
-  split-reads.Learnt,
-  run-at-reads.Asked,
-  run-at-reads.Learnt,
-  group-below t,
-  group.Post,
-  with-under-reads.Asked,
-  with-under-reads.Learnt,
-  put-run-reads.Asked,
-  put-run-reads.Learnt,
-  finish-reads.Asked,
-  finish-reads.Learnt,
-) (group-at t) group.Post group-Inv-loop group-μ-loop
-group-sub-with-under t c = omega (arith, c .before .before .group .ensures .end)
+  group-group-requires : group-lts.Need-group-requires claims (group-at t) group.Post group-Inv-loop group-μ-loop
+  group-group-requires c κs =
+      let a = c .before .before .before .before in
+      let h = a .before .before in
+      let l = h .before in
+      let p = l .before .before in
+      let e = p .before .before in
+      let s = e .before .before .before .before .before in
+      let n = not-one (s .pre .1) (e .if1 .left) in (
+        subst (λ (x : ℕ). (longestName - (s .args .d + a .run-at .result .len)) * 2048 +
+            (a .run-at .result .hi - a .run-at .result .lo) < x) (s .pre .0)
+            (under-falls (s .pre .1) n (p .split .ensures .0) (p .split .ensures .1) (l .loop .inv) refl
+            (h .loop-test .taken) (a .run-at .ensures)),
+        under-ready (s .pre .1) n (p .split .ensures .0) (p .split .ensures .1) (l .loop .inv) refl (h .loop-test .taken)
+            (a .run-at .ensures),
+      )
 
-group-cast-with-under : (t : ℕ) → group-lts.Need-cast-with-under (
-  lone-reads.Asked,
-  lone-reads.Learnt,
-  split-reads.Asked,
-  split-reads.Learnt,
-  run-at-reads.Asked,
-  run-at-reads.Learnt,
-  group-below t,
-  group.Post,
-  with-under-reads.Asked,
-  with-under-reads.Learnt,
-  put-run-reads.Asked,
-  put-run-reads.Learnt,
-  finish-reads.Asked,
-  finish-reads.Learnt,
-) (group-at t) group.Post group-Inv-loop group-μ-loop
-group-cast-with-under t c =
-    let g = c .before .before in
-    let a = g .before .before .before .before .before in
-    let h = a .before .before in
-    let l = h .before in
-    let p = l .before .before in
-    let e = p .before .before in
-    let s = e .before .before .before .before .before in
-    let n = not-one (s .pre .1) (e .if1 .left) in
-    omega (
-      arith,
-      under-low (s .pre .1) n (p .split .ensures .0) (p .split .ensures .1) (l .loop .inv) refl
-          (h .loop-test .taken) (a .run-at .ensures) (g .group .ensures),
-    )
+  group-sub-with-under : group-lts.Need-sub-with-under claims (group-at t) group.Post group-Inv-loop group-μ-loop
+  group-sub-with-under c = omega (arith, c .before .before .group .ensures .end)
 
-group-with-under-requires : (t : ℕ) → group-lts.Need-with-under-requires (
-  lone-reads.Asked,
-  lone-reads.Learnt,
-  split-reads.Asked,
-  split-reads.Learnt,
-  run-at-reads.Asked,
-  run-at-reads.Learnt,
-  group-below t,
-  group.Post,
-  with-under-reads.Asked,
-  with-under-reads.Learnt,
-  put-run-reads.Asked,
-  put-run-reads.Learnt,
-  finish-reads.Asked,
-  finish-reads.Learnt,
-) (group-at t) group.Post group-Inv-loop group-μ-loop
-group-with-under-requires t c κs = tt
+  group-cast-with-under : group-lts.Need-cast-with-under claims (group-at t) group.Post group-Inv-loop group-μ-loop
+  group-cast-with-under c =
+      let g = c .before .before in
+      let a = g .before .before .before .before .before in
+      let h = a .before .before in
+      let l = h .before in
+      let p = l .before .before in
+      let e = p .before .before in
+      let s = e .before .before .before .before .before in
+      let n = not-one (s .pre .1) (e .if1 .left) in
+      omega (
+        arith,
+        under-low (s .pre .1) n (p .split .ensures .0) (p .split .ensures .1) (l .loop .inv) refl
+            (h .loop-test .taken) (a .run-at .ensures) (g .group .ensures),
+      )
 
-group-slice-aggregate-put-run : (t : ℕ) → group-lts.Need-slice-aggregate-put-run (
-  lone-reads.Asked,
-  lone-reads.Learnt,
-  split-reads.Asked,
-  split-reads.Learnt,
-  run-at-reads.Asked,
-  run-at-reads.Learnt,
-  group-below t,
-  group.Post,
-  with-under-reads.Asked,
-  with-under-reads.Learnt,
-  put-run-reads.Asked,
-  put-run-reads.Learnt,
-  finish-reads.Asked,
-  finish-reads.Learnt,
-) (group-at t) group.Post group-Inv-loop group-μ-loop
-group-slice-aggregate-put-run t c = search needs
+  group-with-under-requires : group-lts.Need-with-under-requires claims (group-at t) group.Post group-Inv-loop group-μ-loop
+  group-with-under-requires c κs = tt
 
-group-put-run-requires : (t : ℕ) → group-lts.Need-put-run-requires (
-  lone-reads.Asked,
-  lone-reads.Learnt,
-  split-reads.Asked,
-  split-reads.Learnt,
-  run-at-reads.Asked,
-  run-at-reads.Learnt,
-  group-below t,
-  group.Post,
-  with-under-reads.Asked,
-  with-under-reads.Learnt,
-  put-run-reads.Asked,
-  put-run-reads.Learnt,
-  finish-reads.Asked,
-  finish-reads.Learnt,
-) (group-at t) group.Post group-Inv-loop group-μ-loop
-group-put-run-requires t c κs =
-    let w = c .before in
-    let a = w .before .before .before .before .before .before .before .before in
-    let h = a .before .before in
-    let l = h .before in
-    let p = l .before .before in
-    let e = p .before .before in
-    let s = e .before .before .before .before .before in
-    let n = not-one (s .pre .1) (e .if1 .left) in
-    place (s .pre .1) n (p .split .ensures .0) (p .split .ensures .1) (l .loop .inv) refl (h .loop-test .taken)
+  group-slice-aggregate-put-run : group-lts.Need-slice-aggregate-put-run claims (group-at t) group.Post group-Inv-loop group-μ-loop
+  group-slice-aggregate-put-run c = search needs
 
-group-loop-less : (t : ℕ) → group-lts.Need-loop-less (
-  lone-reads.Asked,
-  lone-reads.Learnt,
-  split-reads.Asked,
-  split-reads.Learnt,
-  run-at-reads.Asked,
-  run-at-reads.Learnt,
-  group-below t,
-  group.Post,
-  with-under-reads.Asked,
-  with-under-reads.Learnt,
-  put-run-reads.Asked,
-  put-run-reads.Learnt,
-  finish-reads.Asked,
-  finish-reads.Learnt,
-) (group-at t) group.Post group-Inv-loop group-μ-loop
-group-loop-less t c =
-    let a = c .before .before .before .before .before .before .before .before .before .before .before in
-    omega (arith, a .before .before .loop-test .taken)
+  group-put-run-requires : group-lts.Need-put-run-requires claims (group-at t) group.Post group-Inv-loop group-μ-loop
+  group-put-run-requires c κs =
+      let w = c .before in
+      let a = w .before .before .before .before .before .before .before .before in
+      let h = a .before .before in
+      let l = h .before in
+      let p = l .before .before in
+      let e = p .before .before in
+      let s = e .before .before .before .before .before in
+      let n = not-one (s .pre .1) (e .if1 .left) in
+      place (s .pre .1) n (p .split .ensures .0) (p .split .ensures .1) (l .loop .inv) refl (h .loop-test .taken)
 
-group-loop-again : (t : ℕ) → group-lts.Need-loop-again (
-  lone-reads.Asked,
-  lone-reads.Learnt,
-  split-reads.Asked,
-  split-reads.Learnt,
-  run-at-reads.Asked,
-  run-at-reads.Learnt,
-  group-below t,
-  group.Post,
-  with-under-reads.Asked,
-  with-under-reads.Learnt,
-  put-run-reads.Asked,
-  put-run-reads.Learnt,
-  finish-reads.Asked,
-  finish-reads.Learnt,
-) (group-at t) group.Post group-Inv-loop group-μ-loop
-group-loop-again t c =
-    let o = c .before in
-    let w = o .before .before in
-    let g = w .before .before .before in
-    let a = g .before .before .before .before .before in
-    let h = a .before .before in
-    let l = h .before in
-    let p = l .before .before in
-    let e = p .before .before in
-    let s = e .before .before .before .before .before in
-    let n = not-one (s .pre .1) (e .if1 .left) in
-    turn (s .pre .1) n (p .split .ensures .0) (p .split .ensures .1) (l .loop .inv) refl (h .loop-test .taken)
-    (a .run-at .ensures) (g .group .ensures) (w .with-under .result) (w .with-under .ensures) (o .put-run .ensures)
+  group-loop-less : group-lts.Need-loop-less claims (group-at t) group.Post group-Inv-loop group-μ-loop
+  group-loop-less c =
+      let a = c .before .before .before .before .before .before .before .before .before .before .before in
+      omega (arith, a .before .before .loop-test .taken)
 
-group-slice-aggregate-finish : (t : ℕ) → group-lts.Need-slice-aggregate-finish (
-  lone-reads.Asked,
-  lone-reads.Learnt,
-  split-reads.Asked,
-  split-reads.Learnt,
-  run-at-reads.Asked,
-  run-at-reads.Learnt,
-  group-below t,
-  group.Post,
-  with-under-reads.Asked,
-  with-under-reads.Learnt,
-  put-run-reads.Asked,
-  put-run-reads.Learnt,
-  finish-reads.Asked,
-  finish-reads.Learnt,
-) (group-at t) group.Post group-Inv-loop group-μ-loop
-group-slice-aggregate-finish t c = search needs
+  group-loop-again : group-lts.Need-loop-again claims (group-at t) group.Post group-Inv-loop group-μ-loop
+  group-loop-again c =
+      let o = c .before in
+      let w = o .before .before in
+      let g = w .before .before .before in
+      let a = g .before .before .before .before .before in
+      let h = a .before .before in
+      let l = h .before in
+      let p = l .before .before in
+      let e = p .before .before in
+      let s = e .before .before .before .before .before in
+      let n = not-one (s .pre .1) (e .if1 .left) in
+      turn (s .pre .1) n (p .split .ensures .0) (p .split .ensures .1) (l .loop .inv) refl (h .loop-test .taken)
+      (a .run-at .ensures) (g .group .ensures) (w .with-under .result) (w .with-under .ensures) (o .put-run .ensures)
 
-group-finish-requires : (t : ℕ) → group-lts.Need-finish-requires (
-  lone-reads.Asked,
-  lone-reads.Learnt,
-  split-reads.Asked,
-  split-reads.Learnt,
-  run-at-reads.Asked,
-  run-at-reads.Learnt,
-  group-below t,
-  group.Post,
-  with-under-reads.Asked,
-  with-under-reads.Learnt,
-  put-run-reads.Asked,
-  put-run-reads.Learnt,
-  finish-reads.Asked,
-  finish-reads.Learnt,
-) (group-at t) group.Post group-Inv-loop group-μ-loop
-group-finish-requires t c κs =
-    let h = c .before .before in
-    let l = h .before in
-    let p = l .before .before in
-    let e = p .before .before in
-    let s = e .before .before .before .before .before in
-    let n = not-one (s .pre .1) (e .if1 .left) in (
-      kept (s .pre .1) n (p .split .ensures .0) (p .split .ensures .1) (l .loop .inv) refl,
-      turn-ready (s .pre .1) n (p .split .ensures .0) (p .split .ensures .1) (l .loop .inv) refl (h .loop-test .left),
-    )
+  group-slice-aggregate-finish : group-lts.Need-slice-aggregate-finish claims (group-at t) group.Post group-Inv-loop group-μ-loop
+  group-slice-aggregate-finish c = search needs
 
-group-same-length-2 : (t : ℕ) → group-lts.Need-same-length-2 (
-  lone-reads.Asked,
-  lone-reads.Learnt,
-  split-reads.Asked,
-  split-reads.Learnt,
-  run-at-reads.Asked,
-  run-at-reads.Learnt,
-  group-below t,
-  group.Post,
-  with-under-reads.Asked,
-  with-under-reads.Learnt,
-  put-run-reads.Asked,
-  put-run-reads.Learnt,
-  finish-reads.Asked,
-  finish-reads.Learnt,
-) (group-at t) group.Post group-Inv-loop group-μ-loop
-group-same-length-2 t c =
-    let f = c .before .before in
-    let l = f .before .before .before .before in
-    ap length (f .finish .ensures .bytes) ∙ length-put _ _ _ _ ∙ l .loop .inv .going .same
+  group-finish-requires : group-lts.Need-finish-requires claims (group-at t) group.Post group-Inv-loop group-μ-loop
+  group-finish-requires c κs =
+      let h = c .before .before in
+      let l = h .before in
+      let p = l .before .before in
+      let e = p .before .before in
+      let s = e .before .before .before .before .before in
+      let n = not-one (s .pre .1) (e .if1 .left) in (
+        kept (s .pre .1) n (p .split .ensures .0) (p .split .ensures .1) (l .loop .inv) refl,
+        turn-ready (s .pre .1) n (p .split .ensures .0) (p .split .ensures .1) (l .loop .inv) refl (h .loop-test .left),
+      )
 
-group-returns-2 : (t : ℕ) → group-lts.Need-returns-2 (
-  lone-reads.Asked,
-  lone-reads.Learnt,
-  split-reads.Asked,
-  split-reads.Learnt,
-  run-at-reads.Asked,
-  run-at-reads.Learnt,
-  group-below t,
-  group.Post,
-  with-under-reads.Asked,
-  with-under-reads.Learnt,
-  put-run-reads.Asked,
-  put-run-reads.Learnt,
-  finish-reads.Asked,
-  finish-reads.Learnt,
-) (group-at t) group.Post group-Inv-loop group-μ-loop
-group-returns-2 t c =
-    let f = c .before .before in
-    let h = f .before .before .before in
-    let l = h .before in
-    let p = l .before .before in
-    let e = p .before .before in
-    let s = e .before .before .before .before .before in
-    let n = not-one (s .pre .1) (e .if1 .left) in
-    turn-end (s .pre .1) n (p .split .ensures .0) (p .split .ensures .1) (l .loop .inv) refl (h .loop-test .left)
-    (f .finish .ensures)
+  group-same-length-2 : group-lts.Need-same-length-2 claims (group-at t) group.Post group-Inv-loop group-μ-loop
+  group-same-length-2 c =
+      let f = c .before .before in
+      let l = f .before .before .before .before in
+      ap length (f .finish .ensures .bytes) ∙ length-put _ _ _ _ ∙ l .loop .inv .going .same
+
+  group-returns-2 : group-lts.Need-returns-2 claims (group-at t) group.Post group-Inv-loop group-μ-loop
+  group-returns-2 c =
+      let f = c .before .before in
+      let h = f .before .before .before in
+      let l = h .before in
+      let p = l .before .before in
+      let e = p .before .before in
+      let s = e .before .before .before .before .before in
+      let n = not-one (s .pre .1) (e .if1 .left) in
+      turn-end (s .pre .1) n (p .split .ensures .0) (p .split .ensures .1) (l .loop .inv) refl (h .loop-test .left)
+      (f .finish .ensures)
 
 pub +group-spec : {M : Type 1} → statement M
-+group-spec = close μ-group λ t. group-lts.spec (
-  lone-reads.Asked,
-  lone-reads.Learnt,
-  split-reads.Asked,
-  split-reads.Learnt,
-  run-at-reads.Asked,
-  run-at-reads.Learnt,
-  group-below t,
-  group.Post,
-  with-under-reads.Asked,
-  with-under-reads.Learnt,
-  put-run-reads.Asked,
-  put-run-reads.Learnt,
-  finish-reads.Asked,
-  finish-reads.Learnt,
-)
++group-spec = close μ-group λ t. group-lts.spec (claims t)
     (group-at t)
     group.Post
     group-Inv-loop

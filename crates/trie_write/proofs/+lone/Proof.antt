@@ -27,233 +27,112 @@ lone-at t = and 4 lone-kinds.ps (is 4 lone-kinds.ps μ-lone t) lone.Pre
 abbrev lone-below : ℕ → In 4 lone-kinds.ps
 lone-below t = and 4 lone-kinds.ps (falls 4 lone-kinds.ps _<_ μ-lone t) lone.Pre
 
-lone-shared-slice-read-all : (t : ℕ) → lone-lts.Need-shared-slice-read-all (
-  cut-reads.Asked,
-  cut-reads.Learnt,
-  lone-below t,
-  lone.Post,
-  finish-one-reads.Asked,
-  finish-one-reads.Learnt,
-) (lone-at t) lone.Post
-lone-shared-slice-read-all t c = omega (arith, row-low (c .before .before .before .before .before .pre .1))
+-- The function, where its measure is t.
+module _ (t : ℕ) where
+  abbrev claims : lone-lts.Claims
+  claims = (
+    cut-reads.Asked,
+    cut-reads.Learnt,
+    lone-below t,
+    lone.Post,
+    finish-one-reads.Asked,
+    finish-one-reads.Learnt,
+  )
 
-lone-cast-all : (t : ℕ) → lone-lts.Need-cast-all (
-  cut-reads.Asked,
-  cut-reads.Learnt,
-  lone-below t,
-  lone.Post,
-  finish-one-reads.Asked,
-  finish-one-reads.Learnt,
-) (lone-at t) lone.Post
-lone-cast-all t c = omega (arith, row-long (c .before .before .before .before .before .pre .1) .1)
+  lone-shared-slice-read-all : lone-lts.Need-shared-slice-read-all claims (lone-at t) lone.Post
+  lone-shared-slice-read-all c = omega (arith, row-low (c .before .before .before .before .before .pre .1))
 
-lone-sub-cut : (t : ℕ) → lone-lts.Need-sub-cut (
-  cut-reads.Asked,
-  cut-reads.Learnt,
-  lone-below t,
-  lone.Post,
-  finish-one-reads.Asked,
-  finish-one-reads.Learnt,
-) (lone-at t) lone.Post
-lone-sub-cut t c = omega (arith, row-long (c .before .before .before .before .before .pre .1) .0)
+  lone-cast-all : lone-lts.Need-cast-all claims (lone-at t) lone.Post
+  lone-cast-all c = omega (arith, row-long (c .before .before .before .before .before .pre .1) .1)
 
-lone-cut-requires : (t : ℕ) → lone-lts.Need-cut-requires (
-  cut-reads.Asked,
-  cut-reads.Learnt,
-  lone-below t,
-  lone.Post,
-  finish-one-reads.Asked,
-  finish-one-reads.Learnt,
-) (lone-at t) lone.Post
-lone-cut-requires t c κs = tt
+  lone-sub-cut : lone-lts.Need-sub-cut claims (lone-at t) lone.Post
+  lone-sub-cut c = omega (arith, row-long (c .before .before .before .before .before .pre .1) .0)
 
-lone-returns : (t : ℕ) → lone-lts.Need-returns (
-  cut-reads.Asked,
-  cut-reads.Learnt,
-  lone-below t,
-  lone.Post,
-  finish-one-reads.Asked,
-  finish-one-reads.Learnt,
-) (lone-at t) lone.Post
-lone-returns t c = let k = c .before in
-    lone-none (k .before .before .before .before .before .before .pre .1) (sym (k .cut .ensures) ∙ c .if1 .taken)
+  lone-cut-requires : lone-lts.Need-cut-requires claims (lone-at t) lone.Post
+  lone-cut-requires c κs = tt
 
-lone-mul-high : (t : ℕ) → lone-lts.Need-mul-high (
-  cut-reads.Asked,
-  cut-reads.Learnt,
-  lone-below t,
-  lone.Post,
-  finish-one-reads.Asked,
-  finish-one-reads.Learnt,
-) (lone-at t) lone.Post
-lone-mul-high t c = let s = c .before .before .before .before .before .before .before .pre .1 in
-    omega (arith, row-low s, s .able .table .few)
+  lone-returns : lone-lts.Need-returns claims (lone-at t) lone.Post
+  lone-returns c = let k = c .before in
+      lone-none (k .before .before .before .before .before .before .pre .1) (sym (k .cut .ensures) ∙ c .if1 .taken)
 
-lone-shared-slice-read-high : (t : ℕ) → lone-lts.Need-shared-slice-read-high (
-  cut-reads.Asked,
-  cut-reads.Learnt,
-  lone-below t,
-  lone.Post,
-  finish-one-reads.Asked,
-  finish-one-reads.Learnt,
-) (lone-at t) lone.Post
-lone-shared-slice-read-high t c = let s = c .before .before .before .before .before .before .before .before .pre .1 in
-    omega (arith, row-low s, s .able .table .scored)
+  lone-mul-high : lone-lts.Need-mul-high claims (lone-at t) lone.Post
+  lone-mul-high c = let s = c .before .before .before .before .before .before .before .pre .1 in
+      omega (arith, row-low s, s .able .table .few)
 
-lone-add-lone : (t : ℕ) → lone-lts.Need-add-lone (
-  cut-reads.Asked,
-  cut-reads.Learnt,
-  lone-below t,
-  lone.Post,
-  finish-one-reads.Asked,
-  finish-one-reads.Learnt,
-) (lone-at t) lone.Post
-lone-add-lone t c = let k = c .before .before in let s = k .before .before .before .before .before .before .pre .1 in
-    omega (arith, k .cut .ensures, row-long s .0, row-long s .1)
+  lone-shared-slice-read-high : lone-lts.Need-shared-slice-read-high claims (lone-at t) lone.Post
+  lone-shared-slice-read-high c = let s = c .before .before .before .before .before .before .before .before .pre .1 in
+      omega (arith, row-low s, s .able .table .scored)
 
-lone-lone-requires : (t : ℕ) → lone-lts.Need-lone-requires (
-  cut-reads.Asked,
-  cut-reads.Learnt,
-  lone-below t,
-  lone.Post,
-  finish-one-reads.Asked,
-  finish-one-reads.Learnt,
-) (lone-at t) lone.Post
-lone-lone-requires t c κs =
-    let e = c .before .before in
-    let k = e .before in
-    let s = k .before .before .before .before .before .before in (
-      subst (λ (x : ℕ). longestName - (s .args .d + k .cut .result) < x) (s .pre .0)
-          (lone-falls (s .pre .1) (k .cut .ensures) (e .if1 .left)),
-      lone-ready (s .pre .1) (k .cut .ensures) (e .if1 .left) (s .args .dst .now) refl,
-    )
+  lone-add-lone : lone-lts.Need-add-lone claims (lone-at t) lone.Post
+  lone-add-lone c = let k = c .before .before in let s = k .before .before .before .before .before .before .pre .1 in
+      omega (arith, k .cut .ensures, row-long s .0, row-long s .1)
 
-lone-cast-t21 : (t : ℕ) → lone-lts.Need-cast-t21 (
-  cut-reads.Asked,
-  cut-reads.Learnt,
-  lone-below t,
-  lone.Post,
-  finish-one-reads.Asked,
-  finish-one-reads.Learnt,
-) (lone-at t) lone.Post
-lone-cast-t21 t c = let s = c .before .before .before .before .before .before .before .before .before .before .before
-    .before .pre .1 in omega (arith, row-low s, s .able .table .few)
+  lone-lone-requires : lone-lts.Need-lone-requires claims (lone-at t) lone.Post
+  lone-lone-requires c κs =
+      let e = c .before .before in
+      let k = e .before in
+      let s = k .before .before .before .before .before .before in (
+        subst (λ (x : ℕ). longestName - (s .args .d + k .cut .result) < x) (s .pre .0)
+            (lone-falls (s .pre .1) (k .cut .ensures) (e .if1 .left)),
+        lone-ready (s .pre .1) (k .cut .ensures) (e .if1 .left) (s .args .dst .now) refl,
+      )
 
-lone-add-t18 : (t : ℕ) → lone-lts.Need-add-t18 (
-  cut-reads.Asked,
-  cut-reads.Learnt,
-  lone-below t,
-  lone.Post,
-  finish-one-reads.Asked,
-  finish-one-reads.Learnt,
-) (lone-at t) lone.Post
-lone-add-t18 t c = let s = c .before .before .before .before .before .before .before .before .before .before .before
-    .before .pre .1 in omega (arith, row-low s, s .able .table .few)
+  lone-cast-t21 : lone-lts.Need-cast-t21 claims (lone-at t) lone.Post
+  lone-cast-t21 c = let s = c .before .before .before .before .before .before .before .before .before .before .before
+      .before .pre .1 in omega (arith, row-low s, s .able .table .few)
 
-lone-cast-t24 : (t : ℕ) → lone-lts.Need-cast-t24 (
-  cut-reads.Asked,
-  cut-reads.Learnt,
-  lone-below t,
-  lone.Post,
-  finish-one-reads.Asked,
-  finish-one-reads.Learnt,
-) (lone-at t) lone.Post
-lone-cast-t24 t c = let s = c .before .before .before .before .before .before .before .before .before .before .before
-    .before .pre .1 in omega (arith, row-low s, s .able .table .few)
+  lone-add-t18 : lone-lts.Need-add-t18 claims (lone-at t) lone.Post
+  lone-add-t18 c = let s = c .before .before .before .before .before .before .before .before .before .before .before
+      .before .pre .1 in omega (arith, row-low s, s .able .table .few)
 
-lone-cast-t25 : (t : ℕ) → lone-lts.Need-cast-t25 (
-  cut-reads.Asked,
-  cut-reads.Learnt,
-  lone-below t,
-  lone.Post,
-  finish-one-reads.Asked,
-  finish-one-reads.Learnt,
-) (lone-at t) lone.Post
-lone-cast-t25 t c = omega (arith, c .before .before .before .before .before .before .cut .ensures)
+  lone-cast-t24 : lone-lts.Need-cast-t24 claims (lone-at t) lone.Post
+  lone-cast-t24 c = let s = c .before .before .before .before .before .before .before .before .before .before .before
+      .before .pre .1 in omega (arith, row-low s, s .able .table .few)
 
-lone-sub-t26 : (t : ℕ) → lone-lts.Need-sub-t26 (
-  cut-reads.Asked,
-  cut-reads.Learnt,
-  lone-below t,
-  lone.Post,
-  finish-one-reads.Asked,
-  finish-one-reads.Learnt,
-) (lone-at t) lone.Post
-lone-sub-t26 t c = omega (arith, c .before .before .lone .ensures .end)
+  lone-cast-t25 : lone-lts.Need-cast-t25 claims (lone-at t) lone.Post
+  lone-cast-t25 c = omega (arith, c .before .before .before .before .before .before .cut .ensures)
 
-lone-cast-t27 : (t : ℕ) → lone-lts.Need-cast-t27 (
-  cut-reads.Asked,
-  cut-reads.Learnt,
-  lone-below t,
-  lone.Post,
-  finish-one-reads.Asked,
-  finish-one-reads.Learnt,
-) (lone-at t) lone.Post
-lone-cast-t27 t c =
-    let e = c .before .before .before .before .before in
-    let k = e .before in
-    omega (
-      arith,
-      lone-low (k .before .before .before .before .before .before .pre .1) (k .cut .ensures) (e .if1 .left)
-          refl (c .before .before .lone .ensures),
-    )
+  lone-sub-t26 : lone-lts.Need-sub-t26 claims (lone-at t) lone.Post
+  lone-sub-t26 c = omega (arith, c .before .before .lone .ensures .end)
 
-lone-finish-one-requires : (t : ℕ) → lone-lts.Need-finish-one-requires (
-  cut-reads.Asked,
-  cut-reads.Learnt,
-  lone-below t,
-  lone.Post,
-  finish-one-reads.Asked,
-  finish-one-reads.Learnt,
-) (lone-at t) lone.Post
-lone-finish-one-requires t c κs =
-    let o = c .before in
-    let e = o .before .before .before .before .before in
-    let k = e .before in
-    lone-finish (k .before .before .before .before .before .before .pre .1) (k .cut .ensures) (e .if1 .left) refl
-    (o .before .before .lone .ensures)
+  lone-cast-t27 : lone-lts.Need-cast-t27 claims (lone-at t) lone.Post
+  lone-cast-t27 c =
+      let e = c .before .before .before .before .before in
+      let k = e .before in
+      omega (
+        arith,
+        lone-low (k .before .before .before .before .before .before .pre .1) (k .cut .ensures) (e .if1 .left)
+            refl (c .before .before .lone .ensures),
+      )
 
-lone-same-length : (t : ℕ) → lone-lts.Need-same-length (
-  cut-reads.Asked,
-  cut-reads.Learnt,
-  lone-below t,
-  lone.Post,
-  finish-one-reads.Asked,
-  finish-one-reads.Learnt,
-) (lone-at t) lone.Post
-lone-same-length t c =
-    let f = c .before .before in
-    let o = f .before .before in
-    let e = o .before .before .before .before .before in
-    let k = e .before in
-    ap length (lone-grouped (k .before .before .before .before .before .before .pre .1) (k .cut .ensures)
-    (e .if1 .left) refl (o .before .before .lone .ensures) (f .finish-one .ensures) .bytes) ∙ length-put _ _ _ _
+  lone-finish-one-requires : lone-lts.Need-finish-one-requires claims (lone-at t) lone.Post
+  lone-finish-one-requires c κs =
+      let o = c .before in
+      let e = o .before .before .before .before .before in
+      let k = e .before in
+      lone-finish (k .before .before .before .before .before .before .pre .1) (k .cut .ensures) (e .if1 .left) refl
+      (o .before .before .lone .ensures)
 
-lone-returns-2 : (t : ℕ) → lone-lts.Need-returns-2 (
-  cut-reads.Asked,
-  cut-reads.Learnt,
-  lone-below t,
-  lone.Post,
-  finish-one-reads.Asked,
-  finish-one-reads.Learnt,
-) (lone-at t) lone.Post
-lone-returns-2 t c =
-    let f = c .before .before in
-    let o = f .before .before in
-    let e = o .before .before .before .before .before in
-    let k = e .before in
-    lone-grouped (k .before .before .before .before .before .before .pre .1) (k .cut .ensures) (e .if1 .left) refl
-    (o .before .before .lone .ensures) (f .finish-one .ensures)
+  lone-same-length : lone-lts.Need-same-length claims (lone-at t) lone.Post
+  lone-same-length c =
+      let f = c .before .before in
+      let o = f .before .before in
+      let e = o .before .before .before .before .before in
+      let k = e .before in
+      ap length (lone-grouped (k .before .before .before .before .before .before .pre .1) (k .cut .ensures)
+      (e .if1 .left) refl (o .before .before .lone .ensures) (f .finish-one .ensures) .bytes) ∙ length-put _ _ _ _
+
+  lone-returns-2 : lone-lts.Need-returns-2 claims (lone-at t) lone.Post
+  lone-returns-2 c =
+      let f = c .before .before in
+      let o = f .before .before in
+      let e = o .before .before .before .before .before in
+      let k = e .before in
+      lone-grouped (k .before .before .before .before .before .before .pre .1) (k .cut .ensures) (e .if1 .left) refl
+      (o .before .before .lone .ensures) (f .finish-one .ensures)
 
 pub +lone-spec : {M : Type 1} → statement M
-+lone-spec = close μ-lone λ t. lone-lts.spec (
-  cut-reads.Asked,
-  cut-reads.Learnt,
-  lone-below t,
-  lone.Post,
-  finish-one-reads.Asked,
-  finish-one-reads.Learnt,
-)
++lone-spec = close μ-lone λ t. lone-lts.spec (claims t)
     (lone-at t)
     lone.Post
     (lone-shared-slice-read-all t)

@@ -3,7 +3,7 @@
 use mathlib.Core.Path.{_∙_, ap, sym}
 use borrow.Author.Needs.{needs}
 use Rattle.trie_write_runs.specs.Runs.{firstHigh}
-use Rattle.trie_write_runs.proofs.Runs.{held-end, held-next, within}
+use Rattle.trie_write_runs.proofs.Runs.{kept-end, kept-next, within}
 use Rattle.trie_write_runs.proofs.score_at.Statement.{statement}
 use Rattle.trie_write_runs.proofs.score_at.Tie as tie
 
@@ -17,10 +17,10 @@ returns : tie.Need-returns
 returns c =
     let a = c .before in
     let t = a .before in
-    ap (λ r. r .high) (a .run-at .ensures) ∙ sym (ap firstHigh (held-next (t .before .before .pre) (t .if1 .taken)))
+    ap (λ r. r .high) (a .run-at .ensures) ∙ sym (ap firstHigh (kept-next (t .before .before .pre) (t .if1 .taken)))
 
 returns-2 : tie.Need-returns-2
-returns-2 c = sym (ap firstHigh (held-end (c .before .before .pre) _ (c .if1 .left)))
+returns-2 c = sym (ap firstHigh (kept-end (c .before .before .pre) _ (c .if1 .left)))
 
 pub score-at-spec : {M : Type 1} → statement M
 score-at-spec = tie.close (tie.spec run-at-requires cast-result returns returns-2)
