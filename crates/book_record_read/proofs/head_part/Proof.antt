@@ -16,6 +16,9 @@ use Rattle.book_record_read.proofs.head_part.Statement.{statement}
 use Rattle.book_record_read.proofs.head_part.Tie as tie
 
 -- places that the proofs below look back to
+abbrev else2 : tie.After-is-below → tie.Else2
+else2 c = c .before .before .before .before
+
 abbrev begin : tie.Else2 → tie.Start
 begin c = c .before .before .before .before .before
 
@@ -38,7 +41,7 @@ named : (c : tie.After-is-name) → isName (W (c .before .before)) ≡ c .is-nam
 named c = let p = c .before .before in rw (part-bytes (S p) 1 (getD (S p) 0 0)) at (sym (c .is-name .ensures))
 
 tested : (c : tie.After-is-below)
-    → let p = c .before .before .before .before in headTest (P p) (S p) ≡ c .is-below .result
+    → let p = else2 c in headTest (P p) (S p) ≡ c .is-below .result
 tested c =
     let m = c .before .before in
     let p = m .before .before in

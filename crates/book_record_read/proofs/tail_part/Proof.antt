@@ -16,6 +16,9 @@ use Rattle.book_record_read.proofs.tail_part.Statement.{statement}
 use Rattle.book_record_read.proofs.tail_part.Tie as tie
 
 -- places that the proofs below look back to
+abbrev else3-of-goes-above : tie.After-goes-above → tie.Else3
+else3-of-goes-above c = c .before .before .before .before .before .before .before
+
 abbrev else3 : tie.After-is-prefix → tie.Else3
 else3 c = c .before .before .before .before
 
@@ -55,12 +58,12 @@ numbers :
     tailTest (P p) (S p) ≡ (isPrefix (R p) && goesAbove (P p) (K p) (getD (R p) 0 0))
 numbers c = rw (bytes (c .before .before), le-leb _ _ (c .before .if4 .left), le-leb _ _ (c .if5 .left))
 
-allowed : (c : tie.After-is-prefix) → isPrefix (R (c .before .before .before .before)) ≡ c .is-prefix .result
+allowed : (c : tie.After-is-prefix) → isPrefix (R (else3 c)) ≡ c .is-prefix .result
 allowed c = let p = else3 c in rw (part-bytes (S p) 2 (N p)) at (sym (c .is-prefix .ensures))
 
 tested :
     (c : tie.After-goes-above)
-    → let p = c .before .before .before .before .before .before .before in
+    → let p = else3-of-goes-above c in
     tailTest (P p) (S p) ≡ c .goes-above .result
 tested c =
     let m = c .before .before .before in

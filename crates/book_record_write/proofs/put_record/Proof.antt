@@ -30,7 +30,7 @@ else1 c = c .before .before .before .before
 -- which form the record has
 headed :
     (c : tie.Then1)
-    → let a = c .before .before .before .before .before .args in
+    → let a = begin c .args in
     recordOf bucketHead (a .index) (a .prev .now) (a .name .now) ≡ headRecord (a .name .now)
 headed c =
     let a = begin c .args in
@@ -38,7 +38,7 @@ headed c =
 
 tailed :
     (c : tie.Else1)
-    → let a = c .before .before .before .before .before .args in
+    → let a = begin-of-else1 c .args in
     recordOf bucketHead (a .index) (a .prev .now) (a .name .now) ≡ tailRecord (a .prev .now) (a .name .now)
 tailed c =
     let a = begin-of-else1 c .args in

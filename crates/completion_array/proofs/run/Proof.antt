@@ -1,6 +1,6 @@
 -- `completion_array::run` meets its contract. The loop's invariant: the machine goes on as it would have from the start
 -- (completion_turn/proofs/Turning). The measure is the number of turns left. Assumes nothing.
-use mathlib.Core.Path.{_∙_, _≡_}
+use mathlib.Core.Path.{_∙_, _≡_, subst, sym}
 use mathlib.Core.Bool.{true}
 use lib.ListN.{length}
 use native.Mathlib.Omega.{arith}
@@ -23,6 +23,9 @@ abbrev μ-loop : tie.MeasureT-loop
 μ-loop book p₀ q₀ p q = p .turns
 
 -- places that the proofs below look back to
+abbrev begin-of-turn : tie.After-turn Inv-loop μ-loop → tie.Start Inv-loop μ-loop
+begin-of-turn c = c .before .before .before .before .before .before .before
+
 abbrev begin : tie.Then1 Inv-loop μ-loop → tie.Start Inv-loop μ-loop
 begin c = c .before .before .before .before
 
@@ -40,28 +43,28 @@ sixteen : (t : tie.Then1 Inv-loop μ-loop) → length (t .before .before .loop .
 sixteen t = t .before .before .loop .inv .size ∙ slots (begin t)
 
 going : (t : tie.Then1 Inv-loop μ-loop)
-    → Going (inBook (t .before .before .before .before .args .book .now)) (t .before .before .loop .q .ranges)
-    (t .before .before .loop .p)
+    → Going (inBook (begin t .args .book .now)) (t .before .before .loop .q .ranges) (t .before .before .loop .p)
 going t = t .before .before .loop .inv .ready (t .if1 .taken)
 
 held : (t : tie.Then1 Inv-loop μ-loop)
-    → Held (t .before .before .before .before .args .book .now)
-    (t .before .before .before .before .args .start .entries)
+    → Held (begin t .args .book .now) (begin t .args .start .entries)
 held t = begin t .pre .held (t .before .before .loop .inv .before (t .if1 .taken))
 
-names : (t : tie.Then1 Inv-loop μ-loop) → rising (inBook (t .before .before .before .before .args .book .now)) ≡ true
+names : (t : tie.Then1 Inv-loop μ-loop) → rising (inBook (begin t .args .book .now)) ≡ true
 names t = held-valid (held t) .order
 
 -- one turn from there
 moved : (c : tie.After-turn Inv-loop μ-loop)
-    → GoesOn (inBook (c .before .before .before .before .before .before .before .args .book .now))
-    (c .before .before .before .before .before .loop .q .ranges) (c .before .before .before .before .before .loop .p)
+    → GoesOn (inBook (begin-of-turn c .args .book .now))
+    (at-loop c .loop .q .ranges) (at-loop c .loop .p)
     (c .before .before .take-best .result .queue .ranges) (c .turn .result)
 moved c =
     let k = c .before .before in
     let t = k .before in
-    rw (k .take-best .ensures .1) (turned (names t) (going t) (t .if1 .taken)
-    (rw (k .take-best .ensures .0) at (c .turn .ensures)))
+    let l = at-loop c .loop in
+    subst (λ ys. GoesOn (inBook (begin t .args .book .now)) (l .q .ranges) (l .p) ys (c .turn .result))
+    (sym (k .take-best .ensures .1))
+    (turned (names t) (going t) (t .if1 .taken) (rw (k .take-best .ensures .0) at (c .turn .ensures)))
 
 take-best-requires : tie.Need-take-best-requires Inv-loop μ-loop
 take-best-requires c κs =

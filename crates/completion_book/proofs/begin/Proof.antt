@@ -26,7 +26,7 @@ returns : tie.Need-returns
 returns c =
     let t = c .before in
     let q = t .before in
-    let z = q .before .before .before .before in
+    let z = begin-of-place2 q in
     rw (
       c .idle .ensures,
       match-none (inBook (z .args .book .now)) (z .args .prefix .now)
@@ -51,7 +51,7 @@ returns-2 : tie.Need-returns-2
 returns-2 c =
     let t = c .before in
     let q = t .before in
-    let z = q .before .before .before .before in
+    let z = begin-of-place2 q in
     rw (begun-some _ _ (held-valid (z .pre) .order) (q .before .place .ensures) (q .place2 .ensures) (t .if1 .left)
     (c .open-range .ensures))
 

@@ -11,6 +11,9 @@ use Rattle.completion_book.proofs.complete_in.Statement.{statement}
 use Rattle.completion_book.proofs.complete_in.Tie as tie
 
 -- places that the proofs below look back to
+abbrev begin-of-no-ranges : tie.After-no-ranges → tie.Start
+begin-of-no-ranges c = c .before .before .before .before .before
+
 abbrev begin : tie.After-run → tie.Start
 begin c = c .before .before .before .before .before .before
 
@@ -22,13 +25,13 @@ no-ranges-requires c κs = tt
 
 run-requires : tie.Need-run-requires
 run-requires c κs =
-    let z = c .before .before .before .before .before in
+    let z = begin-of-no-ranges c in
     rw (c .before .start-machine .ensures, c .no-ranges .ensures)
     (asked-runs (z .args .book .now) (z .args .prefix .now) (z .args .k) (z .args .dst .now) (z .args .k)
     (replicate 16 noRange) (λ l few. few))
 
 -- the machine has run from its start
-ran : (r : tie.After-run) → let z = r .before .before .before .before .before .before in
+ran : (r : tie.After-run) → let z = begin r in
     Ran (inBook (z .args .book .now)) (replicate 16 noRange)
     (begunAs (length (inBook (z .args .book .now))) (z .args .k)
     (asked (z .args .book .now) (z .args .prefix .now) (z .args .k) (length (z .args .dst .now)) (z .args .k)))
@@ -49,7 +52,7 @@ returns : tie.Need-returns
 returns c =
     let f = c .before .before in
     let r = f .before .before in
-    let z = r .before .before .before .before .before .before in
+    let z = begin r in
     rw (← complete-is (z .args .book .now) (z .args .prefix .now) (z .args .k) (z .args .dst .now) (z .args .k)
     (replicate 16 noRange) (r .run .result) (omega arith) (ran r)) (f .write-answer .ensures)
 

@@ -7,6 +7,10 @@ use Rattle.completion_book.proofs.Answering.{start-offers, start-runs}
 use Rattle.completion_book.proofs.offers.Statement.{statement}
 use Rattle.completion_book.proofs.offers.Tie as tie
 
+-- places that the proofs below look back to
+abbrev begin : tie.After-no-ranges → tie.Start
+begin c = c .before .before .before .before
+
 begin-requires : tie.Need-begin-requires
 begin-requires c κs = c .before .before .pre .0
 
@@ -15,7 +19,7 @@ no-ranges-requires c κs = tt
 
 run-requires : tie.Need-run-requires
 run-requires c κs =
-    let z = c .before .before .before .before in
+    let z = begin c in
     rw (c .before .begin .ensures, c .no-ranges .ensures)
     (start-runs _ (replicate 16 noRange) (z .pre .0) (z .pre .1) (z .pre .1))
 

@@ -58,7 +58,7 @@ returns : tie.Need-returns
 returns c =
     let p = c .before .before in
     let a = p .before in
-    let k = a .before .before .before .before in
+    let k = after-cursor-at a in
     let z = k .before .before .before in
     let e = entry-here (z .pre .0) (z .args .position) (z .pre .1) (k .cursor-at .ensures .0) (a .score-at .ensures)
     in (

@@ -11,16 +11,22 @@ use Rattle.completion_book.proofs.start_machine.Statement.{statement}
 use Rattle.completion_book.proofs.start_machine.Tie as tie
 
 -- places that the proofs below look back to
+abbrev begin : tie.After-n → tie.Start
+begin c = c .before .before .before .before .before
+
+abbrev begin-of-else1 : tie.Else1 → tie.Start
+begin-of-else1 c = c .before .before .before .before .before .before .before .before
+
 abbrev after-n : tie.Else5 → tie.After-n
 after-n c = c .before .before .before .before .before .before .before
 
 -- the book was checked
-held : (n : tie.After-n) → Held (n .before .before .before .before .before .args .book .now) (n .n .given .0 .0)
+held : (n : tie.After-n) → Held (begin n .args .book .now) (n .n .given .0 .0)
 held n = checked-held _ (n .before .before .check .ensures) (n .n .given .1)
 
 -- and the prefix is allowed
 allowed : (e : tie.Else1) → isPrefix
-    (e .before .before .before .before .before .before .before .before .args .prefix .now) ≡ true
+    (begin-of-else1 e .args .prefix .now) ≡ true
 allowed e = sym (e .before .is-prefix .ensures) ∙ not-false (e .before .is-prefix .result) (e .if1 .left)
 
 check-requires : tie.Need-check-requires

@@ -8,6 +8,9 @@ use Rattle.completion_turn.proofs.turn.Statement.{statement}
 use Rattle.completion_turn.proofs.turn.Tie as tie
 
 -- places that the proofs below look back to
+abbrev after-turns-left : tie.After-struct-known7 → tie.After-turns-left
+after-turns-left c = c .before .before .before .before
+
 abbrev after-parts-of : tie.After-struct-known5 → tie.After-parts-of
 after-parts-of c = c .before .before .before .before .before .before .before
 
@@ -66,10 +69,10 @@ add-t22 c =
 
 returns-2 : tie.Need-returns-2
 returns-2 c =
-    let p = c .before .before .before .before .before .before .before .before .before in
-    let z = p .before .before .before .before .before in
+    let p = after-parts-of-of-struct-known7 c in
+    let z = begin p in
     next (p .parts-of .result) (omega (arith, z .pre .some, p .before .if1 .left)) (p .parts-of .ensures)
-    (rw (c .before .before .before .before .turns-left .ensures))
+    (let e = after-turns-left c .turns-left .ensures in cc)
 
 pub turn-spec : {M : Type 1} → statement M
 turn-spec =

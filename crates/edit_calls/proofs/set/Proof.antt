@@ -17,18 +17,24 @@ use Rattle.edit_calls.proofs.set.Statement.{statement}
 use Rattle.edit_calls.proofs.set.Tie as tie
 
 -- places that the proofs below look back to
+abbrev begin : tie.After-n → tie.Start
+begin c = c .before .before .before .before .before .before
+
+abbrev begin-of-else1 : tie.Else1 → tie.Start
+begin-of-else1 c = c .before .before .before .before .before .before .before .before .before
+
 abbrev after-n : tie.After-look-up → tie.After-n
 after-n c = c .before .before .before .before
 
-held : (k : tie.After-n) → Held (k .before .before .before .before .before .before .args .book .now) (k .n .given .0 .0)
+held : (k : tie.After-n) → Held (begin k .args .book .now) (k .n .given .0 .0)
 held k = checked-held _ (k .before .before .check .ensures) (k .n .given .1)
 
 allowed : (e : tie.Else1) → isName
-    (e .before .before .before .before .before .before .before .before .before .args .name .now) ≡ true
+    (begin-of-else1 e .args .name .now) ≡ true
 allowed e = sym (e .before .is-name .ensures) ∙ not-false (e .before .is-name .result) (e .if1 .left)
 
 -- a score is a u32
-fits : (e : tie.Else1) → e .before .before .before .before .before .before .before .before .before .args .score <
+fits : (e : tie.Else1) → begin-of-else1 e .args .score <
     4294967296
 fits e = search needs
 

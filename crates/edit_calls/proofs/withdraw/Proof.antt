@@ -16,11 +16,18 @@ use Rattle.edit_write.proofs.Editing.{gone, gone-asked}
 use Rattle.edit_calls.proofs.withdraw.Statement.{statement}
 use Rattle.edit_calls.proofs.withdraw.Tie as tie
 
-held : (k : tie.After-n) → Held (k .before .before .before .before .before .before .args .book .now) (k .n .given .0 .0)
+-- places that the proofs below look back to
+abbrev begin : tie.After-n → tie.Start
+begin c = c .before .before .before .before .before .before
+
+abbrev begin-of-else1 : tie.Else1 → tie.Start
+begin-of-else1 c = c .before .before .before .before .before .before .before .before .before
+
+held : (k : tie.After-n) → Held (begin k .args .book .now) (k .n .given .0 .0)
 held k = checked-held _ (k .before .before .check .ensures) (k .n .given .1)
 
 allowed : (e : tie.Else1) → isName
-    (e .before .before .before .before .before .before .before .before .before .args .name .now) ≡ true
+    (begin-of-else1 e .args .name .now) ≡ true
 allowed e = sym (e .before .is-name .ensures) ∙ not-false (e .before .is-name .result) (e .if1 .left)
 
 check-requires : tie.Need-check-requires
@@ -59,7 +66,7 @@ unfolding withdrawEntry writingImage writing
 returns-3 c =
     let e = c .before .before in
     let h = held (e .before .before .before) in
-    let a = e .before .before .before .before .before .before .before .before .before .args in
+    let a = begin-of-else1 e .args in
     let t = not-found (a .name .now) (inBook (a .book .now)) (c .before .find-in .result) (c .before .find-in .ensures)
     (c .match2 .keys2) in
     record { answer = rw (h .isIt, allowed e, t); left = rw (h .isIt, allowed e, t) }

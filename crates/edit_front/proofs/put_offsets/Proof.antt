@@ -18,6 +18,9 @@ abbrev μ-loop : tie.MeasureT-loop
 μ-loop book n m dst₀ count old new j₀ dst j = m - j
 
 -- places that the proofs below look back to
+abbrev after-records-at : tie.After-offset-at Inv-loop μ-loop → tie.After-records-at Inv-loop μ-loop
+after-records-at c = c .before .before .before .before
+
 abbrev begin : tie.After-records-at2 Inv-loop μ-loop → tie.Start Inv-loop μ-loop
 begin c = c .before .before .before .before
 
@@ -33,7 +36,7 @@ bucket c = omega (arith, start c .pre .1, c .loop-test .taken)
 
 -- the offset that was read, moved
 low : (c : tie.After-offset-at Inv-loop μ-loop)
-    → c .before .before .before .before .records-at .result ≤ c .offset-at .result
+    → after-records-at c .records-at .result ≤ c .offset-at .result
 low c =
     let i = c .before in
     omega (
@@ -45,7 +48,7 @@ low c =
 
 high :
     (c : tie.After-offset-at Inv-loop μ-loop)
-    → c .offset-at .result - c .before .before .before .before .records-at .result + c .before .before .before
+    → c .offset-at .result - after-records-at c .records-at .result + c .before .before .before
     .records-at2 .result < 65536
 high c =
     let i = c .before in

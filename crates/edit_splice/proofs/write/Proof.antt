@@ -1,9 +1,12 @@
 -- `edit_splice::write` meets its contract: all entries of the result are put, and what is put is finished to the image.
 -- No loop. Assumes nothing.
-use mathlib.Core.Path.{_∙_, refl}
+use Prim.Native.Nat.{ℕ}
+use mathlib.Core.Path.{_∙_, _≡_, refl}
+use mathlib.Core.List.{List}
 use native.Mathlib.Omega.{arith}
 use borrow.Author.Needs.{needs}
 use Rattle.book.proofs.Size.{book-length}
+use Rattle.book_write.specs.Writing.{finished}
 use Rattle.edit_splice.specs.Splice.{splicedBook}
 use Rattle.edit_splice.proofs.Splice.{result-count}
 use Rattle.edit_splice.proofs.Passes.{parts-count, parts-few, parts-out}
@@ -40,6 +43,9 @@ finish-requires c κs =
       ),
     )
 
+finished-same : {t u n m : ℕ} (d : List ℕ) → t ≡ u → n ≡ m → finished t n d ≡ finished u m d
+finished-same d e f = cc
+
 same-length : tie.Need-same-length
 same-length c = search needs
 
@@ -47,13 +53,11 @@ returns : tie.Need-returns
 returns c =
     let f = c .before .before in
     let n = f .before in
-    let p = n .before .before .before .before in
+    let p = after-pass n in
     let z = start p in
-    f .finish .ensures ∙ rw (
-      z .pre .1,
-      n .count-after .ensures
-          ∙ result-count (z .pre .0),
-    ) (p .pass .ensures .bytes refl)
+    f .finish .ensures
+    ∙ finished-same _ (z .pre .1) (n .count-after .ensures ∙ result-count (z .pre .0))
+    ∙ p .pass .ensures .bytes refl
 
 pub write-spec : {M : Type 1} → statement M
 write-spec =

@@ -9,7 +9,11 @@ use Rattle.book_check.proofs.Held.{checked-damaged, checked-held}
 use Rattle.lookup_name_calls.proofs.find.Statement.{statement}
 use Rattle.lookup_name_calls.proofs.find.Tie as tie
 
-held : (k : tie.After-n) → Held (k .before .before .before .before .before .args .book .now) (k .n .given .0 .0)
+-- places that the proofs below look back to
+abbrev begin : tie.After-n → tie.Start
+begin c = c .before .before .before .before .before
+
+held : (k : tie.After-n) → Held (begin k .args .book .now) (k .n .given .0 .0)
 held k = checked-held _ (k .before .before .check .ensures) (k .n .given .1)
 
 check-requires : tie.Need-check-requires

@@ -17,17 +17,20 @@ use Rattle.lookup_name_calls.proofs.name_of.Statement.{statement}
 use Rattle.lookup_name_calls.proofs.name_of.Tie as tie
 
 -- places that the proofs below look back to
+abbrev begin-of-n : tie.After-n → tie.Start
+begin-of-n c = c .before .before .before .before .before .before
+
 abbrev begin : tie.Else1 → tie.Start
 begin c = c .before .before .before .before .before .before .before .before .before
 
 abbrev else1 : tie.After-write-entry-arg → tie.Else1
 else1 c = c .before .before .before .before .before
 
-held : (k : tie.After-n) → Held (k .before .before .before .before .before .before .args .book .now) (k .n .given .0 .0)
+held : (k : tie.After-n) → Held (begin-of-n k .args .book .now) (k .n .given .0 .0)
 held k = checked-held _ (k .before .before .check .ensures) (k .n .given .1)
 
 allowed : (e : tie.Else1) → isName
-    (e .before .before .before .before .before .before .before .before .before .args .name .now) ≡ true
+    (begin e .args .name .now) ≡ true
 allowed e = sym (e .before .is-name .ensures) ∙ not-false (e .before .is-name .result) (e .if1 .left)
 
 check-requires : tie.Need-check-requires

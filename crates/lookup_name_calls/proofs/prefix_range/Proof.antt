@@ -12,10 +12,13 @@ use Rattle.lookup_name_calls.proofs.prefix_range.Statement.{statement}
 use Rattle.lookup_name_calls.proofs.prefix_range.Tie as tie
 
 -- places that the proofs below look back to
+abbrev begin : tie.After-n → tie.Start
+begin c = c .before .before .before .before .before
+
 abbrev after-n : tie.After-place → tie.After-n
 after-n c = c .before .before .before .before
 
-held : (k : tie.After-n) → Held (k .before .before .before .before .before .args .book .now) (k .n .given .0 .0)
+held : (k : tie.After-n) → Held (begin k .args .book .now) (k .n .given .0 .0)
 held k = checked-held _ (k .before .before .check .ensures) (k .n .given .1)
 
 check-requires : tie.Need-check-requires

@@ -17,10 +17,13 @@ use Rattle.lookup_number_calls.proofs.name_at.Statement.{statement}
 use Rattle.lookup_number_calls.proofs.name_at.Tie as tie
 
 -- places that the proofs below look back to
+abbrev begin : tie.After-n → tie.Start
+begin c = c .before .before .before .before .before
+
 abbrev after-cursor-at : tie.After-write-entry-arg → tie.After-cursor-at
 after-cursor-at c = c .before .before .before .before
 
-held : (k : tie.After-n) → Held (k .before .before .before .before .before .args .book .now) (k .n .given .0 .0)
+held : (k : tie.After-n) → Held (begin k .args .book .now) (k .n .given .0 .0)
 held k = checked-held _ (k .before .before .check .ensures) (k .n .given .1)
 
 -- the array is 48 bytes long

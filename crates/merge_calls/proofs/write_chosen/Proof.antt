@@ -2,7 +2,7 @@
 -- entries are put, and what is put is finished to the image (proofs/Whole).
 -- No loop. Assumes nothing.
 use Prim.Native.Nat.{_+_, _≤_}
-use mathlib.Core.Path.{_≡_}
+use mathlib.Core.Path.{_∙_, _≡_}
 use lib.ListN.{length}
 use native.Mathlib.Omega.{arith}
 use borrow.Author.Needs.{needs}
@@ -12,6 +12,10 @@ use Rattle.merge.specs.Joined.{mergedEntries}
 use Rattle.merge_calls.proofs.Whole.{whole-image, whole-length, whole-small, write-room}
 use Rattle.merge_calls.proofs.write_chosen.Statement.{statement}
 use Rattle.merge_calls.proofs.write_chosen.Tie as tie
+
+-- places that the proofs below look back to
+abbrev after-pass : tie.After-finish → tie.After-pass
+after-pass c = c .before .before .before .before
 
 -- the entry, from where the records' start is known; the bytes needed
 abbrev start : tie.After-records-at → tie.Start
@@ -56,7 +60,7 @@ same-length c = search needs
 returns-2 : tie.Need-returns-2
 returns-2 c =
     let f = c .before .before in
-    let p = f .before .before .before .before in
+    let p = after-pass f in
     let r = known p in
     let z = start r in
     let q = z .pre in
@@ -66,7 +70,7 @@ returns-2 c =
     ) in
     whole-written (mergedEntries (z .args .first .now) (z .args .second .now)) (z .args .dst .now) _ (q .2) (total r)
     fits
-    (rw (f .finish .ensures) (whole-image (q .0) (q .1) (q .2) (q .3) (r .records-at .ensures) fits (p .pass .ensures)))
+    (f .finish .ensures ∙ whole-image (q .0) (q .1) (q .2) (q .3) (r .records-at .ensures) fits (p .pass .ensures))
 
 pub write-chosen-spec : {M : Type 1} → statement M
 write-chosen-spec =

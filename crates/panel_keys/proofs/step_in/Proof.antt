@@ -13,6 +13,10 @@ use Rattle.panel_keys.proofs.Pressing.{accepted, act-ready, refused-as,
 use Rattle.panel_keys.proofs.step_in.Statement.{statement}
 use Rattle.panel_keys.proofs.step_in.Tie as tie
 
+-- places that the proofs below look back to
+abbrev begin : tie.After-enum-told → tie.Start
+begin c = c .before .before .before .before
+
 abbrev start : tie.After-is-typed → tie.Start
 start c = c .before .before .before .before .before .before
 
@@ -49,7 +53,7 @@ returns : tie.Need-returns
 unfolding press
 returns c =
     let t = c .before in
-    let z = t .before .before .before .before in
+    let z = begin t in
     refused-as (z .args .book .now) (z .args .p) (z .args .key) 1 (c .refuse .ensures)
     (rw (checked-damaged _ (t .before .before .check .ensures) (t .enum-told .given .1)))
 

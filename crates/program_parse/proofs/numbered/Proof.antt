@@ -19,7 +19,7 @@ begin c = c .before .before .before .before .before
 found :
     (v : tie.After-value)
     → number.Value (v .value .given .0 .0) (v .value .given .0 .1 .0)
-    ≡ numberAs (drop 4 (v .before .before .before .before .before .args .line .now))
+    ≡ numberAs (drop 4 (begin v .args .line .now))
 found v =
     let a = v .before .before in
     sym (v .value .given .1) ∙ (rw (to-end (a .before .before .before .args .line .now) 4) at

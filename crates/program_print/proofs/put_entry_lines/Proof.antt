@@ -31,7 +31,7 @@ in-loop-of-slice-known2 c = in-loop (c .before .before .before)
 -- the entry at the place of a turn
 stands :
     (i : tie.In-loop Inv-loop μ-loop)
-    → let a = i .before .before .before .before .args in
+    → let a = begin i .args in
     Here (a .answer .now) (sheetFrom (a .n) (a .answer .now)) (i .before .loop .i) (i .before .loop .at)
 stands i = offer-here (i .before .loop .inv) (begin i .pre .0) (i .loop-test .taken)
 

@@ -33,7 +33,7 @@ after-c c = c .before .before .before .before
 -- the entries offered, and the looks
 told :
     (k : tie.After-c2)
-    → Laid (k .c2 .given .0 .0) (k .before .before .before .before .args .answer .now) × (k .c2 .given .0 .1 .1 .0 ≤ 31)
+    → Laid (k .c2 .given .0 .0) (begin k .args .answer .now) × (k .c2 .given .0 .1 .1 .0 ≤ 31)
 told k =
     let s = begin k in
     offered-printable (s .args .answer .now) (k .c2 .given .1) (s .pre .0)

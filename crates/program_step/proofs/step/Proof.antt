@@ -6,6 +6,25 @@ use Rattle.program_step.proofs.Stepping.{rest-inside, step-as, step-bad
 use Rattle.program_step.proofs.step.Statement.{statement}
 use Rattle.program_step.proofs.step.Tie as tie
 
+-- places that the proofs below look back to
+abbrev after-step-edit : tie.After-slice-known6 → tie.After-step-edit
+after-step-edit c = c .before .before .before .before .before .before
+
+abbrev after-c : tie.After-step-edit → tie.After-c
+after-c c = c .before .before .before .before .before .before
+
+abbrev begin : tie.After-parse → tie.Start
+begin c = c .before .before .before .before .before
+
+abbrev after-step-edit2 : tie.After-slice-known9 → tie.After-step-edit2
+after-step-edit2 c = c .before .before .before .before .before .before
+
+abbrev after-c2 : tie.After-step-edit2 → tie.After-c2
+after-c2 c = c .before .before .before .before .before .before
+
+abbrev after-c3 : tie.After-step-top → tie.After-c3
+after-c3 c = c .before .before .before .before .before .before
+
 parse-requires : tie.Need-parse-requires
 parse-requires c κs = tt
 
@@ -71,10 +90,10 @@ same-length-3 c = search needs
 
 returns : tie.Need-returns
 returns c =
-    let q = c .before .before .before .before .before .before in
-    let k = q .before .before .before .before .before .before in
+    let q = after-step-edit c in
+    let k = after-c q in
     let a = k .before .before in
-    let line = a .before .before .before .before .before .args .line .now in
+    let line = begin a .args .line .now in
     step-as (a .parse .ensures) (k .c .given .1) (rw (to-end line (k .c .given .0 .1 .0)) at (q .step-edit .ensures))
 
 same-length-4 : tie.Need-same-length-4
@@ -88,10 +107,10 @@ same-length-6 c = search needs
 
 returns-2 : tie.Need-returns-2
 returns-2 c =
-    let q = c .before .before .before .before .before .before in
-    let k = q .before .before .before .before .before .before in
+    let q = after-step-edit2 c in
+    let k = after-c2 q in
     let a = k .before .before in
-    let line = a .before .before .before .before .before .args .line .now in
+    let line = begin a .args .line .now in
     step-as (a .parse .ensures) (k .c2 .given .1) (rw (to-end line (k .c2 .given .0 .0)) at (q .step-edit2 .ensures))
 
 same-length-7 : tie.Need-same-length-7
@@ -106,9 +125,9 @@ same-length-9 c = search needs
 returns-3 : tie.Need-returns-3
 returns-3 c =
     let q = c .before .before in
-    let k = q .before .before .before .before .before .before in
+    let k = after-c3 q in
     let a = k .before .before in
-    let line = a .before .before .before .before .before .args .line .now in
+    let line = begin a .args .line .now in
     step-as (a .parse .ensures) (k .c3 .given .1) (rw (to-end line (k .c3 .given .0 .1 .0)) at (q .step-top .ensures))
 
 same-length-10 : tie.Need-same-length-10

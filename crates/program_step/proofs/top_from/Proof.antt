@@ -8,6 +8,9 @@ use Rattle.program_step.proofs.top_from.Statement.{statement}
 use Rattle.program_step.proofs.top_from.Tie as tie
 
 -- places that the proofs below look back to
+abbrev after-complete-in : tie.After-print-top → tie.After-complete-in
+after-complete-in c = c .before .before .before .before
+
 abbrev begin : tie.After-complete-in → tie.Start
 begin c = c .before .before .before .before .before
 
@@ -36,8 +39,8 @@ same-length c = search needs
 returns : tie.Need-returns
 returns c =
     let q = c .before .before in
-    let d = q .before .before .before .before in
-    let a = d .before .before .before .before .before .args in
+    let d = after-complete-in q in
+    let a = begin d .args in
     let t = top-shown (a .book .now) (a .prefix .now) (replicate 848 0) (a .k) (length-replicate {A = ℕ} 848 0)
     (d .complete-in .ensures) .1 in
     rw t at (q .print-top .ensures)

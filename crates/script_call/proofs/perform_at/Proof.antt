@@ -9,10 +9,19 @@ use Rattle.script_call.proofs.perform_at.Statement.{statement}
 use Rattle.script_call.proofs.perform_at.Tie as tie
 
 -- places that the proofs below look back to
+abbrev after-perform : tie.After-slice-known4 → tie.After-perform
+after-perform c = c .before .before .before .before
+
+abbrev after-read-u16 : tie.After-perform → tie.After-read-u16
+after-read-u16 c = c .before .before .before .before
+
+abbrev begin-of-read-u16 : tie.After-read-u16 → tie.Start
+begin-of-read-u16 c = c .before .before .before .before .before .before
+
 abbrev begin : tie.After-shared-slice-known2 → tie.Start
 begin c = c .before .before .before .before
 
-stands : (k : tie.After-shared-slice-known2) → CallStands (k .before .before .before .before .args .s .now)
+stands : (k : tie.After-shared-slice-known2) → CallStands (begin k .args .s .now)
 stands k = call-stands _ (begin k .pre)
 
 shared-slice-read-set : tie.Need-shared-slice-read-set
@@ -50,9 +59,9 @@ same-length-2 c = search needs
 
 returns : tie.Need-returns
 returns c =
-    let p = c .before .before .before .before in
-    let n = p .before .before .before .before in
-    let s = n .before .before .before .before .before .before .args .s .now in
+    let p = after-perform c in
+    let n = after-read-u16 p in
+    let s = begin-of-read-u16 n .args .s .now in
     rw (call-parts s refl (part-name s (n .read-u16 .ensures)) (n .before .read-u32 .ensures)) at (p .perform .ensures)
 
 pub perform-at-spec : {M : Type 1} → statement M

@@ -35,7 +35,7 @@ write-u32-requires c κs = tt
 same-length : tie.Need-same-length
 same-length c =
     let w = c .before .before in
-    w .write-u32 .kept .0 ∙ w .before .before .before .before .write-u16 .kept .0 ∙ simp length-set
+    w .write-u32 .kept .0 ∙ after-write-u16 w .write-u16 .kept .0 ∙ simp length-set
 
 returns : tie.Need-returns
 returns c =

@@ -23,6 +23,9 @@ abbrev μ-loop : tie.MeasureT-loop
 μ-loop script first₀ second₀ out₀ at₀ slot₀ turned₀ first second out at slot turned = length script - at
 
 -- places that the proofs below look back to
+abbrev begin-of-at-loop : tie.At-loop Inv-loop μ-loop → tie.Start Inv-loop μ-loop
+begin-of-at-loop c = c .before .before .before .before .before
+
 abbrev begin : tie.After-slice-known3 Inv-loop μ-loop → tie.Start Inv-loop μ-loop
 begin c = c .before .before .before .before
 
@@ -47,13 +50,13 @@ found :
     (c : tie.After-call-length Inv-loop μ-loop)
     → let l = last c .before in
     c .call-length .result ≡ foundLength
-    (drop (l .loop .at) (l .before .before .before .before .before .args .script .now))
+    (drop (l .loop .at) (begin-of-at-loop l .args .script .now))
 found c = rw (to-end _ (last c .before .loop .at)) at (c .call-length .ensures)
 
 did :
     (p : tie.After-perform-at Inv-loop μ-loop)
     → let l = turn p .before in
-    Performed (callAt (drop (l .loop .at) (l .before .before .before .before .before .args .script .now)))
+    Performed (callAt (drop (l .loop .at) (begin-of-at-loop l .args .script .now)))
     (bench (l .loop .first) (l .loop .second) (l .loop .turned)) (p .perform-at .result) (p .perform-at .last .1 .1 .0)
     (p .perform-at .last .1 .1 .1 .0)
 did p = rw (to-end _ (turn p .before .loop .at)) at (p .perform-at .ensures)

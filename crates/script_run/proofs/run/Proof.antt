@@ -10,6 +10,9 @@ use Rattle.script_run.proofs.run.Statement.{statement}
 use Rattle.script_run.proofs.run.Tie as tie
 
 -- places that the proofs below look back to
+abbrev begin : tie.After-n → tie.Start
+begin c = c .before .before .before .before .before .before .before
+
 abbrev else3 : tie.After-play-arg3 → tie.Else3
 else3 c = c .before .before .before .before .before .before .before
 
@@ -23,7 +26,7 @@ after-play c = c .before .before .before .before .before .before
 found :
     (k : tie.After-n)
     → counted.Calls (k .n .given .0 .0) ≡ countedAs 0
-    (calls (k .before .before .before .before .before .before .before .args .script .now))
+    (calls (begin k .args .script .now))
 found k = sym (k .n .given .1) ∙ k .before .before .count-calls .ensures
 
 count-calls-requires : tie.Need-count-calls-requires

@@ -11,7 +11,11 @@ use Rattle.answer_write.proofs.Converting.{no-room, not-read, whole}
 use Rattle.sheet_calls.proofs.build.Statement.{statement}
 use Rattle.sheet_calls.proofs.build.Tie as tie
 
-held : (k : tie.After-n) → HeldSheet (k .before .before .before .before .before .args .sheet .now) (k .n .given .0 .0)
+-- places that the proofs below look back to
+abbrev begin : tie.After-n → tie.Start
+begin c = c .before .before .before .before .before
+
+held : (k : tie.After-n) → HeldSheet (begin k .args .sheet .now) (k .n .given .0 .0)
 held k = checked-held _ (k .before .before .check .ensures) (k .n .given .1)
 
 check-requires : tie.Need-check-requires

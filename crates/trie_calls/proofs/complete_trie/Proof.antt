@@ -18,6 +18,9 @@ use Rattle.trie_calls.proofs.complete_trie.Statement.{statement}
 use Rattle.trie_calls.proofs.complete_trie.Tie as tie
 
 -- places that the proofs below look back to
+abbrev begin-of-else1 : tie.Else1 → tie.Start
+begin-of-else1 c = c .before .before .before .before .before .before .before .before
+
 abbrev begin : tie.After-enum-told → tie.Start
 begin c = c .before .before .before .before .before .before
 
@@ -69,12 +72,12 @@ else4 c = c .before .before .before .before
 
 -- the trie was checked, and the prefix is allowed
 trie-there : (c : tie.After-enum-told)
-    → isTrie (c .before .before .before .before .before .before .args .trie .now) ≡ true
+    → isTrie (begin c .args .trie .now) ≡ true
 trie-there c = image-held (readTrie (begin c .args .trie .now))
     (c .before .before .check .ensures) (c .enum-told .given .1) .0
 
 prefix-there : (c : tie.Else1) → isPrefix
-    (c .before .before .before .before .before .before .before .before .args .prefix .now) ≡ true
+    (begin-of-else1 c .args .prefix .now) ≡ true
 prefix-there c = sym (c .before .is-prefix .ensures) ∙ not-false (c .before .is-prefix .result) (c .if1 .left)
 
 check-requires : tie.Need-check-requires

@@ -12,10 +12,16 @@ use Rattle.trie_calls.proofs.write_trie.Statement.{statement}
 use Rattle.trie_calls.proofs.write_trie.Tie as tie
 
 -- places that the proofs below look back to
+abbrev begin : tie.After-n → tie.Start
+begin c = c .before .before .before .before .before
+
+abbrev after-write-of-enum-told2 : tie.After-enum-told2 → tie.After-write
+after-write-of-enum-told2 c = c .before .before .before .before
+
 abbrev after-write : tie.After-total → tie.After-write
 after-write c = c .before .before .before .before
 
-held : (k : tie.After-n) → Held (k .before .before .before .before .before .args .book .now) (k .n .given .0 .0)
+held : (k : tie.After-n) → Held (begin k .args .book .now) (k .n .given .0 .0)
 held k = checked-held _ (k .before .before .check .ensures) (k .n .given .1)
 
 check-requires : tie.Need-check-requires
@@ -47,7 +53,7 @@ same-length c = search needs
 returns-2 : tie.Need-returns-2
 unfolding writeTrie
 returns-2 c =
-    let w = c .before .before .before .before in
+    let w = after-write-of-enum-told2 c in
     let h = held (w .before .before .before) in
     let t = told-short (w .write .ensures) (c .enum-told2 .given .1) in
     rw (t .1) (no-room readBook trieImage _ _ (h .isIt) (t .0))

@@ -27,7 +27,7 @@ long c = search (needs, length-mapped)
 split : (c : tie.Start) → waits (c .args .q) ≡ getD (c .args .q .nodes) 0 nowhere ∷ drop 1 (waits (c .args .q))
 split c = first-and-rest (c .args .q) (long c) (c .pre .some) (omega (arith, c .pre .few, c .pre .most-few))
 
-few-others : (c : tie.After-rest) → c .rest .result .count ≤ c .before .before .before .before .args .most
+few-others : (c : tie.After-rest) → c .rest .result .count ≤ begin c .args .most
 few-others c = omega (arith, c .rest .ensures .1, begin c .pre .few)
 
 array-copy-out-x : tie.Need-array-copy-out-x

@@ -49,13 +49,13 @@ zeros-long : length zeros ≡ 48
 zeros-long = length-replicate {A = ℕ} 48 0
 
 -- there are entries
-counted : (c : tie.Else1) → numberAt 2 (c .before .before .before .before .args .trie .now) 5 ≡ 0 → ⊥
+counted : (c : tie.Else1) → numberAt 2 (begin-of-else1 c .args .trie .now) 5 ≡ 0 → ⊥
 counted c q = c .if1 .left (c .before .read-u16 .ensures ∙ q)
 
 -- the first node
 first-is : (c : tie.After-arrive)
-    → c .arrive .result ≡ arriveAt (c .before .before .before .before .before .before .args .trie .now) zeros 0
-    (scoreFieldAt (c .before .before .before .before .before .before .args .trie .now) 7) 7 7
+    → c .arrive .result ≡ arriveAt (begin c .args .trie .now) zeros 0
+    (scoreFieldAt (begin c .args .trie .now) 7) 7 7
 first-is c = c .arrive .ensures
     ∙ ap (λ s. arriveAt (begin c .args .trie .now) zeros 0 s 7 7)
     (c .before .score-field .ensures)

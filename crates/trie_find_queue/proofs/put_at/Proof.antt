@@ -70,7 +70,7 @@ array-set-from-nodes-2 : tie.Need-array-set-from-nodes-2 Inv-loop μ-loop
 array-set-from-nodes-2 c = omega (arith, c .if1 .taken, begin-of-then1 c .pre .2)
 
 add-t18 : tie.Need-add-t18 Inv-loop μ-loop
-add-t18 c = let q : c .before .before .before .before .args .q .count ≤ 16 = omega (
+add-t18 c = let q : begin-of-then1 c .args .q .count ≤ 16 = omega (
   arith,
   begin-of-then1 c .pre .1,
   begin-of-then1 c .pre .2,

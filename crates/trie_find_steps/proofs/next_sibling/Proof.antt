@@ -11,6 +11,9 @@ use Rattle.trie_find_steps.proofs.next_sibling.Statement.{statement}
 use Rattle.trie_find_steps.proofs.next_sibling.Tie as tie
 
 -- places that the proofs below look back to
+abbrev after-behind-of-struct-known : tie.After-struct-known → tie.After-behind
+after-behind-of-struct-known c = c .before .before .before .before
+
 abbrev begin : tie.After-struct-known → tie.Start
 begin c = c .before .before .before .before .before .before .before
 
@@ -50,7 +53,7 @@ sub-len c = search needs
 score-field-requires : tie.Need-score-field-requires
 score-field-requires c κs =
     let z = begin c in
-    rw (← c .before .before .before .before .behind .ensures) at (z .pre .next .0)
+    rw (← after-behind-of-struct-known c .behind .ensures) at (z .pre .next .0)
 
 sub-score : tie.Need-sub-score
 sub-score c =
@@ -70,7 +73,7 @@ arrive-requires c κs =
     let e : frontOf bs x ≡ x .len - c .before .before .before .label-length .result = ap (λ n. x .len - n)
     (sym (c .before .before .before .label-length .ensures)) in
     let i : FitsPath bs (frontOf bs x) (after-behind c .behind .result) = rw
-    (← c .before .before .before .before .before .before .behind .ensures) at (z .pre .next) in
+    (← after-behind c .behind .ensures) at (z .pre .next) in
     (i .0, (rw e at (i .1)))
 
 returns : tie.Need-returns

@@ -21,6 +21,9 @@ abbrev μ-loop : tie.MeasureT-loop
 μ-loop trie prefix node₀ node = length trie - node .at
 
 -- places that the proofs below look back to
+abbrev begin-of-then1 : tie.Then1 Inv-loop μ-loop → tie.Start Inv-loop μ-loop
+begin-of-then1 c = c .before .before .before .before .before
+
 abbrev begin-of-only : tie.After-only Inv-loop μ-loop → tie.Start Inv-loop μ-loop
 begin-of-only c = c .before .before .before .before .before .before
 
@@ -41,7 +44,7 @@ at-loop-of-next-on-way c = at-loop-of-else2 (c .before)
 
 -- the prefix does not begin the node's path
 not-begun : (c : tie.Then1 Inv-loop μ-loop)
-    → begins (c .before .before .before .before .before .args .prefix .now) (pathOf (c .before .before .loop .node)) ≡
+    → begins (begin-of-then1 c .args .prefix .now) (pathOf (c .before .before .loop .node)) ≡
     false
 not-begun c = sym (c .before .is-begun .ensures) ∙ not-true (c .before .is-begun .result) (c .if1 .taken)
 

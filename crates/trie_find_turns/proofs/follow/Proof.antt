@@ -22,6 +22,9 @@ abbrev μ-loop : tie.MeasureT-loop
 μ-loop trie most node₀ queue₀ node queue = length trie - node .at
 
 -- places that the proofs below look back to
+abbrev begin-of-then1 : tie.Then1 Inv-loop μ-loop → tie.Start Inv-loop μ-loop
+begin-of-then1 c = c .before .before .before .before
+
 abbrev begin : tie.After-put-next Inv-loop μ-loop → tie.Start Inv-loop μ-loop
 begin c = c .before .before .before .before .before
 
@@ -36,7 +39,7 @@ at-loop c = c .before .before .before .before
 
 -- the node has children
 inner-of : (c : tie.Then1 Inv-loop μ-loop)
-    → isLeafAt (c .before .before .before .before .args .trie .now) (c .before .before .loop .node .at) ≡ false
+    → isLeafAt (begin-of-then1 c .args .trie .now) (c .before .before .loop .node .at) ≡ false
 inner-of c = sym (c .before .is-leaf .ensures) ∙ not-true (c .before .is-leaf .result) (c .if1 .taken)
 
 loop-holds : tie.Need-loop-holds Inv-loop μ-loop

@@ -1,7 +1,7 @@
 -- `trie_write_nodes::put_nodes` meets its contract. The loop's invariant: the bytes put, with the nodes left put now,
 -- are the whole. The measure is the number of nodes left. Assumes nothing.
 use Prim.Native.Nat.{_-_}
-use mathlib.Core.Path.{refl}
+use mathlib.Core.Path.{ap, refl}
 use native.Mathlib.Omega.{arith}
 use borrow.Author.Needs.{needs}
 use Rattle.trie_write_nodes.proofs.Loops.{Putting, node-falls, node-fits, node-room, node-sound, putting-end}
@@ -75,12 +75,16 @@ add-at c =
 
 next-after-requires : tie.Need-next-after-requires Inv-loop μ-loop
 next-after-requires c κs =
-    let b = c .before .before .before .before in
+    let b = after-score-at c in
     let a = b .before .before in
     let l = head b in
     let s = start l in
-    rw (b .score-at .ensures, a .run-at .ensures)
-    (node-falls (s .pre .0) (s .pre .1) (l .loop .inv) (a .before .loop-test .taken))
+    omega (
+      arith,
+      b .score-at .ensures,
+      ap (λ r. r .high) (a .run-at .ensures),
+      node-falls (s .pre .0) (s .pre .1) (l .loop .inv) (a .before .loop-test .taken),
+    )
 
 add-i : tie.Need-add-i Inv-loop μ-loop
 add-i c = search needs

@@ -9,10 +9,14 @@ use Rattle.label_book.proofs.HeadStart.{has-bucket, told-part, told-ref
 use Rattle.label_book.proofs.c_names.label_book_head.Statement.{statement}
 use Rattle.label_book.proofs.c_names.label_book_head.Tie as tie
 
+-- places that the proofs below look back to
+abbrev begin : tie.After-k → tie.Start
+begin c = c .before .before .before .before
+
 -- the companion's answer, taken apart
 gave :
     (c : tie.After-k)
-    → let z = c .before .before .before .before .args in
+    → let z = begin c .args in
     headLength (z .book .now) (z .bucket) ≡ given (c .k .given .0 .0)
 gave c = sym (c .before .before .head-length .ensures) ∙ ap lengthOf (c .k .given .1)
 
