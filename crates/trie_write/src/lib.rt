@@ -5,6 +5,7 @@ use limits::LONGEST_LABEL;
 use limits::LONGEST_NAME;
 use limits::MAX_ENTRIES;
 use limits::TRIE_VERSION;
+use trie_write_nodes::Target;
 use trie_write_runs::Run;
 ghost use mathlib.Core.Path.{_≡_};
 ghost use mathlib.Core.Bool.{true};
@@ -19,6 +20,13 @@ ghost use Rattle.trie_write.specs.Writing.{Groupable, Grouped, TrieWritt
 
 // The bytes of a table of names: a row for each.
 const NAME_BYTES: usize = LONGEST_NAME * MAX_ENTRIES;
+
+// Rows lo to hi, which share their first d bytes.
+struct RowSpan {
+    lo: usize,
+    hi: usize,
+    d: usize,
+}
 
 // A run with the bytes of what stands under it.
 fn with_under(r: Run, n: u32) -> Run
@@ -43,8 +51,8 @@ fn cut(rest: usize) -> usize
     LONGEST_LABEL
 }
 
-// What stands under one row behind its first d bytes: groups of one node each, put so that they end `back` bytes before
-// index `total`, or only measured.
+// What stands under one row behind its first d bytes: groups of one node each. How many bytes stand from there to the
+// end.
 fn lone(
     names: &[u8],
     lens: &[u8],
@@ -53,78 +61,89 @@ fn lone(
     d: usize,
     s: usize,
     dst: &mut [u8],
-    total: usize,
-    back: usize,
-    put: bool,
+    to: Target,
 ) -> usize
-    requires { ⌜ Groupable (now names) (now lens) (now scores) row (row + 1) d s (length (now dst)) total back put ⌝ }
+    requires { ⌜ Groupable (now names) (now lens) (now scores) row (row + 1) d s (length (now dst)) (to .total)
+        (to .back) (to .put) ⌝ }
     ensures { λ r. ⌜ Grouped (entries (now (names .entry)) (now (lens .entry)) (now (scores .entry))) row (row + 1) d s
-        (now (dst .entry)) (now (dst .exit)) total back put r ⌝ }
+        (now (dst .entry)) (now (dst .exit)) (to .total) (to .back) (to .put) r ⌝ }
 {
     let all = lens[row] as usize;
     let len = cut(all - d);
     if len == 0 {
-        return back;
+        return to.back;
     }
     let high = scores[row];
-    let n = lone(names, lens, scores, row, d + len, 0, dst, total, back, put);
+    let n = lone(names, lens, scores, row, d + len, 0, dst, to);
+    let under = (n - to.back) as u32;
+    let lo = row as u32;
+    let hi = lo + 1;
+    let label = len as u32;
     let r = Run {
-        lo: row as u32,
-        hi: (row + 1) as u32,
+        lo: lo,
+        hi: hi,
         high: high,
-        len: len as u32,
-        under: (n - back) as u32,
+        len: label,
+        under: under,
     };
-    trie_write_nodes::finish_one(names, d, r, s, dst, total, n, put)
+    let front = Target {
+        total: to.total,
+        back: n,
+        put: to.put,
+    };
+    trie_write_nodes::finish_one(names, d, r, s, dst, front)
 }
 
-// What stands under rows lo to hi, which share their first d bytes: their group, and behind it the groups of its nodes,
-// put so that it ends `back` bytes before index `total`, or only measured. The last node's group is put first.
+// What stands under rows: their group, and behind it the groups of its nodes, the last node's put first. How many bytes
+// stand from there to the end.
 fn group(
     names: &[u8],
     lens: &[u8],
     scores: &[u32],
-    lo: usize,
-    hi: usize,
-    d: usize,
+    rows: RowSpan,
     s: usize,
     dst: &mut [u8],
-    total: usize,
-    back: usize,
-    put: bool,
+    to: Target,
 ) -> usize
-    requires { ⌜ Groupable (now names) (now lens) (now scores) lo hi d s (length (now dst)) total back put ⌝ }
-    ensures { λ r. ⌜ Grouped (entries (now (names .entry)) (now (lens .entry)) (now (scores .entry))) lo hi d s
-        (now (dst .entry)) (now (dst .exit)) total back put r ⌝ }
+    requires { ⌜ Groupable (now names) (now lens) (now scores) (rows .lo) (rows .hi) (rows .d) s (length (now dst))
+        (to .total) (to .back) (to .put) ⌝ }
+    ensures { λ r. ⌜ Grouped (entries (now (names .entry)) (now (lens .entry)) (now (scores .entry))) (rows .lo)
+        (rows .hi) (rows .d) s (now (dst .entry)) (now (dst .exit)) (to .total) (to .back) (to .put) r ⌝ }
 {
-    if hi - lo == 1 {
-        return lone(names, lens, scores, lo, d, s, dst, total, back, put);
+    if rows.hi - rows.lo == 1 {
+        return lone(names, lens, scores, rows.lo, rows.d, s, dst, to);
     }
     let mut runs = [0; trie_write_runs::RUNS_ROOM];
-    let count = trie_write_rows::split(names, lens, scores, lo, hi, d, &mut runs);
-    let mut b = back;
+    let count = trie_write_rows::split(names, lens, scores, rows.lo, rows.hi, rows.d, &mut runs);
+    let mut back = to.back;
     let mut i = count;
     while 0 < i {
         i -= 1;
         let r = trie_write_runs::run_at(&runs, i);
-        let n = group(
-            names,
-            lens,
-            scores,
-            r.lo as usize,
-            r.hi as usize,
-            d + r.len as usize,
-            0,
-            dst,
-            total,
-            b,
-            put,
-        );
-        let filled = with_under(r, (n - b) as u32);
+        let lo = r.lo as usize;
+        let hi = r.hi as usize;
+        let d = rows.d + r.len as usize;
+        let below = RowSpan {
+            lo: lo,
+            hi: hi,
+            d: d,
+        };
+        let behind = Target {
+            total: to.total,
+            back: back,
+            put: to.put,
+        };
+        let n = group(names, lens, scores, below, 0, dst, behind);
+        let filled = with_under(r, (n - back) as u32);
         trie_write_runs::put_run(&mut runs, i, filled);
-        b = n;
+        back = n;
     }
-    trie_write_nodes::finish(names, d, &runs, count, s, dst, total, b, put)
+    let front = Target {
+        total: to.total,
+        back: back,
+        put: to.put,
+    };
+    trie_write_nodes::finish(names, rows.d, &runs, count, s, dst, front)
 }
 
 // Too short a destination, or the bytes written.
@@ -143,13 +162,37 @@ fn write_rows(names: &[u8], lens: &[u8], scores: &[u32], dst: &mut [u8]) -> Fitt
     let n = lens.len();
     let high = trie_write_rows::highest_of(names, lens, scores, 0, n);
     let top = high as usize;
-    let size = group(names, lens, scores, 0, n, 0, top, dst, 0, 0, false);
+    let size = group(
+        names,
+        lens,
+        scores,
+        RowSpan { lo: 0, hi: n, d: 0 },
+        top,
+        dst,
+        Target {
+            total: 0,
+            back: 0,
+            put: false,
+        },
+    );
     let total = size + FRAME_LENGTH;
     if dst.len() < total {
         return Fitted::TooShort;
     }
     frame_code::put_frame(dst, TRIE_VERSION, total, n);
-    group(names, lens, scores, 0, n, 0, top, dst, total, 0, true);
+    group(
+        names,
+        lens,
+        scores,
+        RowSpan { lo: 0, hi: n, d: 0 },
+        top,
+        dst,
+        Target {
+            total: total,
+            back: 0,
+            put: true,
+        },
+    );
     Fitted::Bytes(total)
 }
 

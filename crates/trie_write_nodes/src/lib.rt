@@ -12,6 +12,14 @@ ghost use Rattle.trie_write_runs.specs.Runs.{RunsKept, firstRuns};
 ghost use Rattle.trie_write_nodes.specs.Nodes.{AllFit, Finished, Finishing, Measurable, OneFits, nodesBytes};
 ghost use Rattle.trie_write_nodes.specs.Nodes.{nodesLength, oneNode};
 
+// Where nodes are put: in front of the `back` bytes that end the first `total` of a destination; without `put` they are
+// only measured.
+pub struct Target {
+    pub total: usize,
+    pub back: usize,
+    pub put: bool,
+}
+
 // The bytes of a group's own nodes, where the fields of the first are given.
 fn nodes_size(runs: &[u32], count: usize, first: NodeFields) -> usize
     requires { ⌜ RunsKept (now runs) count × Measurable (firstRuns (now runs) count) first ⌝ }
@@ -85,7 +93,7 @@ fn put_nodes(
     }
 }
 
-// The group's own nodes in front of the `back` bytes that end the first `total`; only measured where `put` is false.
+// The group's own nodes; how many bytes stand from there to the end.
 pub fn finish(
     names: &[u8],
     d: usize,
@@ -93,46 +101,35 @@ pub fn finish(
     count: usize,
     s: usize,
     dst: &mut [u8],
-    total: usize,
-    back: usize,
-    put: bool,
+    to: Target,
 ) -> usize
     requires { ⌜ RunsKept (now runs) count
-        × Finishing (now names) d (firstRuns (now runs) count) s (length (now dst)) total back put ⌝ }
+        × Finishing (now names) d (firstRuns (now runs) count) s (length (now dst)) (to .total) (to .back) (to .put) ⌝ }
     ensures { λ r. ⌜ Finished (now (names .entry)) d (firstRuns (now (runs .entry)) count) s (now (dst .entry))
-        (now (dst .exit)) total back put r ⌝ }
+        (now (dst .exit)) (to .total) (to .back) (to .put) r ⌝ }
 {
     let other = nodes_size(runs, count, trie_write_runs::plain_fields(s));
     let first = trie_write_runs::first_fields(s, other);
     let full = nodes_size(runs, count, first);
-    if put {
-        put_nodes(names, d, runs, count, first, dst, total - back - full);
-        return back + full;
+    if to.put {
+        put_nodes(names, d, runs, count, first, dst, to.total - to.back - full);
+        return to.back + full;
     }
-    back + full
+    to.back + full
 }
 
 // The same for a group of one node.
-pub fn finish_one(
-    names: &[u8],
-    d: usize,
-    r: Run,
-    s: usize,
-    dst: &mut [u8],
-    total: usize,
-    back: usize,
-    put: bool,
-) -> usize
-    requires { ⌜ Finishing (now names) d (r ∷ []) s (length (now dst)) total back put ⌝ }
-    ensures { λ n. ⌜ Finished (now (names .entry)) d (r ∷ []) s (now (dst .entry)) (now (dst .exit)) total back put
-        n ⌝ }
+pub fn finish_one(names: &[u8], d: usize, r: Run, s: usize, dst: &mut [u8], to: Target) -> usize
+    requires { ⌜ Finishing (now names) d (r ∷ []) s (length (now dst)) (to .total) (to .back) (to .put) ⌝ }
+    ensures { λ n. ⌜ Finished (now (names .entry)) d (r ∷ []) s (now (dst .entry)) (now (dst .exit)) (to .total)
+        (to .back) (to .put) n ⌝ }
 {
     let other = trie_write_runs::node_size(r, trie_write_runs::plain_fields(s));
     let first = trie_write_runs::first_fields(s, other);
     let full = trie_write_runs::node_size(r, first);
-    if put {
-        put_node(names, d, r, first, true, dst, total - back - full);
-        return back + full;
+    if to.put {
+        put_node(names, d, r, first, true, dst, to.total - to.back - full);
+        return to.back + full;
     }
-    back + full
+    to.back + full
 }

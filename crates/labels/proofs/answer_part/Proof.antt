@@ -22,6 +22,12 @@ abbrev μ-loop : tie.MeasureT-loop
     length part - used
 
 -- places that the proofs below look back to
+abbrev part-known : tie.At-loop Inv-loop μ-loop → tie.After-shared-slice-known Inv-loop μ-loop
+part-known c = c .before .before .before .before .before
+
+abbrev begin-of-at-loop : tie.At-loop Inv-loop μ-loop → tie.Start Inv-loop μ-loop
+begin-of-at-loop c = part-known c .before
+
 abbrev begin : tie.After-slice-known4 Inv-loop μ-loop → tie.Start Inv-loop μ-loop
 begin c = c .before .before .before .before .before
 
@@ -45,22 +51,22 @@ did :
     (f : tie.After-feed Inv-loop μ-loop)
     → let l = turn f .before in
     let k = f .feed .last .1 .1 .1 in
-    FeedDone (drop (l .loop .used) (l .before .before .before .before .before .before .args .part .now))
+    FeedDone (drop (l .loop .used) (begin-of-at-loop l .args .part .now))
     (console (take (l .loop .kept) (l .loop .line)) (bench (l .loop .first) (l .loop .second) (l .loop .turned)))
     (l .loop .out) (f .feed .result)
     (k .0) (k .1 .0) (k .1 .1 .0) (k .1 .1 .1 .0)
 did f =
     let l = turn f .before in
-    rw (to-end (l .before .before .before .before .before .before .args .part .now) (l .loop .used)) at
+    rw (to-end (begin-of-at-loop l .args .part .now) (l .loop .used)) at
     (f .feed .ensures)
 
 used-within :
     (f : tie.After-feed Inv-loop μ-loop)
     → let l = turn f .before in
-    l .loop .used + f .feed .result .used ≤ length (l .before .before .before .before .before .before .args .part .now)
+    l .loop .used + f .feed .result .used ≤ length (begin-of-at-loop l .args .part .now)
 used-within f =
     let l = turn f .before in
-    fed-within (l .before .before .before .before .before .before .args .part .now) (l .loop .used) (l .loop .inv .0)
+    fed-within (begin-of-at-loop l .args .part .now) (l .loop .used) (l .loop .inv .0)
     (did f)
 
 loop-holds : tie.Need-loop-holds Inv-loop μ-loop
@@ -98,14 +104,14 @@ write-all-requires c κs = tt
 add-used : tie.Need-add-used Inv-loop μ-loop
 add-used c =
     let f = after-feed-of-struct-known c in
-    omega (arith, used-within f, turn f .before .before .before .before .before .before)
+    omega (arith, used-within f, part-known (turn f .before))
 
 loop-less : tie.Need-loop-less Inv-loop μ-loop
 loop-less c =
     let f = after-feed-of-struct-known c in
     let i = turn f in
     let l = i .before in
-    let part = l .before .before .before .before .before .before .args .part .now in
+    let part = begin-of-at-loop l .args .part .now in
     let h = i .loop-test .taken in
     let a = did f .ahead (omega (arith, length-drop (l .loop .used) part)) in
     omega (arith, used-within f)

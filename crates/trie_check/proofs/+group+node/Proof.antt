@@ -123,8 +123,9 @@ module _ (t : ℕ) where
   group-loop-holds : group-lts.Need-loop-holds gc (group-at t) group.Post group-Inv-loop group-μ-loop
   group-loop-holds c =
       let k = c .before in
-      let e = k .before .before .before .group-end in
-      let a = k .before .before .before .before .before .args in
+      let g = k .before .before .before in
+      let e = g .group-end in
+      let a = g .before .before .args in
       going-start (a .buf .now) (a .at) (a .path) (a .score) (a .full) (a .left) (k .before .next .given .0 .0)
       (e .ensures .0) (k .before .next .given .1) (e .ensures .1)
       (c .begin-at .ensures)
@@ -213,9 +214,13 @@ module _ (t : ℕ) where
         tt,
       )
 
+  -- from where the place behind the node is told: what stands below it
+  abbrev below : group-lts.After-known-told3 gc (group-at t) group.Post group-Inv-loop group-μ-loop → group-lts.After-node gc (group-at t) group.Post group-Inv-loop group-μ-loop
+  below k = k .before .before .before
+
   group-returns-6 : group-lts.Need-returns-6 gc (group-at t) group.Post group-Inv-loop group-μ-loop
   group-returns-6 c =
-      let d = c .before .before .before .before in
+      let d = below (c .before) in
       let e = d .before in
       let k = e .before .before .before in
       let l = loop k in
@@ -228,7 +233,7 @@ module _ (t : ℕ) where
 
   group-loop-less : group-lts.Need-loop-less gc (group-at t) group.Post group-Inv-loop group-μ-loop
   group-loop-less c =
-      let d = c .before .before .before .before in
+      let d = below (c .before) in
       let e = d .before in
       let k = e .before .before .before in
       let l = loop k in
@@ -238,7 +243,7 @@ module _ (t : ℕ) where
 
   group-loop-again : group-lts.Need-loop-again gc (group-at t) group.Post group-Inv-loop group-μ-loop
   group-loop-again c =
-      let d = c .before .before .before .before in
+      let d = below (c .before) in
       let e = d .before in
       let k = e .before .before .before in
       let l = loop k in
@@ -258,19 +263,34 @@ module _ (t : ℕ) where
     group.Post,
   )
 
+  -- from where the arguments are known: the entry; from behind the group below: the score, and the entry
+  abbrev Start : Type 0
+  Start = node-lts.Start nc (node-at t) node.Post
+
+  abbrev entry : node-lts.After-struct-known nc (node-at t) node.Post → Start
+  entry c = c .before .before
+
+  abbrev Scored : Type 0
+  Scored = node-lts.After-new-score nc (node-at t) node.Post
+
+  abbrev begin : Scored → Start
+  begin v = entry (v .before .before)
+
+  abbrev scored : node-lts.After-group nc (node-at t) node.Post → Scored
+  scored g = g .before .before .before .before
+
   node-sub-after-node : node-lts.Need-sub-after-node nc (node-at t) node.Post
-  node-sub-after-node c = let z = c .before .before .before .before in
+  node-sub-after-node c = let z = entry (c .before .before) in
       some-left (z .args .p) (z .args .n) (z .pre .1 .1) (c .before .if1 .taken)
 
   node-after-node-requires : node-lts.Need-after-node-requires nc (node-at t) node.Post
-  node-after-node-requires c κs = let z = c .before .before .before .before in
+  node-after-node-requires c κs = let z = entry (c .before .before) in
       falls (z .args .p) (z .args .n) (z .pre .1 .1)
 
   node-returns : node-lts.Need-returns nc (node-at t) node.Post
   node-returns c =
-      let z = c .before .before .before .before .before in
-      let a = z .args in
-      let p = a .p in (
+      let z = entry (c .before .before .before) in
+      let a = z .args in (
         node-leaf (a .buf .now) (a .p) (a .n) (c .before .before .if1 .taken) (c .after-node .ensures),
         onward-to (a .p) (a .n) (a .p .next) (a .p .back) (a .p .left - 1) (a .p .own) (length (a .buf .now))
             (c .after-node .ensures) (omega arith) (z .pre .1 .0),
@@ -280,12 +300,12 @@ module _ (t : ℕ) where
   node-new-score-requires c κs = let z = c .before .before .before in falls (z .args .p) (z .args .n) (z .pre .1 .1)
 
   node-add-group : node-lts.Need-add-group nc (node-at t) node.Post
-  node-add-group c = let z = c .before .before .before .before .before .before in
+  node-add-group c = let z = begin (c .before .before) in
       omega (arith, path-short (z .args .p) (z .args .n) (z .pre .1 .1))
 
   node-group-requires : node-lts.Need-group-requires nc (node-at t) node.Post
   node-group-requires c κs =
-      let z = c .before .before .before .before .before .before .before in
+      let z = begin (c .before .before .before) in
       (subst (λ (j : ℕ). 2 * (length (z .args .buf .now) - z .args .p .next) < j) (z .pre .0) (omega arith), tt)
 
   node-enum-known-end : node-lts.Need-enum-known-end nc (node-at t) node.Post
@@ -297,27 +317,31 @@ module _ (t : ℕ) where
   node-returns-2 : node-lts.Need-returns-2 nc (node-at t) node.Post
   node-returns-2 c =
       let g = c .before .before in
-      let v = g .before .before .before .before in
-      let a = v .before .before .before .before .args in (
+      let v = scored g in
+      let a = begin v .args in (
         node-bad (a .buf .now) (a .p) (a .n) (v .before .if1 .left) (v .new-score .ensures) (g .group .ensures .0)
             (c .enum-told .given .1),
         tt,
       )
 
   node-sub-after-node-2 : node-lts.Need-sub-after-node-2 nc (node-at t) node.Post
-  node-sub-after-node-2 c = le-of-lt
-      (ahead-of (c .before .before .end .given .1) (c .before .before .before .before .group .ensures .1) .0)
+  node-sub-after-node-2 c =
+      let e = c .before .before in
+      le-of-lt (ahead-of (e .end .given .1) (e .before .before .group .ensures .1) .0)
 
   node-after-node-requires-2 : node-lts.Need-after-node-requires-2 nc (node-at t) node.Post
-  node-after-node-requires-2 c κs = let z = c .before .before .before .before .before .before .before .before .before
-      .before .before .before in falls (z .args .p) (z .args .n) (z .pre .1 .1)
+  node-after-node-requires-2 c κs =
+      let e = c .before .before in
+      let z = begin (scored (e .before .before)) in
+      falls (z .args .p) (z .args .n) (z .pre .1 .1)
 
   node-returns-3 : node-lts.Need-returns-3 nc (node-at t) node.Post
   node-returns-3 c =
-      let e = c .before .before .before .end .given in
-      let g = c .before .before .before .before .before in
-      let v = g .before .before .before .before in
-      let a = v .before .before .before .before .args in
+      let o = c .before .before .before in
+      let e = o .end .given in
+      let g = o .before .before in
+      let v = scored g in
+      let a = begin v .args in
       let h = ahead-of (e .1) (g .group .ensures .1) in (
         node-more (a .buf .now) (a .p) (a .n) (v .before .if1 .left) (v .new-score .ensures) (g .group .ensures .0)
             (e .1) (c .after-node2 .ensures),

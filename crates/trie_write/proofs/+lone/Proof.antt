@@ -7,6 +7,8 @@ use native.Mathlib.Omega.{arith}
 use borrow.Fn.Kinds.{In}
 use borrow.Fn.PlainCycle.{Measures, and, falls, is}
 use Rattle.entries.specs.Names.{longestName}
+use Rattle.book_table.specs.Table.{entries}
+use Rattle.trie_write.specs.Writing.{Grouped}
 use Rattle.trie_write.proofs.Alone.{lone-falls, lone-finish, lone-grouped, lone-low, lone-none, lone-ready}
 use Rattle.trie_write.proofs.Alone.{row-long, row-low}
 use Rattle.trie_write.proofs.Going.{length-put}
@@ -39,97 +41,107 @@ module _ (t : ℕ) where
     finish-one-reads.Learnt,
   )
 
+  -- from where the row is read: the entry
+  abbrev start : lone-lts.After-shared-slice-known4 claims (lone-at t) lone.Post
+      → lone-lts.Start claims (lone-at t) lone.Post
+  start c = c .before .before .before .before .before
+
+  -- from behind what stands under the node: its label is not empty
+  abbrev Under : Type 0
+  Under = lone-lts.After-lone claims (lone-at t) lone.Post
+
+  abbrev labelled : Under → lone-lts.Else1 claims (lone-at t) lone.Post
+  labelled u = u .before .before .before
+
+  abbrev begin : Under → lone-lts.Start claims (lone-at t) lone.Post
+  begin u = start (labelled u .before .before)
+
   lone-shared-slice-read-all : lone-lts.Need-shared-slice-read-all claims (lone-at t) lone.Post
-  lone-shared-slice-read-all c = omega (arith, row-low (c .before .before .before .before .before .pre .1))
+  lone-shared-slice-read-all c = omega (arith, row-low (start c .pre .1))
 
   lone-cast-all : lone-lts.Need-cast-all claims (lone-at t) lone.Post
-  lone-cast-all c = omega (arith, row-long (c .before .before .before .before .before .pre .1) .1)
+  lone-cast-all c = omega (arith, row-long (start c .pre .1) .1)
 
   lone-sub-cut : lone-lts.Need-sub-cut claims (lone-at t) lone.Post
-  lone-sub-cut c = omega (arith, row-long (c .before .before .before .before .before .pre .1) .0)
+  lone-sub-cut c = omega (arith, row-long (start c .pre .1) .0)
 
   lone-cut-requires : lone-lts.Need-cut-requires claims (lone-at t) lone.Post
   lone-cut-requires c κs = tt
 
   lone-returns : lone-lts.Need-returns claims (lone-at t) lone.Post
   lone-returns c = let k = c .before in
-      lone-none (k .before .before .before .before .before .before .pre .1) (sym (k .cut .ensures) ∙ c .if1 .taken)
+      lone-none (start (k .before) .pre .1) (sym (k .cut .ensures) ∙ c .if1 .taken)
 
   lone-mul-high : lone-lts.Need-mul-high claims (lone-at t) lone.Post
-  lone-mul-high c = let s = c .before .before .before .before .before .before .before .pre .1 in
-      omega (arith, row-low s, s .able .table .few)
+  lone-mul-high c = let s = start (c .before .before) .pre .1 in omega (arith, row-low s, s .able .table .few)
 
   lone-shared-slice-read-high : lone-lts.Need-shared-slice-read-high claims (lone-at t) lone.Post
-  lone-shared-slice-read-high c = let s = c .before .before .before .before .before .before .before .before .pre .1 in
+  lone-shared-slice-read-high c = let s = start (c .before .before .before) .pre .1 in
       omega (arith, row-low s, s .able .table .scored)
 
   lone-add-lone : lone-lts.Need-add-lone claims (lone-at t) lone.Post
-  lone-add-lone c = let k = c .before .before in let s = k .before .before .before .before .before .before .pre .1 in
+  lone-add-lone c = let k = c .before .before in let s = start (k .before) .pre .1 in
       omega (arith, k .cut .ensures, row-long s .0, row-long s .1)
 
   lone-lone-requires : lone-lts.Need-lone-requires claims (lone-at t) lone.Post
   lone-lone-requires c κs =
       let e = c .before .before in
       let k = e .before in
-      let s = k .before .before .before .before .before .before in (
+      let s = start (k .before) in (
         subst (λ (x : ℕ). longestName - (s .args .d + k .cut .result) < x) (s .pre .0)
             (lone-falls (s .pre .1) (k .cut .ensures) (e .if1 .left)),
         lone-ready (s .pre .1) (k .cut .ensures) (e .if1 .left) (s .args .dst .now) refl,
       )
 
-  lone-cast-t21 : lone-lts.Need-cast-t21 claims (lone-at t) lone.Post
-  lone-cast-t21 c = let s = c .before .before .before .before .before .before .before .before .before .before .before
-      .before .pre .1 in omega (arith, row-low s, s .able .table .few)
+  lone-sub-under : lone-lts.Need-sub-under claims (lone-at t) lone.Post
+  lone-sub-under c = omega (arith, c .before .before .before .lone .ensures .end)
 
-  lone-add-t18 : lone-lts.Need-add-t18 claims (lone-at t) lone.Post
-  lone-add-t18 c = let s = c .before .before .before .before .before .before .before .before .before .before .before
-      .before .pre .1 in omega (arith, row-low s, s .able .table .few)
-
-  lone-cast-t24 : lone-lts.Need-cast-t24 claims (lone-at t) lone.Post
-  lone-cast-t24 c = let s = c .before .before .before .before .before .before .before .before .before .before .before
-      .before .pre .1 in omega (arith, row-low s, s .able .table .few)
-
-  lone-cast-t25 : lone-lts.Need-cast-t25 claims (lone-at t) lone.Post
-  lone-cast-t25 c = omega (arith, c .before .before .before .before .before .before .cut .ensures)
-
-  lone-sub-t26 : lone-lts.Need-sub-t26 claims (lone-at t) lone.Post
-  lone-sub-t26 c = omega (arith, c .before .before .lone .ensures .end)
-
-  lone-cast-t27 : lone-lts.Need-cast-t27 claims (lone-at t) lone.Post
-  lone-cast-t27 c =
-      let e = c .before .before .before .before .before in
-      let k = e .before in
+  lone-cast-under : lone-lts.Need-cast-under claims (lone-at t) lone.Post
+  lone-cast-under c =
+      let u = c .before .before .before in
+      let e = labelled u in
       omega (
         arith,
-        lone-low (k .before .before .before .before .before .before .pre .1) (k .cut .ensures) (e .if1 .left)
-            refl (c .before .before .lone .ensures),
+        lone-low (begin u .pre .1) (e .before .cut .ensures) (e .if1 .left) refl (u .lone .ensures),
       )
+
+  lone-cast-lo : lone-lts.Need-cast-lo claims (lone-at t) lone.Post
+  lone-cast-lo c = let s = begin (c .before .before .before) .pre .1 in omega (arith, row-low s, s .able .table .few)
+
+  lone-add-hi : lone-lts.Need-add-hi claims (lone-at t) lone.Post
+  lone-add-hi c = let s = begin (c .before .before .before) .pre .1 in omega (arith, row-low s, s .able .table .few)
+
+  lone-cast-label : lone-lts.Need-cast-label claims (lone-at t) lone.Post
+  lone-cast-label c = omega (arith, labelled (c .before .before .before) .before .cut .ensures)
 
   lone-finish-one-requires : lone-lts.Need-finish-one-requires claims (lone-at t) lone.Post
   lone-finish-one-requires c κs =
       let o = c .before in
-      let e = o .before .before .before .before .before in
-      let k = e .before in
-      lone-finish (k .before .before .before .before .before .before .pre .1) (k .cut .ensures) (e .if1 .left) refl
-      (o .before .before .lone .ensures)
+      let u = o .before .before .before in
+      let e = labelled u in
+      lone-finish (begin u .pre .1) (e .before .cut .ensures) (e .if1 .left) refl (u .lone .ensures)
+
+  -- at the end: what stands under the node, and the node in front of it
+  abbrev Finished : Type 0
+  Finished = lone-lts.After-finish-one claims (lone-at t) lone.Post
+
+  abbrev under : Finished → Under
+  under f = f .before .before .before .before .before
+
+  grouped : (f : Finished) → let a = begin (under f) .args in
+      Grouped (entries (a .names .now) (a .lens .now) (a .scores .now)) (a .row) (a .row + 1) (a .d) (a .s) (a .dst .now)
+      (f .finish-one .last .1 .1 .1 .1 .0) (a .to .total) (a .to .back) (a .to .put) (f .finish-one .result)
+  grouped f =
+      let u = under f in
+      let e = labelled u in
+      lone-grouped (begin u .pre .1) (e .before .cut .ensures) (e .if1 .left) refl (u .lone .ensures)
+      (f .finish-one .ensures)
 
   lone-same-length : lone-lts.Need-same-length claims (lone-at t) lone.Post
-  lone-same-length c =
-      let f = c .before .before in
-      let o = f .before .before in
-      let e = o .before .before .before .before .before in
-      let k = e .before in
-      ap length (lone-grouped (k .before .before .before .before .before .before .pre .1) (k .cut .ensures)
-      (e .if1 .left) refl (o .before .before .lone .ensures) (f .finish-one .ensures) .bytes) ∙ length-put _ _ _ _
+  lone-same-length c = ap length (grouped (c .before .before) .bytes) ∙ length-put _ _ _ _
 
   lone-returns-2 : lone-lts.Need-returns-2 claims (lone-at t) lone.Post
-  lone-returns-2 c =
-      let f = c .before .before in
-      let o = f .before .before in
-      let e = o .before .before .before .before .before in
-      let k = e .before in
-      lone-grouped (k .before .before .before .before .before .before .pre .1) (k .cut .ensures) (e .if1 .left) refl
-      (o .before .before .lone .ensures) (f .finish-one .ensures)
+  lone-returns-2 c = grouped (c .before .before)
 
 pub +lone-spec : {M : Type 1} → statement M
 +lone-spec = close μ-lone λ t. lone-lts.spec (claims t)
@@ -144,12 +156,11 @@ pub +lone-spec : {M : Type 1} → statement M
     (lone-shared-slice-read-high t)
     (lone-add-lone t)
     (lone-lone-requires t)
-    (lone-cast-t21 t)
-    (lone-add-t18 t)
-    (lone-cast-t24 t)
-    (lone-cast-t25 t)
-    (lone-sub-t26 t)
-    (lone-cast-t27 t)
+    (lone-sub-under t)
+    (lone-cast-under t)
+    (lone-cast-lo t)
+    (lone-add-hi t)
+    (lone-cast-label t)
     (lone-finish-one-requires t)
     (lone-same-length t)
     (lone-returns-2 t)

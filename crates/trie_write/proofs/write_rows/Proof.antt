@@ -68,7 +68,7 @@ abbrev sized : tie.After-put-frame → tie.After-slice-known2
 sized f = f .before .before .before
 
 kept : (f : tie.After-put-frame)
-    → length (f .put-frame .last .0) ≡ length (sized f .before .before .group .last .1 .1 .1 .1 .1 .1 .1 .0)
+    → length (f .put-frame .last .0) ≡ length (sized f .before .before .group .last .1 .1 .1 .1 .1 .0)
 kept f = f .put-frame .kept .0
 
 group-requires-2 : tie.Need-group-requires-2
@@ -88,7 +88,7 @@ same-length-2 c =
     let k = sized f in
     let h = top k in
     let s = start h in
-    g .group2 .kept .1 .1 .1 .1 .1 .1 .1 .0
+    g .group2 .kept .1 .1 .1 .1 .1 .0
     ∙ kept f
     ∙ ap length (measured (s .pre .0) (s .pre .1) (h .highest-of .ensures) (k .before .before .group .ensures))
 

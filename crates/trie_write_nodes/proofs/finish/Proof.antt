@@ -8,8 +8,8 @@ use Rattle.trie_write_nodes.proofs.finish.Statement.{statement}
 use Rattle.trie_write_nodes.proofs.finish.Tie as tie
 
 -- places that the proofs below look back to
-abbrev after-nodes-size2 : tie.After-slice-known2 → tie.After-nodes-size2
-after-nodes-size2 c = c .before .before .before .before .before
+abbrev after-nodes-size2 : tie.After-struct-known2 → tie.After-nodes-size2
+after-nodes-size2 c = c .before .before .before .before .before .before .before
 
 -- the entry, from where the fields without a child field are made
 abbrev start : tie.After-plain-fields → tie.Start
@@ -35,7 +35,7 @@ nodes-size-requires-2 c κs =
 
 -- there is room where it is put
 fits : (t : tie.Then1) → let f = t .before in let s = start (f .before .before .before) in
-    s .args .back + f .nodes-size2 .result ≤ s .args .total
+    s .args .to .back + f .nodes-size2 .result ≤ s .args .to .total
 fits t =
     let f = t .before in
     let o = f .before in
@@ -46,14 +46,14 @@ fits t =
     (f .nodes-size2 .ensures .0) (t .if1 .taken)
 
 sub-put-nodes : tie.Need-sub-put-nodes
-sub-put-nodes c = omega (arith, fits (c .before))
+sub-put-nodes c = omega (arith, fits (c .before .before))
 
 sub-put-nodes-2 : tie.Need-sub-put-nodes-2
-sub-put-nodes-2 c = omega (arith, fits (c .before))
+sub-put-nodes-2 c = omega (arith, fits (c .before .before))
 
 put-nodes-requires : tie.Need-put-nodes-requires
 put-nodes-requires c κs =
-    let t = c .before in
+    let t = c .before .before in
     let f = t .before in
     let o = f .before in
     let m = o .before in
@@ -73,8 +73,8 @@ same-length c = search needs
 
 returns : tie.Need-returns
 returns c =
-    let p = c .before .before in
-    let t = p .before .before in
+    let p = c .before .before .before in
+    let t = p .before .before .before in
     let f = t .before in
     let o = f .before in
     let m = o .before in
@@ -84,18 +84,19 @@ returns c =
     (f .nodes-size2 .ensures .0) (t .if1 .taken) (p .put-nodes .ensures)
 
 add-result-2 : tie.Need-add-result-2
-add-result-2 c = let f = c .before in
+add-result-2 c = let f = c .before .before in
     omega (arith, f .nodes-size2 .ensures .1, start (f .before .before .before) .pre .1 .low)
 
 returns-2 : tie.Need-returns-2
 returns-2 c =
-    let f = c .before in
+    let e = c .before in
+    let f = e .before in
     let o = f .before in
     let m = o .before in
     let w = m .before in
     let s = start w in
     finish-not (s .pre .1) (w .plain-fields .ensures) (m .nodes-size .ensures .0) (o .first-fields .ensures)
-    (f .nodes-size2 .ensures .0) (c .if1 .left)
+    (f .nodes-size2 .ensures .0) (e .if1 .left)
 
 pub finish-spec : {M : Type 1} → statement M
 finish-spec =

@@ -9,8 +9,8 @@ use Rattle.trie_write_nodes.proofs.finish_one.Statement.{statement}
 use Rattle.trie_write_nodes.proofs.finish_one.Tie as tie
 
 -- places that the proofs below look back to
-abbrev after-node-size2 : tie.After-slice-known2 → tie.After-node-size2
-after-node-size2 c = c .before .before .before .before .before
+abbrev after-node-size2 : tie.After-struct-known2 → tie.After-node-size2
+after-node-size2 c = c .before .before .before .before .before .before .before
 
 -- the entry, from where the fields without a child field are made
 abbrev start : tie.After-plain-fields → tie.Start
@@ -36,7 +36,7 @@ node-size-requires-2 c κs =
 
 -- there is room where it is put
 fits : (t : tie.Then1) → let f = t .before in let s = start (f .before .before .before) in
-    s .args .back + f .node-size2 .result ≤ s .args .total
+    s .args .to .back + f .node-size2 .result ≤ s .args .to .total
 fits t =
     let f = t .before in
     let o = f .before in
@@ -47,14 +47,14 @@ fits t =
     (alone _ _ (f .node-size2 .ensures .0)) (t .if1 .taken)
 
 sub-put-node : tie.Need-sub-put-node
-sub-put-node c = omega (arith, fits (c .before))
+sub-put-node c = omega (arith, fits (c .before .before))
 
 sub-put-node-2 : tie.Need-sub-put-node-2
-sub-put-node-2 c = omega (arith, fits (c .before))
+sub-put-node-2 c = omega (arith, fits (c .before .before))
 
 put-node-requires : tie.Need-put-node-requires
 put-node-requires c κs =
-    let t = c .before in
+    let t = c .before .before in
     let f = t .before in
     let o = f .before in
     let m = o .before in
@@ -72,8 +72,8 @@ same-length c = search needs
 
 returns : tie.Need-returns
 returns c =
-    let p = c .before .before in
-    let t = p .before .before in
+    let p = c .before .before .before in
+    let t = p .before .before .before in
     let f = t .before in
     let o = f .before in
     let m = o .before in
@@ -83,18 +83,19 @@ returns c =
     (alone _ _ (f .node-size2 .ensures .0)) refl (t .if1 .taken) (p .put-node .ensures)
 
 add-result-2 : tie.Need-add-result-2
-add-result-2 c = let f = c .before in
+add-result-2 c = let f = c .before .before in
     omega (arith, f .node-size2 .ensures .1, start (f .before .before .before) .pre .low)
 
 returns-2 : tie.Need-returns-2
 returns-2 c =
-    let f = c .before in
+    let e = c .before in
+    let f = e .before in
     let o = f .before in
     let m = o .before in
     let w = m .before in
     let s = start w in
     finish-not (s .pre) (w .plain-fields .ensures) (alone _ _ (m .node-size .ensures .0)) (o .first-fields .ensures)
-    (alone _ _ (f .node-size2 .ensures .0)) (c .if1 .left)
+    (alone _ _ (f .node-size2 .ensures .0)) (e .if1 .left)
 
 pub finish-one-spec : {M : Type 1} → statement M
 finish-one-spec =
