@@ -3,11 +3,11 @@ ghost use Prim.Native.Nat.{_≤_};
 ghost use lib.ListN.{length};
 ghost use Rattle.entries.specs.Names.{longestName};
 ghost use Rattle.book.specs.Records.{bucketHead, recordOf};
-ghost use Rattle.book_record_write.specs.Written.{Room, Sized, RecordPut, headRecord, tailRecord};
+ghost use Rattle.book_record_write.specs.Written.{RecordPut, RecordRoom, Sized, headRecord, tailRecord};
 
 // Writes a head at index at, and answers where it ends: the name's length, the name.
 fn put_head(dst: &mut [u8], at: usize, name: &[u8]) -> usize
-    requires { ⌜ Room (now dst) at (headRecord (now name)) (now name) ⌝ }
+    requires { ⌜ RecordRoom (now dst) at (headRecord (now name)) (now name) ⌝ }
     ensures { λ r. ⌜ RecordPut (now (dst .entry)) (now (dst .exit)) at (headRecord (now (name .entry))) r ⌝ }
 {
     dst[at] = name.len() as u8;
@@ -17,9 +17,9 @@ fn put_head(dst: &mut [u8], at: usize, name: &[u8]) -> usize
 
 // Writes another record: the number of bytes shared with the name before, the length of the rest, the rest.
 fn put_tail(dst: &mut [u8], at: usize, prev: &[u8], name: &[u8]) -> usize
-    requires { ⌜ Room (now dst) at (tailRecord (now prev) (now name)) (now name) ⌝ }
-    ensures { λ r. ⌜ RecordPut (now (dst .entry)) (now (dst .exit)) at (tailRecord (now (prev .entry)) (now (name .entry)))
-        r ⌝ }
+    requires { ⌜ RecordRoom (now dst) at (tailRecord (now prev) (now name)) (now name) ⌝ }
+    ensures { λ r. ⌜ RecordPut (now (dst .entry)) (now (dst .exit)) at
+        (tailRecord (now (prev .entry)) (now (name .entry))) r ⌝ }
 {
     let kept = octets_code::common_prefix(prev, name);
     let rest = &name[kept..];
@@ -31,7 +31,7 @@ fn put_tail(dst: &mut [u8], at: usize, prev: &[u8], name: &[u8]) -> usize
 
 // Writes the record of a name, at a position behind the name prev, and answers where it ends.
 pub fn put_record(dst: &mut [u8], at: usize, index: usize, prev: &[u8], name: &[u8]) -> usize
-    requires { ⌜ Room (now dst) at (recordOf bucketHead index (now prev) (now name)) (now name) ⌝ }
+    requires { ⌜ RecordRoom (now dst) at (recordOf bucketHead index (now prev) (now name)) (now name) ⌝ }
     ensures { λ r. ⌜ RecordPut (now (dst .entry)) (now (dst .exit)) at
         (recordOf bucketHead index (now (prev .entry)) (now (name .entry))) r ⌝ }
 {

@@ -24,7 +24,7 @@ use Rattle.book_laws.specs.Check.{scoreAt}
 use Rattle.book_laws.specs.Held.{Held}
 use Rattle.book_laws.proofs.Held.{held-few, held-stored, held-valid}
 use Rattle.book_read.proofs.Reading.{Given, Reading, read-start}
-use Rattle.book_table.specs.Table.{Room, Unpacked, entries, rowAt}
+use Rattle.book_table.specs.Table.{TableRoom, Unpacked, entries, rowAt}
 use Rattle.book_table.proofs.Rows.{map-count}
 use Rattle.book_read.specs.declared.Parts.{Parts}
 
@@ -37,14 +37,14 @@ pub record Row (es : List Entry) (u m sc : List ℕ) (p : ℕ) : Type 0 where
 -- the rows before position i hold their entries; the next record starts at index k, behind the name in name
 pub record Unpacking (book : List ℕ) (n : ℕ) (u₀ m₀ sc₀ u m sc name : List ℕ) (k i : ℕ) : Type 0 where
   pub reading : Reading book k i name
-  pub room : Room n (length u) (length m) (length sc)
+  pub room : TableRoom n (length u) (length m) (length sc)
   pub sameNames : length u ≡ length u₀
   pub sameLens : length m ≡ length m₀
   pub sameScores : length sc ≡ length sc₀
   pub rows : (p : ℕ) → p < i → Row (inBook book) u m sc p
 
 pub unpack-start :
-    {book : List ℕ} {n k : ℕ} {u m sc : List ℕ} (name : List ℕ) → Held book n → Room n (length u) (length m) (length sc)
+    {book : List ℕ} {n k : ℕ} {u m sc : List ℕ} (name : List ℕ) → Held book n → TableRoom n (length u) (length m) (length sc)
     → k ≡ recordsAt layout21 n → length name ≡ longestName → Unpacking book n u m sc u m sc name k 0
 unpack-start name b r e l =
     record {

@@ -23,7 +23,7 @@ pub record Table (names lens scores : List ℕ) : Type 0 where
   pub short : (p : ℕ) → p < length lens → getD lens p 0 ≤ longestName
 
 -- room for n rows
-pub record Room (n names lens scores : ℕ) : Type 0 where
+pub record TableRoom (n names lens scores : ℕ) : Type 0 where
   pub rows : n * longestName ≤ names
   pub counted : n ≤ lens
   pub scored : n ≤ scores

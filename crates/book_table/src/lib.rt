@@ -3,11 +3,11 @@ use limits::LONGEST_NAME;
 ghost use lib.ListN.{length};
 ghost use Rattle.book.specs.Book.{inBook};
 ghost use Rattle.book_laws.specs.Held.{Held};
-ghost use Rattle.book_table.specs.Table.{Room, Unpacked};
+ghost use Rattle.book_table.specs.Table.{TableRoom, Unpacked};
 
 // Unpacks the n entries of a book: names into rows of 48 bytes, their lengths, their scores.
 pub fn unpack(book: &[u8], n: usize, names: &mut [u8], lens: &mut [u8], scores: &mut [u32])
-    requires { ⌜ Held (now book) n × Room n (length (now names)) (length (now lens)) (length (now scores)) ⌝ }
+    requires { ⌜ Held (now book) n × TableRoom n (length (now names)) (length (now lens)) (length (now scores)) ⌝ }
     ensures { λ _. ⌜ Unpacked (inBook (now (book .entry))) n (now (names .exit)) (now (lens .exit))
         (now (scores .exit)) ⌝ }
 {

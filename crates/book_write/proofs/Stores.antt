@@ -16,7 +16,8 @@ use Rattle.book_write.specs.Writing.{finished, putEntry, putOffset, putP
 pub entry-put :
     (d : List ℕ) {d₁ d₂ d₃ : List ℕ} (n i at : ℕ) (prev w : List ℕ) (s : ℕ) {place end : ℕ}
     → place ≡ scorePlace i → d₁ ≡ sets d place (be 4 s)
-    → d₂ ≡ putOffset n i at d₁ → RecordPut d₂ d₃ at (recordOf bucketHead i prev w) end → EntryPut d d₃ n i at prev w s end
+    → d₂ ≡ putOffset n i at d₁ → RecordPut d₂ d₃ at (recordOf bucketHead i prev w) end
+    → EntryPut d d₃ n i at prev w s end
 unfolding putEntry
 entry-put d n i at prev w s there scored pointed recorded =
     record { bytes = rw (recorded .bytes, pointed, scored, there); end = recorded .end }

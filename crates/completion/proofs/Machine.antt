@@ -20,8 +20,8 @@ use Rattle.entries.proofs.Rank.{best-best, best-lt, not-outranks-trans, rank-fi
 use Rattle.entries.proofs.Same.{counted, in-counted, sameEntry}
 use Rattle.entries.proofs.Span.{span, span-at, span-best, span-length}
 use Rattle.completion.specs.declared.Range.{Range}
-use Rattle.completion.specs.Machine.{MachineOffers, bests, bestRange, machine, noRange, offering, openRange, others}
-use Rattle.completion.specs.Machine.{parts, run}
+use Rattle.completion.specs.Machine.{MachineOffers, bestRange, bests, machine, noRange, offering, openRange}
+use Rattle.completion.specs.Machine.{others, parts, run}
 
 -- an open range of es, with its best
 record Good (es : List Entry) (r : Range) : Type 0 where
@@ -235,7 +235,8 @@ module _ (es : List Entry) (rs : List Range) (ne : 0 < length rs) (good : (r : R
       go (inl n) = good r (others-in at-best rs r ne n)
       go (inr n) = parts-good es (bestRange es rs) best-good r n
 
-  next-count : (q : Entry → Bool) → count q (contents es rs) ≡ count q (at es (bestRange es rs .best) ∷ contents es next)
+  next-count : (q : Entry → Bool)
+      → count q (contents es rs) ≡ count q (at es (bestRange es rs .best) ∷ contents es next)
   next-count q =
       let a = others-count es q rs at-best index in
       let b = parts-count es (bestRange es rs) q best-good in

@@ -86,7 +86,8 @@ run-one es (r ∷ rs) h = refl
 run-more :
     (k : ℕ) (es : List Entry) (rs : List Range) → 0 < length rs
     → run (suc (suc k)) es rs
-    ≡ offering (bestRange es rs .best) (length (parts es (bestRange es rs))) (run (suc k) es (others (best (bests es rs)) rs
+    ≡ offering (bestRange es rs .best) (length (parts es (bestRange es rs)))
+    (run (suc k) es (others (best (bests es rs)) rs
     ++ parts es (bestRange es rs)))
 run-more k es [] h = absurd (omega arith)
 run-more k es (r ∷ rs) h = refl

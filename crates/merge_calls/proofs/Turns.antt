@@ -29,10 +29,10 @@ rest first second x y = joined (entriesLeft first x) (entriesLeft second y)
 
 -- x and y are the next entries of the books; the cursor w is where the next of both is put
 pub record PassLeft
-    (first : List ℕ) (n : ℕ) (second : List ℕ) (m : ℕ) (d₀ : List ℕ) (count at : ℕ) (store : Bool)
+    (first second d₀ : List ℕ) (count at : ℕ) (store : Bool)
     (x : NextInBook) (a : List ℕ) (y : NextInBook) (b d : List ℕ) (w : Cursor) : Type 0 where
-  pub ofFirst : Loaded first n x a
-  pub ofSecond : Loaded second m y b
+  pub ofFirst : Loaded first x a
+  pub ofSecond : Loaded second y b
   pub order : w .index ≤ count
   pub total : length (mergedEntries first second) ≡ w .index + length (rest first second x y)
   pub passing : Left store count (cursorBehind at 0 []) (take count (mergedEntries first second)) d₀ w
@@ -63,11 +63,11 @@ module _
     (p : PassRoom first n second m d count at store)
   where
     pub left-start :
-        {x : NextInBook} {a : List ℕ} {y : NextInBook} {b : List ℕ} (held : List ℕ) → Loaded first n x a
+        {x : NextInBook} {a : List ℕ} {y : NextInBook} {b : List ℕ} (prev : List ℕ) → Loaded first x a
         × (x .index ≡ 0)
-        → Loaded second m y b × (y .index ≡ 0)
-        → PassLeft first n second m d count at store x a y b d (cursorOf at 0 held 0)
-    left-start {x} {a} {y} {b} held l k =
+        → Loaded second y b × (y .index ≡ 0)
+        → PassLeft first second d count at store x a y b d (cursorOf at 0 prev 0)
+    left-start {x} {a} {y} {b} prev l k =
         let f = p .fits in
         let z : count - 0 ≡ count = omega arith in
         record {
@@ -87,7 +87,7 @@ module _
                   enough = f .enough;
                 });
             whole = λ {r} {new} q.
-                let s : AppendDone store count (cursorOf at 0 held 0) (take count (mergedEntries first second)) d r
+                let s : AppendDone store count (cursorOf at 0 prev 0) (take count (mergedEntries first second)) d r
                 new =
                 rw (z, l .1, k .1) at q
                 in
@@ -104,9 +104,8 @@ module _
         }
 
 module _
-    {first : List ℕ} {n : ℕ} {second : List ℕ} {m : ℕ} {d₀ : List ℕ} {count at : ℕ} {store : Bool} {x : NextInBook}
-    {a : List ℕ} {y : NextInBook}
-    {b d : List ℕ} {w : Cursor} (v : PassLeft first n second m d₀ count at store x a y b d w)
+    {first second d₀ : List ℕ} {count at : ℕ} {store : Bool} {x : NextInBook} {a : List ℕ} {y : NextInBook}
+    {b d : List ℕ} {w : Cursor} (v : PassLeft first second d₀ count at store x a y b d w)
   where
     abbrev told : Bool → MergePass
     told more = record { entries = w .index; end = w .at; more = more }
@@ -155,7 +154,7 @@ module _
     left-below g = goes (w .index) count (x .len) (y .len) g .0
 
     module _
-        {a₁ b₁ name : List ℕ} {r : NextOfBoth} (t : TookNext first n x a₁ second m y b₁ name r)
+        {a₁ b₁ name : List ℕ} {r : NextOfBoth} (t : TookNext first x a₁ second y b₁ name r)
         (g : goesOn (w .index) count (x .len) (y .len) ≡ true)
       where
         some : 0 < r .len
@@ -183,7 +182,7 @@ module _
 
         pub left-turn :
             {u : Cursor} {new : List ℕ} → AppendDone store count w this d u new
-            → PassLeft first n second m d₀ count at store (r .first) a₁ (r .second) b₁ new u
+            → PassLeft first second d₀ count at store (r .first) a₁ (r .second) b₁ new u
         left-turn {u} {new} p =
             let i = p .went .index in
             let z : count - u .index ≡ count - (w .index + 1) = omega arith in

@@ -59,7 +59,7 @@ fn pass(
     let mut x = merge_read::first_name(first, n, &mut a);
     let mut y = merge_read::first_name(second, m, &mut b);
     while goes_on(index, count, x.len, y.len) {
-        let t = merge_read::next_entry(first, n, x, &mut a, second, m, y, &mut b, &mut name);
+        let t = merge_read::next_entry(first, x, &mut a, second, y, &mut b, &mut name);
         let len = t.len;
         let w = &name[..len];
         let slot = Slot {

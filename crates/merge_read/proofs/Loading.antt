@@ -15,8 +15,8 @@ use Rattle.merge_read.specs.Turns.{Loaded, RecordStands}
 use Rattle.book_read.specs.declared.Parts.{Parts}
 use Rattle.merge_read.specs.declared.NextInBook.{NextInBook}
 
-abbrev nextOf : ℕ → ℕ → ℕ → NextInBook
-nextOf i k len = record { index = i; at = k; len = len }
+abbrev nextOf : ℕ → ℕ → ℕ → ℕ → NextInBook
+nextOf n i k len = record { n = n; index = i; at = k; len = len }
 
 -- the entry at a position is the first of those left there
 pub at-left : (es : List Entry) (i : ℕ) → at (drop i es) 0 ≡ at es i
@@ -31,7 +31,7 @@ module _ {book : List ℕ} {n : ℕ} (h : Held book n) where
   stands-first name e long = let r = read-start name h e long in record { len = r .len; ahead = r .ahead }
 
   module _ {i k : ℕ} {name : List ℕ} (long : length name ≡ longestName) where
-    pub loaded-none : i ≤ n → n ≤ i → Loaded book n (nextOf i k 0) name
+    pub loaded-none : i ≤ n → n ≤ i → Loaded book (nextOf n i k 0) name
     loaded-none within over =
         record {
           held = h;
@@ -53,7 +53,7 @@ module _ {book : List ℕ} {n : ℕ} (h : Held book n) where
         pub loaded-given : Given book k i new p
         loaded-given = read-turn h reading low r
 
-        pub loaded-read : Loaded book n (nextOf i (k + (p .start + p .own)) (p .kept + p .own)) new
+        pub loaded-read : Loaded book (nextOf n i (k + (p .start + p .own)) (p .kept + p .own)) new
         loaded-read =
             let g = loaded-given in
             record {

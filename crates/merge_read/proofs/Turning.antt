@@ -25,7 +25,7 @@ use Rattle.merge_read.specs.declared.Choice.{Choice}
 use Rattle.merge_read.specs.declared.NextInBook.{NextInBook}
 
 -- the next entry of one book
-module _ {book : List ℕ} {n : ℕ} {c : NextInBook} {name : List ℕ} (l : Loaded book n c name) where
+module _ {book : List ℕ} {c : NextInBook} {name : List ℕ} (l : Loaded book c name) where
   pub loaded-few : c .index ≤ maxEntries
   loaded-few = omega (arith, l .within, held-few (l .held))
 
@@ -49,18 +49,18 @@ module _ {book : List ℕ} {n : ℕ} {c : NextInBook} {name : List ℕ} (l : Loa
   head-name = ap (λ e. e .name) (at-left (inBook book) (c .index)) ∙ sym (l .named)
 
   -- there is one where it has a name
-  some-low : 0 < length (take (c .len) name) → c .index < n
+  some-low : 0 < length (take (c .len) name) → c .index < c .n
   some-low h =
-      by-test (leb n (c .index))
+      by-test (leb (c .n) (c .index))
       (λ t.
-      let i : n ≤ c .index = leb-true n (c .index) t in
+      let i : c .n ≤ c .index = leb-true (c .n) (c .index) t in
       let e = at-past (inBook book) (c .index) (omega (arith, l .held .count)) in
       let z : length (take (c .len) name) ≡ 0 = ap length (l .named ∙ ap (λ f. f .name) e) in
       omega arith)
-      (λ t. leb-false n (c .index) t)
+      (λ t. leb-false (c .n) (c .index) t)
 
   -- the entry, from its name and its score
-  head-entry : {w : List ℕ} {s : ℕ} → w ≡ take (c .len) name → s ≡ scoreAt book (c .index) → c .index < n
+  head-entry : {w : List ℕ} {s : ℕ} → w ≡ take (c .len) name → s ≡ scoreAt book (c .index) → c .index < c .n
       → at (entriesLeft book c) 0 ≡ entry w s
   head-entry e f h =
       at-left (inBook book) (c .index)
@@ -68,12 +68,12 @@ module _ {book : List ℕ} {n : ℕ} {c : NextInBook} {name : List ℕ} (l : Loa
 
 -- the next entries of both
 module _
-    {first : List ℕ} {n : ℕ} {x : NextInBook} {a second : List ℕ} {m : ℕ} {y : NextInBook} {b : List ℕ}
-    (l : Loaded first n x a)
-    (k : Loaded second m y b)
+    {first : List ℕ} {x : NextInBook} {a second : List ℕ} {y : NextInBook} {b : List ℕ}
+    (l : Loaded first x a)
+    (k : Loaded second y b)
   where
     -- one that is due is there
-    pub due-low : {f : Bool} → f ≡ isDue (take (x .len) a) (take (y .len) b) → f ≡ true → x .index < n
+    pub due-low : {f : Bool} → f ≡ isDue (take (x .len) a) (take (y .len) b) → f ≡ true → x .index < x .n
     due-low e t = some-low l (due-some (take (x .len) a) (take (y .len) b) (sym e ∙ t))
 
     due-left : {f : Bool} → f ≡ isDue (take (x .len) a) (take (y .len) b)
@@ -81,9 +81,9 @@ module _
     due-left e = e ∙ rw (head-name l, head-name k)
 
 module _
-    {first : List ℕ} {n : ℕ} {x : NextInBook} {a second : List ℕ} {m : ℕ} {y : NextInBook} {b : List ℕ}
-    (l : Loaded first n x a)
-    (k : Loaded second m y b)
+    {first : List ℕ} {x : NextInBook} {a second : List ℕ} {y : NextInBook} {b : List ℕ}
+    (l : Loaded first x a)
+    (k : Loaded second y b)
     {f s : Bool} (p : f ≡ isDue (take (x .len) a) (take (y .len) b)) (q : s ≡ isDue (take (y .len) b) (take (x .len) a))
   where
     -- no entry is due: none is left
@@ -117,9 +117,9 @@ module _
 
 -- entries are left where there is a next name
 module _
-    {first : List ℕ} {n : ℕ} {x : NextInBook} {a second : List ℕ} {m : ℕ} {y : NextInBook} {b : List ℕ}
-    (l : Loaded first n x a)
-    (k : Loaded second m y b)
+    {first : List ℕ} {x : NextInBook} {a second : List ℕ} {y : NextInBook} {b : List ℕ}
+    (l : Loaded first x a)
+    (k : Loaded second y b)
   where
     pub left-none : x .len + y .len ≡ 0 → joined (entriesLeft first x) (entriesLeft second y) ≡ []
     left-none z =
@@ -134,9 +134,9 @@ module _
         (λ t. let e = ended-both l k refl refl t in absurd (omega arith))
 
 module _
-    {first : List ℕ} {n : ℕ} {x : NextInBook} {a second : List ℕ} {m : ℕ} {y : NextInBook} {b : List ℕ}
-    (l : Loaded first n x a)
-    (k : Loaded second m y b)
+    {first : List ℕ} {x : NextInBook} {a second : List ℕ} {y : NextInBook} {b : List ℕ}
+    (l : Loaded first x a)
+    (k : Loaded second y b)
     {f s : Bool} (p : f ≡ isDue (take (x .len) a) (take (y .len) b)) (q : s ≡ isDue (take (y .len) b) (take (x .len) a))
     {name : List ℕ} {r : Choice} (c : Chosen first (x .index) (take (x .len) a) second (y .index) (take (y .len) b) f
     name r)
@@ -179,10 +179,10 @@ module _
         ) (due-next l k p q h)
 
     pub turned :
-        {g d : NextInBook} {a₁ b₁ : List ℕ} → Loaded first n g a₁ × (g .index ≡ x .index + steps f)
-        → Loaded second m d b₁
+        {g d : NextInBook} {a₁ b₁ : List ℕ} → Loaded first g a₁ × (g .index ≡ x .index + steps f)
+        → Loaded second d b₁
         × (d .index ≡ y .index + steps s)
-        → TookNext first n x a₁ second m y b₁ name (record { first = g; second = d; len = r .len; score = r .score })
+        → TookNext first x a₁ second y b₁ name (record { first = g; second = d; len = r .len; score = r .score })
     turned i j =
         record {
           ofFirst = i .0;

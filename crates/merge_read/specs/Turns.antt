@@ -26,13 +26,13 @@ pub record RecordStands (book : List ℕ) (k i : ℕ) (name : List ℕ) : Type 0
 
 -- c is the next entry of a book that was checked, its name at the front of the 48 bytes in name; no name where no entry
 -- is left
-pub record Loaded (book : List ℕ) (n : ℕ) (c : NextInBook) (name : List ℕ) : Type 0 where
-  pub held : Held book n
-  pub within : c .index ≤ n
+pub record Loaded (book : List ℕ) (c : NextInBook) (name : List ℕ) : Type 0 where
+  pub held : Held book (c .n)
+  pub within : c .index ≤ c .n
   pub long : length name ≡ longestName
   pub small : c .len ≤ longestName
   pub named : take (c .len) name ≡ at (inBook book) (c .index) .name
-  pub behind : c .index < n → RecordStands book (c .at) (c .index + 1) name
+  pub behind : c .index < c .n → RecordStands book (c .at) (c .index + 1) name
 
 -- the entry of the name w comes next, where the other book's next one has the name v: there is one, and v is none or
 -- not below w
@@ -56,11 +56,11 @@ entriesLeft book c = drop (c .index) (inBook book)
 
 -- r has the entry that came next of both books, and the next ones behind it; its length is 0 where none was left
 pub record TookNext
-    (first : List ℕ) (n : ℕ) (x : NextInBook) (a second : List ℕ) (m : ℕ) (y : NextInBook) (b name : List ℕ)
+    (first : List ℕ) (x : NextInBook) (a second : List ℕ) (y : NextInBook) (b name : List ℕ)
     (r : NextOfBoth) : Type 0
   where
-    pub ofFirst : Loaded first n (r .first) a
-    pub ofSecond : Loaded second m (r .second) b
+    pub ofFirst : Loaded first (r .first) a
+    pub ofSecond : Loaded second (r .second) b
     pub small : r .len ≤ longestName
     pub none : r .len ≡ 0 → joined (entriesLeft first x) (entriesLeft second y) ≡ []
     pub some :

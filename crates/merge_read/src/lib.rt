@@ -8,9 +8,10 @@ ghost use Rattle.entries.specs.Names.{longestName};
 ghost use Rattle.book_laws.specs.Held.{Held};
 ghost use Rattle.merge_read.specs.Turns.{Chosen, Loaded, RecordStands, TookNext, isDue, steps};
 
-// The next entry of a book: its position, where the record behind it begins, the length of its name, 0 where no entry
-// is left.
+// The next entry of a book of n: its position, where the record behind it begins, the length of its name, 0 where no
+// entry is left.
 pub struct NextInBook {
+    pub n: usize,
     pub index: usize,
     pub at: usize,
     pub len: usize,
@@ -34,40 +35,44 @@ pub struct NextOfBoth {
 fn next_name(book: &[u8], n: usize, index: usize, at: usize, name: &mut [u8]) -> NextInBook
     requires { ⌜ Held (now book) n × (index ≤ n) × (length (now name) ≡ longestName)
         × RecordStands (now book) at index (now name) ⌝ }
-    ensures { λ r. ⌜ Loaded (now (book .entry)) n r (now (name .exit)) × (r .index ≡ index) ⌝ }
+    ensures { λ r. ⌜ Loaded (now (book .entry)) r (now (name .exit)) × (r .index ≡ index) ⌝ }
 {
     if n <= index {
         return NextInBook {
+            n: n,
             index: index,
             at: at,
             len: 0,
         };
     }
     let p = book_read::read_name(book, at, index, name);
+    let end = at + (p.start + p.own);
+    let len = p.kept + p.own;
     NextInBook {
+        n: n,
         index: index,
-        at: at + (p.start + p.own),
-        len: p.kept + p.own,
+        at: end,
+        len: len,
     }
 }
 
 // The first entry of a book; its name to the front of name.
 pub fn first_name(book: &[u8], n: usize, name: &mut [u8]) -> NextInBook
     requires { ⌜ Held (now book) n × (length (now name) ≡ longestName) ⌝ }
-    ensures { λ r. ⌜ Loaded (now (book .entry)) n r (now (name .exit)) × (r .index ≡ 0) ⌝ }
+    ensures { λ r. ⌜ Loaded (now (book .entry)) r (now (name .exit)) × (r .index ≡ 0) ⌝ }
 {
     next_name(book, n, 0, book_layout::records_at(n), name)
 }
 
 // The entry behind one that was due; another stays the next.
-fn move_on(book: &[u8], n: usize, c: NextInBook, name: &mut [u8], due: bool) -> NextInBook
-    requires { ⌜ Loaded (now book) n c (now name) × (due ≡ true → c .index < n) ⌝ }
-    ensures { λ r. ⌜ Loaded (now (book .entry)) n r (now (name .exit)) × (r .index ≡ c .index + steps due) ⌝ }
+fn move_on(book: &[u8], c: NextInBook, name: &mut [u8], due: bool) -> NextInBook
+    requires { ⌜ Loaded (now book) c (now name) × (due ≡ true → c .index < c .n) ⌝ }
+    ensures { λ r. ⌜ Loaded (now (book .entry)) r (now (name .exit)) × (r .index ≡ c .index + steps due) ⌝ }
 {
     if !due {
         return c;
     }
-    next_name(book, n, c.index + 1, c.at, name)
+    next_name(book, c.n, c.index + 1, c.at, name)
 }
 
 // Whether the entry of this name comes next: there is one, and the other book has none left or its name is not below.
@@ -130,18 +135,16 @@ fn choose(
 // where none is left.
 pub fn next_entry(
     first: &[u8],
-    n: usize,
     x: NextInBook,
     a: &mut [u8],
     second: &[u8],
-    m: usize,
     y: NextInBook,
     b: &mut [u8],
     name: &mut [u8],
 ) -> NextOfBoth
-    requires { ⌜ Loaded (now first) n x (now a) × Loaded (now second) m y (now b)
+    requires { ⌜ Loaded (now first) x (now a) × Loaded (now second) y (now b)
         × (length (now name) ≡ longestName) ⌝ }
-    ensures { λ r. ⌜ TookNext (now (first .entry)) n x (now (a .exit)) (now (second .entry)) m y (now (b .exit))
+    ensures { λ r. ⌜ TookNext (now (first .entry)) x (now (a .exit)) (now (second .entry)) y (now (b .exit))
         (now (name .exit)) r ⌝ }
 {
     let u = x.len;
@@ -152,8 +155,8 @@ pub fn next_entry(
     let second_due = is_due_too(t, s, first_due);
     let e = choose(first, x.index, s, second, y.index, t, first_due, name);
     NextOfBoth {
-        first: move_on(first, n, x, a, first_due),
-        second: move_on(second, m, y, b, second_due),
+        first: move_on(first, x, a, first_due),
+        second: move_on(second, y, b, second_due),
         len: e.len,
         score: e.score,
     }

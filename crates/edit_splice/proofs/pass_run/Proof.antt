@@ -19,7 +19,8 @@ use Rattle.edit_splice.proofs.pass_run.Tie as tie
 
 abbrev Inv-loop : tie.InvT-loop
 Inv-loop book end dst₀ n store i₀ at₀ name₀ index₀ put₀ prev₀ prev-len₀ dst i at name index put prev prev-len =
-    RunLeft book i₀ end dst₀ n (cursorOf put₀ index₀ prev₀ prev-len₀) store at i name dst (cursorOf put index prev prev-len)
+    RunLeft book i₀ end dst₀ n (cursorOf put₀ index₀ prev₀ prev-len₀) store at i name dst
+    (cursorOf put index prev prev-len)
     × (length prev ≡ longestName)
 
 abbrev μ-loop : tie.MeasureT-loop

@@ -17,14 +17,16 @@ use Rattle.merge_calls.proofs.pass.Statement.{statement}
 use Rattle.merge_calls.proofs.pass.Tie as tie
 
 abbrev Inv-loop : tie.InvT-loop
-Inv-loop first n second m dst₀ count at store a₀ b₀ name₀ prev₀ prev-len₀ put₀ index₀ x₀ y₀ dst a b name prev prev-len put
+Inv-loop first n second m dst₀ count at store a₀ b₀ name₀ prev₀ prev-len₀ put₀ index₀ x₀ y₀ dst a b name prev prev-len
+    put
     index x y =
-    PassLeft first n second m dst₀ count at store x a y b dst (cursorOf put index prev prev-len)
+    PassLeft first second dst₀ count at store x a y b dst (cursorOf put index prev prev-len)
     × (length name ≡ longestName)
     × (length prev ≡ longestName)
 
 abbrev μ-loop : tie.MeasureT-loop
-μ-loop first n second m dst₀ count at store a₀ b₀ name₀ prev₀ prev-len₀ put₀ index₀ x₀ y₀ dst a b name prev prev-len put index
+μ-loop first n second m dst₀ count at store a₀ b₀ name₀ prev₀ prev-len₀ put₀ index₀ x₀ y₀ dst a b name prev prev-len
+    put index
     x y = count - index
 
 -- before the loop
@@ -86,13 +88,13 @@ abbrev turn : tie.After-next-entry Inv-loop μ-loop → tie.Then1 Inv-loop μ-lo
 turn r = r .before .before .before .before
 
 abbrev name-read : tie.After-next-entry Inv-loop μ-loop → List ℕ
-name-read r = r .next-entry .last .1 .1 .1 .1 .1 .1 .1 .1 .0
+name-read r = r .next-entry .last .1 .1 .1 .1 .1 .1 .0
 
 abbrev name-size : tie.After-next-entry Inv-loop μ-loop → ℕ
 name-size r = r .next-entry .result .len
 
 name-long : (r : tie.After-next-entry Inv-loop μ-loop) → length (name-read r) ≡ longestName
-name-long r = r .next-entry .kept .1 .1 .1 .1 .1 .1 .1 .1 .0 ∙ loop (turn r) .loop .inv .1
+name-long r = r .next-entry .kept .1 .1 .1 .1 .1 .1 .0 ∙ loop (turn r) .loop .inv .1
 
 name-fits : (r : tie.After-next-entry Inv-loop μ-loop) → name-size r ≤ length (name-read r)
 name-fits r = omega (arith, name-long r, r .next-entry .ensures .small)

@@ -16,7 +16,7 @@ start e = e .before .before .before
 due : (e : tie.Else1) → start e .args .due ≡ true
 due e = not-false (start e .args .due) (e .if1 .left)
 
-low : (e : tie.Else1) → start e .args .c .index < start e .args .n
+low : (e : tie.Else1) → start e .args .c .index < start e .args .c .n
 low e = start e .pre .1 (due e)
 
 returns : tie.Need-returns

@@ -32,14 +32,14 @@ given :
 given r = let e = other r in let q = start e .pre in
     loaded-given (q .0) (q .2) (q .3) (e .if1 .left) (r .read-name .ensures)
 
-add-t10 : tie.Need-add-t10
-add-t10 c = let r = c .before .before .before in omega (arith, given r .inside, start (other r) .good .0)
+add-end : tie.Need-add-end
+add-end c = let r = c .before .before .before in omega (arith, given r .inside, start (other r) .good .0)
 
-add-t11 : tie.Need-add-t11
-add-t11 c = let r = c .before .before .before in omega (arith, given r .inside, start (other r) .good .0)
+add-end-2 : tie.Need-add-end-2
+add-end-2 c = let r = c .before .before .before in omega (arith, given r .inside, start (other r) .good .0)
 
-add-t12 : tie.Need-add-t12
-add-t12 c = omega (arith, given (after-read-name c) .small)
+add-len : tie.Need-add-len
+add-len c = omega (arith, given (after-read-name c) .small)
 
 same-length : tie.Need-same-length
 same-length c = search needs
@@ -53,4 +53,4 @@ returns-2 c =
 
 pub next-name-spec : {M : Type 1} → statement M
 next-name-spec =
-    tie.close (tie.spec returns read-name-requires add-t10 add-t11 add-t12 same-length returns-2)
+    tie.close (tie.spec returns read-name-requires add-end add-end-2 add-len same-length returns-2)

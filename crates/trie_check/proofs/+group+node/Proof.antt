@@ -215,7 +215,8 @@ module _ (t : ℕ) where
       )
 
   -- from where the place behind the node is told: what stands below it
-  abbrev below : group-lts.After-known-told3 gc (group-at t) group.Post group-Inv-loop group-μ-loop → group-lts.After-node gc (group-at t) group.Post group-Inv-loop group-μ-loop
+  abbrev below : group-lts.After-known-told3 gc (group-at t) group.Post group-Inv-loop group-μ-loop
+      → group-lts.After-node gc (group-at t) group.Post group-Inv-loop group-μ-loop
   below k = k .before .before .before
 
   group-returns-6 : group-lts.Need-returns-6 gc (group-at t) group.Post group-Inv-loop group-μ-loop

@@ -121,7 +121,8 @@ module _ (t : ℕ) where
       let h = o .before .before in
       one-grouped (start (h .before) .pre .1) (h .if1 .taken) (o .lone .ensures)
 
-  group-slice-aggregate-split : group-lts.Need-slice-aggregate-split claims (group-at t) group.Post group-Inv-loop group-μ-loop
+  group-slice-aggregate-split : group-lts.Need-slice-aggregate-split claims (group-at t) group.Post group-Inv-loop
+      group-μ-loop
   group-slice-aggregate-split c = search needs
 
   group-split-requires : group-lts.Need-split-requires claims (group-at t) group.Post group-Inv-loop group-μ-loop
@@ -136,7 +137,8 @@ module _ (t : ℕ) where
   group-sub-i : group-lts.Need-sub-i claims (group-at t) group.Post group-Inv-loop group-μ-loop
   group-sub-i c = c .loop-test .taken
 
-  group-slice-aggregate-run-at : group-lts.Need-slice-aggregate-run-at claims (group-at t) group.Post group-Inv-loop group-μ-loop
+  group-slice-aggregate-run-at : group-lts.Need-slice-aggregate-run-at claims (group-at t) group.Post group-Inv-loop
+      group-μ-loop
   group-slice-aggregate-run-at c = search needs
 
   group-run-at-requires : group-lts.Need-run-at-requires claims (group-at t) group.Post group-Inv-loop group-μ-loop
@@ -196,10 +198,12 @@ module _ (t : ℕ) where
             (a .run-at .ensures) (g .group .ensures),
       )
 
-  group-with-under-requires : group-lts.Need-with-under-requires claims (group-at t) group.Post group-Inv-loop group-μ-loop
+  group-with-under-requires : group-lts.Need-with-under-requires claims (group-at t) group.Post group-Inv-loop
+      group-μ-loop
   group-with-under-requires c κs = tt
 
-  group-slice-aggregate-put-run : group-lts.Need-slice-aggregate-put-run claims (group-at t) group.Post group-Inv-loop group-μ-loop
+  group-slice-aggregate-put-run : group-lts.Need-slice-aggregate-put-run claims (group-at t) group.Post group-Inv-loop
+      group-μ-loop
   group-slice-aggregate-put-run c = search needs
 
   -- from where the bytes under it are known
@@ -228,7 +232,8 @@ module _ (t : ℕ) where
       turn (begin l .pre .1) (apart l) (p .0) (p .1) (l .loop .inv) refl (h .loop-test .taken)
       (a .run-at .ensures) (g .group .ensures) (w .with-under .result) (w .with-under .ensures) (o .put-run .ensures)
 
-  group-slice-aggregate-finish : group-lts.Need-slice-aggregate-finish claims (group-at t) group.Post group-Inv-loop group-μ-loop
+  group-slice-aggregate-finish : group-lts.Need-slice-aggregate-finish claims (group-at t) group.Post group-Inv-loop
+      group-μ-loop
   group-slice-aggregate-finish c = search needs
 
   group-finish-requires : group-lts.Need-finish-requires claims (group-at t) group.Post group-Inv-loop group-μ-loop
@@ -241,7 +246,8 @@ module _ (t : ℕ) where
       )
 
   -- at the end: the loop is left
-  abbrev left : group-lts.After-finish claims (group-at t) group.Post group-Inv-loop group-μ-loop → group-lts.After-loop claims (group-at t) group.Post group-Inv-loop group-μ-loop
+  abbrev left : group-lts.After-finish claims (group-at t) group.Post group-Inv-loop group-μ-loop
+      → group-lts.After-loop claims (group-at t) group.Post group-Inv-loop group-μ-loop
   left f = f .before .before .before
 
   group-same-length-2 : group-lts.Need-same-length-2 claims (group-at t) group.Post group-Inv-loop group-μ-loop

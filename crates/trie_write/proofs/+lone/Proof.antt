@@ -129,7 +129,8 @@ module _ (t : ℕ) where
   under f = f .before .before .before .before .before
 
   grouped : (f : Finished) → let a = begin (under f) .args in
-      Grouped (entries (a .names .now) (a .lens .now) (a .scores .now)) (a .row) (a .row + 1) (a .d) (a .s) (a .dst .now)
+      Grouped (entries (a .names .now) (a .lens .now) (a .scores .now)) (a .row) (a .row + 1) (a .d) (a .s)
+      (a .dst .now)
       (f .finish-one .last .1 .1 .1 .1 .0) (a .to .total) (a .to .back) (a .to .put) (f .finish-one .result)
   grouped f =
       let u = under f in
