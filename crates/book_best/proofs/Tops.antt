@@ -1,4 +1,4 @@
--- The best so far of a range, taken part by part: one position, or a block by its peak.
+-- The best so far of a range, taken stretch by stretch: one position, or a block by its peak.
 use Prim.Native.Nat.{_*_, _+_, _<_, _≤_, min, ℕ}
 use mathlib.Core.Path.{_≡_}
 use mathlib.Core.Bool.{false}

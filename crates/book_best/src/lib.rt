@@ -8,7 +8,7 @@ ghost use Rattle.book_laws.specs.Held.{Held};
 ghost use Rattle.book_best.specs.Best.{BestIn, Tops};
 
 // The best of some positions in a row, and the position behind them.
-struct Part {
+struct Stretch {
     best: usize,
     next: usize,
 }
@@ -22,19 +22,19 @@ fn peak_of(book: &[u8], n: usize, j: usize) -> usize
 }
 
 // The positions to take at once from i on: a block that begins there and ends in the range, else i alone.
-fn part_at(book: &[u8], n: usize, i: usize, end: usize) -> Part
+fn stretch_at(book: &[u8], n: usize, i: usize, end: usize) -> Stretch
     requires { ⌜ Held (now book) n × (i < end) × (end ≤ n) ⌝ }
     ensures { λ r. ⌜ Tops (inBook (now (book .entry))) i end (r .best) (r .next) ⌝ }
 {
     if i % BLOCK_SIZE == 0 {
         if BLOCK_SIZE <= end - i {
-            return Part {
+            return Stretch {
                 best: peak_of(book, n, i / BLOCK_SIZE),
                 next: i + BLOCK_SIZE,
             };
         }
     }
-    Part {
+    Stretch {
         best: i,
         next: i + 1,
     }
@@ -45,14 +45,14 @@ pub fn best_in(book: &[u8], n: usize, first: usize, end: usize) -> usize
     requires { ⌜ Held (now book) n × (first < end) × (end ≤ n) ⌝ }
     ensures { λ r. ⌜ BestIn (inBook (now (book .entry))) first end r ⌝ }
 {
-    let start = part_at(book, n, first, end);
+    let start = stretch_at(book, n, first, end);
     let mut b = start.best;
     let mut i = start.next;
     while i < end {
         // later positions, so that they need a higher score
-        let part = part_at(book, n, i, end);
-        b = book_layout::better(book, b, part.best);
-        i = part.next;
+        let more = stretch_at(book, n, i, end);
+        b = book_layout::better(book, b, more.best);
+        i = more.next;
     }
     b
 }

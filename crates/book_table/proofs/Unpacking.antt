@@ -44,7 +44,8 @@ pub record Unpacking (book : List ℕ) (n : ℕ) (u₀ m₀ sc₀ u m sc name : 
   pub rows : (p : ℕ) → p < i → Row (inBook book) u m sc p
 
 pub unpack-start :
-    {book : List ℕ} {n k : ℕ} {u m sc : List ℕ} (name : List ℕ) → Held book n → TableRoom n (length u) (length m) (length sc)
+    {book : List ℕ} {n k : ℕ} {u m sc : List ℕ} (name : List ℕ) → Held book n
+    → TableRoom n (length u) (length m) (length sc)
     → k ≡ recordsAt layout21 n → length name ≡ longestName → Unpacking book n u m sc u m sc name k 0
 unpack-start name b r e l =
     record {

@@ -19,14 +19,14 @@ abbrev μ-loop : tie.MeasureT-loop
 abbrev start : tie.At-loop Inv-loop μ-loop → tie.Start Inv-loop μ-loop
 start l = l .before .before .before
 
-part-at-requires : tie.Need-part-at-requires Inv-loop μ-loop
-part-at-requires c κs = c .before .pre
+stretch-at-requires : tie.Need-stretch-at-requires Inv-loop μ-loop
+stretch-at-requires c κs = c .before .pre
 
 loop-holds : tie.Need-loop-holds Inv-loop μ-loop
-loop-holds c = c .part-at .ensures
+loop-holds c = c .stretch-at .ensures
 
-part-at-requires-2 : tie.Need-part-at-requires-2 Inv-loop μ-loop
-part-at-requires-2 c κs = (start (c .before) .pre .0, omega arith, omega arith)
+stretch-at-requires-2 : tie.Need-stretch-at-requires-2 Inv-loop μ-loop
+stretch-at-requires-2 c κs = (start (c .before) .pre .0, omega arith, omega arith)
 
 better-requires : tie.Need-better-requires Inv-loop μ-loop
 better-requires c κs = omega (arith, held-few (start (c .before .before) .pre .0))
@@ -38,7 +38,7 @@ loop-again : tie.Need-loop-again Inv-loop μ-loop
 loop-again c =
     let p = c .before in
     let l = p .before .before in
-    rw (c .better .ensures) (tops-turn (start l .pre .0) (l .loop .inv) (omega arith) (p .part-at2 .ensures))
+    rw (c .better .ensures) (tops-turn (start l .pre .0) (l .loop .inv) (omega arith) (p .stretch-at2 .ensures))
 
 returns : tie.Need-returns Inv-loop μ-loop
 returns c = let l = c .before in tops-best (start l .pre .0) (l .loop .inv) (omega arith) (c .loop-test .left)
@@ -49,9 +49,9 @@ best-in-spec =
     (tie.spec
     Inv-loop
     μ-loop
-    part-at-requires
+    stretch-at-requires
     loop-holds
-    part-at-requires-2
+    stretch-at-requires-2
     better-requires
     loop-less
     loop-again

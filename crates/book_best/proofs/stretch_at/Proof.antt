@@ -1,9 +1,9 @@
--- `book_best::part_at` meets its contract: a position tops itself, a block's peak the whole block.
+-- `book_best::stretch_at` meets its contract: a position tops itself, a block's peak the whole block.
 -- No loop, so no invariant. Assumes nothing.
 use native.Mathlib.Omega.{arith}
 use Rattle.book_best.proofs.Tops.{tops-block, tops-one}
-use Rattle.book_best.proofs.part_at.Statement.{statement}
-use Rattle.book_best.proofs.part_at.Tie as tie
+use Rattle.book_best.proofs.stretch_at.Statement.{statement}
+use Rattle.book_best.proofs.stretch_at.Tie as tie
 
 sub-if2 : tie.Need-sub-if2
 sub-if2 c = omega arith
@@ -23,5 +23,5 @@ add-t5 c = omega arith
 returns-2 : tie.Need-returns-2
 returns-2 c = tops-one _ _ _ (omega arith)
 
-pub part-at-spec : {M : Type 1} → statement M
-part-at-spec = tie.close (tie.spec sub-if2 peak-of-requires add-t11 returns add-t5 returns-2)
+pub stretch-at-spec : {M : Type 1} → statement M
+stretch-at-spec = tie.close (tie.spec sub-if2 peak-of-requires add-t11 returns add-t5 returns-2)
