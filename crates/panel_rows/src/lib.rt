@@ -68,12 +68,12 @@ pub fn take_name(book: &[u8], n: usize, p: panel::Panel) -> panel::Panel
     if p.rows == 0 {
         return p;
     }
-    let row = p.highlight;
+    let taken = p.highlight;
     let len = p.len;
     let text = p.text;
     let s = completion_book::offers(book, n, &text[..len], PANEL_COUNT);
     let offered = s.offered;
-    let c = book_find::cursor_at(book, n, offered[row]);
+    let c = book_find::cursor_at(book, n, offered[taken]);
     let name = c.name;
     panel::Panel {
         text: name,
