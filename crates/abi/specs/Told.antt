@@ -23,20 +23,20 @@ pub record RowsTold (a : Answer ℕ) (r k : ℕ) : Type 0 where
   pub returned : r ≡ number a
   pub rows : k ≡ counts 0 a
 
--- of finding: whether there is a place, 1 or 0, and the place, zeros where there is none
+-- of finding: whether the name is there, 1 or 0, and its position and score, zeros where it is not
 abbrev pub isThere : Option FoundCounts → ℕ
 isThere none = 0
 isThere (some p) = 1
 
-abbrev pub placeIn : Option FoundCounts → FoundCounts
-placeIn none = noneFound
-placeIn (some p) = p
+abbrev pub orZeros : Option FoundCounts → FoundCounts
+orZeros none = noneFound
+orZeros (some p) = p
 
 pub record FoundTold (a : Answer (Option FoundCounts)) (r f i s : ℕ) : Type 0 where
   pub returned : r ≡ number a
   pub found : f ≡ isThere (counts none a)
-  pub position : i ≡ placeIn (counts none a) .position
-  pub score : s ≡ placeIn (counts none a) .score
+  pub position : i ≡ orZeros (counts none a) .position
+  pub score : s ≡ orZeros (counts none a) .score
 
 -- of a prefix range: the first position and how many there are
 pub record SpanTold (a : Answer SpanCounts) (r i k : ℕ) : Type 0 where

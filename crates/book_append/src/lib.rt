@@ -8,9 +8,9 @@ ghost use Rattle.entries.specs.Names.{longestName};
 ghost use Rattle.book_laws.specs.Cursor.{cursorOf};
 ghost use Rattle.book_append.specs.Append.{AppendDone, Fits, cursorBehind};
 
-// Where an entry is put: as the one at a position of a book of n, its record at index `at`; without `store` it is only
-// measured.
-pub struct Slot {
+// Where an entry is put: as the one at position `index` of a book of n, its record at offset `at`. Without `store` it is
+// only measured.
+pub struct EntryTarget {
     pub n: usize,
     pub index: usize,
     pub at: usize,
@@ -18,37 +18,37 @@ pub struct Slot {
 }
 
 // Passes an entry behind the name prev: puts it, or only measures its record. Where the record ends.
-fn pass_entry(dst: &mut [u8], slot: Slot, prev: &[u8], name: &[u8], score: u32) -> usize
-    requires { ⌜ Fits (slot .store) (slot .n) (cursorBehind (slot .at) (slot .index) (now prev))
+fn pass_entry(dst: &mut [u8], to: EntryTarget, prev: &[u8], name: &[u8], score: u32) -> usize
+    requires { ⌜ Fits (to .store) (to .n) (cursorBehind (to .at) (to .index) (now prev))
         (entry (now name) score ∷ []) (now dst) ⌝ }
-    ensures { λ r. ⌜ AppendDone (slot .store) (slot .n) (cursorBehind (slot .at) (slot .index) (now (prev .entry)))
+    ensures { λ r. ⌜ AppendDone (to .store) (to .n) (cursorBehind (to .at) (to .index) (now (prev .entry)))
         (entry (now (name .entry)) score ∷ []) (now (dst .entry))
-        (cursorBehind r (slot .index + 1) (now (name .entry))) (now (dst .exit)) ⌝ }
+        (cursorBehind r (to .index + 1) (now (name .entry))) (now (dst .exit)) ⌝ }
 {
-    if slot.store {
-        return book_write::put_entry(dst, slot.n, slot.index, slot.at, prev, name, score);
+    if to.store {
+        return book_write::put_entry(dst, to.n, to.index, to.at, prev, name, score);
     }
-    slot.at + book_record_write::record_size(slot.index, prev, name)
+    to.at + book_record_write::record_size(to.index, prev, name)
 }
 
 // Passes an entry behind the name before, the first len bytes of prev; the entry's own name takes its place. Where the
 // record ends.
 pub fn pass_next(
     dst: &mut [u8],
-    slot: Slot,
+    to: EntryTarget,
     prev: &mut [u8],
     len: usize,
     name: &[u8],
     score: u32,
 ) -> usize
-    requires { ⌜ Fits (slot .store) (slot .n) (cursorOf (slot .at) (slot .index) (now prev) len)
+    requires { ⌜ Fits (to .store) (to .n) (cursorOf (to .at) (to .index) (now prev) len)
         (entry (now name) score ∷ []) (now dst)
         × (length (now prev) ≡ longestName) ⌝ }
-    ensures { λ r. ⌜ AppendDone (slot .store) (slot .n) (cursorOf (slot .at) (slot .index) (now (prev .entry)) len)
+    ensures { λ r. ⌜ AppendDone (to .store) (to .n) (cursorOf (to .at) (to .index) (now (prev .entry)) len)
         (entry (now (name .entry)) score ∷ []) (now (dst .entry))
-        (cursorOf r (slot .index + 1) (now (prev .exit)) (length (now (name .entry)))) (now (dst .exit)) ⌝ }
+        (cursorOf r (to .index + 1) (now (prev .exit)) (length (now (name .entry)))) (now (dst .exit)) ⌝ }
 {
-    let end = pass_entry(dst, slot, &prev[..len], name, score);
+    let end = pass_entry(dst, to, &prev[..len], name, score);
     octets_code::copy(prev, 0, name);
     end
 }

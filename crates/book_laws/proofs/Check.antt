@@ -24,7 +24,7 @@ use Rattle.frame.specs.Frame.{isRead}
 use Rattle.book.specs.Book.{blockSize, bookImage, entriesFrom, imageIn, isBook, layout21, offset, offsets, peak, peaks}
 use Rattle.book.specs.Book.{readBook, recordsAt, scores, scoresFrom}
 use Rattle.book_laws.specs.Check.{bestBetween, checks, offsetAt, peakAt, peaksAre, recordsEnd, scoreAt}
-use Rattle.book_laws.specs.Check.{scorePlace}
+use Rattle.book_laws.specs.Check.{scoreStart}
 use Rattle.frame_laws.proofs.Test.{FrameTests, ends-some, frame-passes, frame-tests, version-stands, version-there}
 use Rattle.book.proofs.Places.{peak-span}
 use Rattle.book.proofs.Reading.{book-exact, image-length}
@@ -183,12 +183,12 @@ module _ (buf : List ℕ) (b : Bytes buf) (t : Tests buf) where
       let f = scoresFrom-at n (drop 7 buf) i (omega arith) in
       let g = entriesFrom-score ws (scoresFrom n (drop 7 buf)) i as-many (omega arith) in
       rw (
-        le-leb (scorePlace i + 4) (length buf) (omega arith),
+        le-leb (scoreStart i + 4) (length buf) (omega arith),
         g,
         f,
       ) (ap (λ l. fromBe (take 4 l)) (sym (drop-drop (4 * i) 7 buf)))
 
-  es-score′ : (i : ℕ) → i < length es → numberAt 4 buf (scorePlace i) ≡ at es i .score
+  es-score′ : (i : ℕ) → i < length es → numberAt 4 buf (scoreStart i) ≡ at es i .score
   unfolding scoreAt
   es-score′ i l = es-score i l
 
@@ -205,8 +205,8 @@ module _ (buf : List ℕ) (b : Bytes buf) (t : Tests buf) where
       (all-both (λ e. isName (e .name)) (λ e. isScore (e .score)) es
       (sym (all-names isName es) ∙ (rw es-names (walked .0 .allowed)))
       (all-at (λ e. isScore (e .score)) noEntry es
-      (λ i l. rw (← es-score i l) (lt-ltb (numberAt 4 buf (scorePlace i)) (2 ^ 32)
-      (number-below 4 buf (scorePlace i) b (omega arith))))))
+      (λ i l. rw (← es-score i l) (lt-ltb (numberAt 4 buf (scoreStart i)) (2 ^ 32)
+      (number-below 4 buf (scoreStart i) b (omega arith))))))
       es-rising
 
   es-offset : (j : ℕ) → bucketSize * j < length es → offsetAt buf (length es) j ≡ offset layout21 es j

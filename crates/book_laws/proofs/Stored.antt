@@ -19,7 +19,7 @@ use Rattle.book.specs.Records.{bucketSize, lastOr, records}
 use Rattle.book.proofs.Records.{records-append}
 use Rattle.book.specs.Book.{Layout, blockSize, bookImage, imageIn, layout21, offset, offsets, peak, peaks, readBook}
 use Rattle.book.specs.Book.{recordsAt, scores}
-use Rattle.book_laws.specs.Check.{offsetPlace, peakPlace, scoreAt}
+use Rattle.book_laws.specs.Check.{offsetStart, peakStart, scoreAt}
 use Rattle.book.proofs.Places.{peak-inside}
 use Rattle.book.proofs.Reading.{book-exact, image-length}
 use Rattle.book.proofs.Sections.{peaksAt, sections-of}
@@ -56,8 +56,8 @@ pub record Stored (buf : List ℕ) (es : List Entry) : Type 0 where
   pub total : numberAt 4 buf 1 ≡ length (imageIn layout21 es)
   pub scoredAt : (i : ℕ) → i < length es → scoreAt buf i ≡ at es i .score
   pub offsetAt : (j : ℕ) → bucketSize * j < length es
-      → numberAt 2 buf (offsetPlace (length es) j) ≡ offset layout21 es j
-  pub peakAt : (j : ℕ) → blockSize * j < length es → numberAt 2 buf (peakPlace (length es) j) ≡ peak es j
+      → numberAt 2 buf (offsetStart (length es) j) ≡ offset layout21 es j
+  pub peakAt : (j : ℕ) → blockSize * j < length es → numberAt 2 buf (peakStart (length es) j) ≡ peak es j
 
 pub stored : (buf : List ℕ) (es : List Entry) → readBook buf ≡ some es → Stored buf es
 unfolding bookImage offsets peaks scores scoreAt recordsAt isScore

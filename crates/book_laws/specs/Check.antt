@@ -16,27 +16,27 @@ use Rattle.frame_laws.specs.Test.{endsAt, frameIs}
 
 -- where the score of position i stands, and in a book of n names the offset of bucket j, the first peak, the peak of
 -- block j
-abbrev pub scorePlace : ℕ → ℕ
-scorePlace i = 7 + 4 * i
+abbrev pub scoreStart : ℕ → ℕ
+scoreStart i = 7 + 4 * i
 
-abbrev pub offsetPlace : ℕ → ℕ → ℕ
-offsetPlace n j = 7 + 4 * n + 2 * j
+abbrev pub offsetStart : ℕ → ℕ → ℕ
+offsetStart n j = 7 + 4 * n + 2 * j
 
 abbrev pub peaksStart : ℕ → ℕ
-peaksStart n = offsetPlace n (ceil n bucketSize)
+peaksStart n = offsetStart n (ceil n bucketSize)
 
-abbrev pub peakPlace : ℕ → ℕ → ℕ
-peakPlace n j = peaksStart n + 2 * j
+abbrev pub peakStart : ℕ → ℕ → ℕ
+peakStart n j = peaksStart n + 2 * j
 
 -- what stands there
 unfoldable pub scoreAt : List ℕ → ℕ → ℕ
-scoreAt buf i = numberAt 4 buf (scorePlace i)
+scoreAt buf i = numberAt 4 buf (scoreStart i)
 
 abbrev pub offsetAt : List ℕ → ℕ → ℕ → ℕ
-offsetAt buf n j = numberAt 2 buf (offsetPlace n j)
+offsetAt buf n j = numberAt 2 buf (offsetStart n j)
 
 abbrev pub peakAt : List ℕ → ℕ → ℕ → ℕ
-peakAt buf n j = numberAt 2 buf (peakPlace n j)
+peakAt buf n j = numberAt 2 buf (peakStart n j)
 
 -- a bucket's offset says where its head's record stands; another position has none
 unfoldable pub offsetIs : ℕ → ℕ → ℕ → List ℕ → Bool

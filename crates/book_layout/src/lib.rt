@@ -9,11 +9,13 @@ ghost use Rattle.octets.specs.Lists.{ceil};
 ghost use Rattle.entries.specs.Entries.{maxEntries};
 ghost use Rattle.book.specs.Records.{bucketHead, bucketSize};
 ghost use Rattle.book.specs.Book.{blockSize, layout21, recordsAt};
-ghost use Rattle.book_laws.specs.Check.{bestBetween, betterOf, blockEnd, offsetAt, offsetPlace, peakAt, peakPlace};
-ghost use Rattle.book_laws.specs.Check.{scoreAt, scorePlace};
+ghost use Rattle.book_laws.specs.Check.{bestBetween, betterOf, blockEnd, offsetAt, offsetStart, peakAt, peakStart};
+ghost use Rattle.book_laws.specs.Check.{scoreAt, scoreStart};
 
-// The bytes of an offset, and of a peak.
-const PLACE_BYTES: usize = 2;
+// The bytes of an offset, and those of a peak.
+const OFFSET_BYTES: usize = 2;
+
+const PEAK_BYTES: usize = 2;
 
 // How many buckets n entries have, the last perhaps shorter.
 pub fn buckets(n: usize) -> usize
@@ -48,27 +50,27 @@ pub fn block_end(n: usize, j: usize) -> usize
 }
 
 // Where the score of a position stands, in a book of any number of entries.
-pub fn score_place(i: usize) -> usize
+pub fn score_start(i: usize) -> usize
     requires { ⌜ i ≤ maxEntries ⌝ }
-    ensures { λ r. ⌜ r ≡ scorePlace i ⌝ }
+    ensures { λ r. ⌜ r ≡ scoreStart i ⌝ }
 {
     FRAME_LENGTH + SCORE_BYTES * i
 }
 
 // Where the offset of a bucket stands: the offsets are behind the scores.
-pub fn offset_place(n: usize, bucket: usize) -> usize
+pub fn offset_start(n: usize, bucket: usize) -> usize
     requires { ⌜ (n ≤ maxEntries) × (bucket ≤ maxEntries) ⌝ }
-    ensures { λ r. ⌜ r ≡ offsetPlace n bucket ⌝ }
+    ensures { λ r. ⌜ r ≡ offsetStart n bucket ⌝ }
 {
-    score_place(n) + PLACE_BYTES * bucket
+    score_start(n) + OFFSET_BYTES * bucket
 }
 
 // Where the peak of block j stands: the peaks are behind the offsets.
-pub fn peak_place(n: usize, j: usize) -> usize
+pub fn peak_start(n: usize, j: usize) -> usize
     requires { ⌜ (n ≤ maxEntries) × (j ≤ maxEntries) ⌝ }
-    ensures { λ r. ⌜ r ≡ peakPlace n j ⌝ }
+    ensures { λ r. ⌜ r ≡ peakStart n j ⌝ }
 {
-    offset_place(n, buckets(n)) + PLACE_BYTES * j
+    offset_start(n, buckets(n)) + PEAK_BYTES * j
 }
 
 // Where the records begin: behind the peaks.
@@ -76,7 +78,7 @@ pub fn records_at(n: usize) -> usize
     requires { ⌜ n ≤ maxEntries ⌝ }
     ensures { λ r. ⌜ r ≡ recordsAt layout21 n ⌝ }
 {
-    peak_place(n, blocks(n))
+    peak_start(n, blocks(n))
 }
 
 // The score of a position.
@@ -84,7 +86,7 @@ pub fn score_at(buf: &[u8], i: usize) -> u32
     requires { ⌜ i ≤ maxEntries ⌝ }
     ensures { λ r. ⌜ r ≡ scoreAt (now (buf .entry)) i ⌝ }
 {
-    octets_code::read_u32(buf, score_place(i))
+    octets_code::read_u32(buf, score_start(i))
 }
 
 // The offset of a bucket.
@@ -92,7 +94,7 @@ pub fn offset_at(buf: &[u8], n: usize, bucket: usize) -> usize
     requires { ⌜ (n ≤ maxEntries) × (bucket ≤ maxEntries) ⌝ }
     ensures { λ r. ⌜ r ≡ offsetAt (now (buf .entry)) n bucket ⌝ }
 {
-    octets_code::read_u16(buf, offset_place(n, bucket)) as usize
+    octets_code::read_u16(buf, offset_start(n, bucket)) as usize
 }
 
 // The peak of block j.
@@ -100,7 +102,7 @@ pub fn peak_at(buf: &[u8], n: usize, j: usize) -> usize
     requires { ⌜ (n ≤ maxEntries) × (j ≤ maxEntries) ⌝ }
     ensures { λ r. ⌜ r ≡ peakAt (now (buf .entry)) n j ⌝ }
 {
-    octets_code::read_u16(buf, peak_place(n, j)) as usize
+    octets_code::read_u16(buf, peak_start(n, j)) as usize
 }
 
 // The better of two positions, of which b is the earlier one. It is the one that outranks the other (`outranks` in

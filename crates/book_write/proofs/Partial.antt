@@ -9,7 +9,7 @@ use native.Mathlib.Omega.{arith}
 use Rattle.octets.specs.Octets.{be, begins}
 use Rattle.entries.specs.Entries.{Entry, at, names}
 use Rattle.entries.specs.Names.{longestName}
-use Rattle.book_laws.specs.Check.{offsetPlace, scorePlace}
+use Rattle.book_laws.specs.Check.{offsetStart, scoreStart}
 use Rattle.book_laws.specs.Cursor.{nameIn}
 use Rattle.book.specs.Records.{bucketHead, bucketSize, recordOf, records}
 use Rattle.book.specs.Book.{imageIn, layout21, offset, recordsAt}
@@ -26,10 +26,10 @@ pub record Partial (es : List Entry) (d₀ : List ℕ) (c : Cursor) (d : List �
   pub start : c .at ≡ recordAt es (c .index)
   pub name : nameIn c ≡ nameBefore es (c .index)
   pub small : c .len ≤ longestName
-  pub scored : (k : ℕ) → k < c .index → begins (be 4 (at es k .score)) (drop (scorePlace k) d) ≡ true
+  pub scored : (k : ℕ) → k < c .index → begins (be 4 (at es k .score)) (drop (scoreStart k) d) ≡ true
   pub bucketed :
       (j : ℕ) → bucketSize * j < c .index
-      → begins (be 2 (offset layout21 es j)) (drop (offsetPlace (length es) j) d) ≡ true
+      → begins (be 2 (offset layout21 es j)) (drop (offsetStart (length es) j) d) ≡ true
   pub recorded : begins (records bucketHead 0 [] (take (c .index) (names es)))
       (drop (recordsAt layout21 (length es)) d) ≡ true
 

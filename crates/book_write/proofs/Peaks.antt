@@ -10,14 +10,14 @@ use native.Mathlib.Omega.{arith}
 use Rattle.octets.specs.Lists.{ceil}
 use Rattle.octets.specs.Octets.{be}
 use Rattle.book.specs.Book.{blockSize}
-use Rattle.book_laws.specs.Check.{bestBetween, blockEnd, peakPlace}
+use Rattle.book_laws.specs.Check.{bestBetween, blockEnd, peakStart}
 use Rattle.book_write.specs.Writing.{putPeak, putPeaks}
 
 -- the peak of a block, stored from what the calls give
 pub peak-stored :
     (n j : ℕ) (d : List ℕ) {end top place : ℕ} {new : List ℕ} → end ≡ blockEnd n j
     → top ≡ bestBetween d (blockSize * j) end
-    → place ≡ peakPlace n j → new ≡ sets d place (be 2 top) → new ≡ putPeak n j d
+    → place ≡ peakStart n j → new ≡ sets d place (be 2 top) → new ≡ putPeak n j d
 peak-stored n j d e b s w = rw (w, b, e, s)
 
 pub record PeaksLeft (d₀ : List ℕ) (n : ℕ) (d : List ℕ) (j : ℕ) : Type 0 where
@@ -40,7 +40,7 @@ peaks-turn {d₀} {n} {d} {new} {j} p h w =
       within = omega arith;
       sameLength = rw (
         w,
-        length-sets d (peakPlace n j) (be 2 (bestBetween d (blockSize * j) (blockEnd n j))),
+        length-sets d (peakStart n j) (be 2 (bestBetween d (blockSize * j) (blockEnd n j))),
       ) (p .sameLength);
       rest = rw (w, add-one j) (rw (z, add-one j) at (p .rest));
     }

@@ -17,7 +17,7 @@ use Rattle.octets.proofs.Stores.{sets-behind, sets-stands, stays}
 use Rattle.octets.proofs.Tests.{and-intro, by-test, other}
 use Rattle.entries.specs.Entries.{Entry, at, names}
 use Rattle.entries.specs.Names.{longestName}
-use Rattle.book_laws.specs.Check.{offsetPlace, scorePlace}
+use Rattle.book_laws.specs.Check.{offsetStart, scoreStart}
 use Rattle.book_laws.specs.Cursor.{nameIn}
 use Rattle.book.specs.Records.{bucketHead, bucketSize, lastOr, recordOf, records}
 use Rattle.book.specs.Book.{imageIn, layout21, offset, recordsAt}
@@ -42,10 +42,10 @@ module _
     record-bytes = recordOf bucketHead i (nameIn c) w
 
     abbrev slot : ℕ
-    slot = offsetPlace n (i / bucketSize)
+    slot = offsetStart n (i / bucketSize)
 
     abbrev d₁ : List ℕ
-    d₁ = sets d (scorePlace i) (be 4 (at es i .score))
+    d₁ = sets d (scoreStart i) (be 4 (at es i .score))
 
     abbrev d₂ : List ℕ
     d₂ = putOffset n i (c .at) d₁
@@ -61,7 +61,7 @@ module _
     starts = let q = p .start in omega arith
 
     long₁ : length d₁ ≡ length d
-    long₁ = length-sets d (scorePlace i) (be 4 (at es i .score))
+    long₁ = length-sets d (scoreStart i) (be 4 (at es i .score))
 
     long₂ : length d₂ ≡ length d
     unfolding putOffset
@@ -71,7 +71,7 @@ module _
     unfolding putEntry
     long₃ = length-sets d₂ (c .at) record-bytes ∙ long₂
 
-    score-room : scorePlace i + length (be 4 (at es i .score)) ≤ length d
+    score-room : scoreStart i + length (be 4 (at es i .score)) ≤ length d
     unfolding recordsAt
     score-room = let f = p .fits in let r = room in let s = starts in rw length-be (omega arith)
 
@@ -98,27 +98,27 @@ module _
     unfolding putEntry
     after-record x k o b = stays d₂ record-bytes (c .at) record-room x k o b
 
-    after-score : (x : List ℕ) (k : ℕ) → (k + length x ≤ scorePlace i) ⊎ (scorePlace i + 4 ≤ k)
+    after-score : (x : List ℕ) (k : ℕ) → (k + length x ≤ scoreStart i) ⊎ (scoreStart i + 4 ≤ k)
         → begins x (drop k d) ≡ true
         → begins x (drop k d₁) ≡ true
-    after-score x k o b = stays d (be 4 (at es i .score)) (scorePlace i) score-room x k (rw length-be o) b
+    after-score x k o b = stays d (be 4 (at es i .score)) (scoreStart i) score-room x k (rw length-be o) b
 
     -- scores
-    score-stands : (k : ℕ) → k < suc i → begins (be 4 (at es k .score)) (drop (scorePlace k) d₃) ≡ true
+    score-stands : (k : ℕ) → k < suc i → begins (be 4 (at es k .score)) (drop (scoreStart k) d₃) ≡ true
     unfolding recordsAt
     score-stands k l =
         let s = starts in
-        after-record (be 4 (at es k .score)) (scorePlace k) (inl (rw length-be (omega arith)))
-        (after-offset (be 4 (at es k .score)) (scorePlace k) (λ t. inl (rw length-be (omega arith)))
+        after-record (be 4 (at es k .score)) (scoreStart k) (inl (rw length-be (omega arith)))
+        (after-offset (be 4 (at es k .score)) (scoreStart k) (λ t. inl (rw length-be (omega arith)))
         (by-test (ltb k i)
         (λ t. let q = ltb-true k i t in
-        after-score (be 4 (at es k .score)) (scorePlace k) (inl (rw length-be (omega arith))) (p .scored k q))
+        after-score (be 4 (at es k .score)) (scoreStart k) (inl (rw length-be (omega arith))) (p .scored k q))
         (λ t. let q = ltb-false k i t in let e : k ≡ i = omega arith in
-        rw e (sets-stands d (be 4 (at es i .score)) (scorePlace i) score-room))))
+        rw e (sets-stands d (be 4 (at es i .score)) (scoreStart i) score-room))))
 
     -- the offset of the bucket whose head this is
     head-offset : (k : ℕ) → bucketSize * k ≡ i
-        → begins (be 2 (offset layout21 es k)) (drop (offsetPlace n k) d₂) ≡ true
+        → begins (be 2 (offset layout21 es k)) (drop (offsetStart n k) d₂) ≡ true
     unfolding putOffset offset
     head-offset k e =
         let hd : bucketHead i ≡ true = eq-eqb (i % bucketSize) 0 (omega arith) in
@@ -131,19 +131,19 @@ module _
 
     -- offsets
     offset-stands′ : (j : ℕ) → bucketSize * j < suc i
-        → begins (be 2 (offset layout21 es j)) (drop (offsetPlace n j) d₃) ≡ true
+        → begins (be 2 (offset layout21 es j)) (drop (offsetStart n j) d₃) ≡ true
     unfolding recordsAt
     offset-stands′ j l =
         let s = starts in
-        after-record (be 2 (offset layout21 es j)) (offsetPlace n j) (inl (rw length-be (omega arith)))
+        after-record (be 2 (offset layout21 es j)) (offsetStart n j) (inl (rw length-be (omega arith)))
         (by-test (eqb (bucketSize * j) i)
         (λ t. head-offset j (eqb-true (bucketSize * j) i t))
         (λ t.
         let q = eqb-false (bucketSize * j) i t in
         let m : bucketSize * j < i = other (bucketSize * j) i (omega arith) q in
-        after-offset (be 2 (offset layout21 es j)) (offsetPlace n j) (λ u. let z = eqb-true (i % bucketSize) 0 u in
+        after-offset (be 2 (offset layout21 es j)) (offsetStart n j) (λ u. let z = eqb-true (i % bucketSize) 0 u in
         inl (rw length-be (omega arith)))
-        (after-score (be 2 (offset layout21 es j)) (offsetPlace n j) (inr (omega arith)) (p .bucketed j m))))
+        (after-score (be 2 (offset layout21 es j)) (offsetStart n j) (inr (omega arith)) (p .bucketed j m))))
 
     -- records
     records-stand′ : begins (records bucketHead 0 [] (take (suc i) (names es))) (drop (recordsAt layout21 n) d₃) ≡ true
@@ -176,7 +176,7 @@ module _
         (λ t. rw t (sets-behind d₁ (be 2 (c .at)) slot slot-room (length (imageIn layout21 es))
         (rw length-be (omega arith))))
         (λ t. rw t)
-        ∙ sets-behind d (be 4 (at es i .score)) (scorePlace i) score-room (length (imageIn layout21 es))
+        ∙ sets-behind d (be 4 (at es i .score)) (scoreStart i) score-room (length (imageIn layout21 es))
         (rw length-be (omega arith))
 
     -- one entry more is put

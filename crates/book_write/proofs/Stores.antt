@@ -9,13 +9,13 @@ use Rattle.book.specs.Records.{bucketHead, recordOf}
 use Rattle.frame_code.specs.Stored.{putFrame}
 use Rattle.book_record_write.specs.Written.{RecordPut}
 use Rattle.book.specs.Book.{blockSize, layout21}
-use Rattle.book_laws.specs.Check.{scorePlace}
+use Rattle.book_laws.specs.Check.{scoreStart}
 use Rattle.book_write.specs.Calls.{EntryPut}
 use Rattle.book_write.specs.Writing.{finished, putEntry, putOffset, putPeaks}
 
 pub entry-put :
     (d : List ℕ) {d₁ d₂ d₃ : List ℕ} (n i at : ℕ) (prev w : List ℕ) (s : ℕ) {place end : ℕ}
-    → place ≡ scorePlace i → d₁ ≡ sets d place (be 4 s)
+    → place ≡ scoreStart i → d₁ ≡ sets d place (be 4 s)
     → d₂ ≡ putOffset n i at d₁ → RecordPut d₂ d₃ at (recordOf bucketHead i prev w) end
     → EntryPut d d₃ n i at prev w s end
 unfolding putEntry

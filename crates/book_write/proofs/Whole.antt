@@ -23,7 +23,7 @@ use Rattle.entries.specs.Names.{isScore}
 use Rattle.entries.proofs.Valid.{Valid, length-names, valid-of}
 use Rattle.book.specs.Records.{bucketHead, bucketSize, records}
 use Rattle.book.specs.Book.{blockSize, bookImage, imageIn, layout21, offset, offsets, peak, peaks, recordsAt, scores}
-use Rattle.book_laws.specs.Check.{bestBetween, offsetPlace, peakPlace, scoreAt, scorePlace}
+use Rattle.book_laws.specs.Check.{bestBetween, offsetStart, peakStart, scoreAt, scoreStart}
 use Rattle.book.proofs.Places.{peak-span}
 use Rattle.book.proofs.Reading.{image-length}
 use Rattle.book_laws.proofs.Scores.{best-between}
@@ -37,10 +37,10 @@ use Rattle.book_laws.specs.declared.Cursor.{Cursor}
 record Peaking (es : List Entry) (d₀ d : List ℕ) (j : ℕ) : Type 0 where
   fits : length (imageIn layout21 es) ≤ length d
   untouched : drop (length (imageIn layout21 es)) d ≡ drop (length (imageIn layout21 es)) d₀
-  scored : (k : ℕ) → k < length es → begins (be 4 (at es k .score)) (drop (scorePlace k) d) ≡ true
+  scored : (k : ℕ) → k < length es → begins (be 4 (at es k .score)) (drop (scoreStart k) d) ≡ true
   bucketed : (k : ℕ) → bucketSize * k < length es
-      → begins (be 2 (offset layout21 es k)) (drop (offsetPlace (length es) k) d) ≡ true
-  peaked : (k : ℕ) → k < j → begins (be 2 (peak es k)) (drop (peakPlace (length es) k) d) ≡ true
+      → begins (be 2 (offset layout21 es k)) (drop (offsetStart (length es) k) d) ≡ true
+  peaked : (k : ℕ) → k < j → begins (be 2 (peak es k)) (drop (peakStart (length es) k) d) ≡ true
   recorded : begins (records bucketHead 0 [] (names es)) (drop (recordsAt layout21 (length es)) d) ≡ true
 
 pub image-long : (es : List Entry) → recordsAt layout21 (length es) ≤ length (imageIn layout21 es)
@@ -49,13 +49,13 @@ image-long es = let l = image-length layout21 es in omega arith
 -- the scores stand in a buffer: the best of a block, computed from them, is its peak
 module _
     (es : List Entry) (v : Valid es) (d : List ℕ) (fits : length (imageIn layout21 es) ≤ length d)
-    (scored : (k : ℕ) → k < length es → begins (be 4 (at es k .score)) (drop (scorePlace k) d) ≡ true)
+    (scored : (k : ℕ) → k < length es → begins (be 4 (at es k .score)) (drop (scoreStart k) d) ≡ true)
   where
     scored-at : (i : ℕ) → i < length es → scoreAt d i ≡ at es i .score
     unfolding scoreAt recordsAt isScore
     scored-at i l =
         let g = image-long es in
-        stands-number 4 d (scorePlace i) (at es i .score)
+        stands-number 4 d (scoreStart i) (at es i .score)
         (ltb-true (at es i .score) (2 ^ 32) (at-all (λ e. isScore (e .score)) noEntry es (v .fits) i l))
         (scored i l) (omega arith)
 
@@ -73,33 +73,33 @@ module _ (es : List Entry) (v : Valid es) (d₀ : List ℕ) where
 
   -- one peak more
   peak-put : (d : List ℕ) (j : ℕ) → Peaking es d₀ d j → blockSize * j < n
-      → Peaking es d₀ (sets d (peakPlace n j) (be 2 (peak es j))) (suc j)
+      → Peaking es d₀ (sets d (peakStart n j) (be 2 (peak es j))) (suc j)
   unfolding recordsAt
   peak-put d j p h =
       let f = p .fits in
       let g = image-long es in
-      let there : peakPlace n j + length (be 2 (peak es j)) ≤ length d = rw length-be (omega arith) in
+      let there : peakStart n j + length (be 2 (peak es j)) ≤ length d = rw length-be (omega arith) in
       record {
         fits = rw length-sets f;
-        untouched = sets-behind d (be 2 (peak es j)) (peakPlace n j) there (length (imageIn layout21 es))
+        untouched = sets-behind d (be 2 (peak es j)) (peakStart n j) there (length (imageIn layout21 es))
             (rw length-be (omega arith)) ∙ p .untouched;
         scored = λ k l.
-            stays d (be 2 (peak es j)) (peakPlace n j) there (be 4 (at es k .score)) (scorePlace k)
+            stays d (be 2 (peak es j)) (peakStart n j) there (be 4 (at es k .score)) (scoreStart k)
             (inl (rw length-be (omega arith))) (p .scored k l);
         bucketed = λ k l.
-            stays d (be 2 (peak es j)) (peakPlace n j) there (be 2 (offset layout21 es k)) (offsetPlace n k)
+            stays d (be 2 (peak es j)) (peakStart n j) there (be 2 (offset layout21 es k)) (offsetStart n k)
             (inl (rw length-be (omega arith))) (p .bucketed k l);
         peaked = λ k l.
             by-test (ltb k j)
             (λ t.
             let q = ltb-true k j t in
-            stays d (be 2 (peak es j)) (peakPlace n j) there (be 2 (peak es k)) (peakPlace n k)
+            stays d (be 2 (peak es j)) (peakStart n j) there (be 2 (peak es k)) (peakStart n k)
             (inl (rw length-be (omega arith))) (p .peaked k q))
             (λ t.
             let q = ltb-false k j t in
             let e : k ≡ j = omega arith in
-            rw e (sets-stands d (be 2 (peak es j)) (peakPlace n j) there));
-        recorded = stays d (be 2 (peak es j)) (peakPlace n j) there (records bucketHead 0 [] (names es))
+            rw e (sets-stands d (be 2 (peak es j)) (peakStart n j) there));
+        recorded = stays d (be 2 (peak es j)) (peakStart n j) there (records bucketHead 0 [] (names es))
             (recordsAt layout21 n) (inr (rw length-be (omega arith))) (p .recorded);
       }
 
@@ -109,7 +109,7 @@ module _ (es : List Entry) (v : Valid es) (d₀ : List ℕ) where
   peaks-put zero j d e p = subst (Peaking es d₀ d) (sym (add-zero j) ∙ e) p
   peaks-put (suc m) j d e p =
       rw (peak-computed es v d (p .fits) (p .scored) j (omega arith))
-      (peaks-put m (suc j) (sets d (peakPlace n j) (be 2 (peak es j))) (omega arith)
+      (peaks-put m (suc j) (sets d (peakStart n j) (be 2 (peak es j))) (omega arith)
       (peak-put d j p (omega arith)))
 
   -- the frame
@@ -167,13 +167,13 @@ module _ (es : List Entry) (v : Valid es) (d₀ : List ℕ) where
               (sets-stands e₁ (be 4 T) 1 room₂);
           hasCount = sets-stands e₂ (be 2 n) 5 room₃;
           hasScores = fields-join 4 (λ (f : Entry). f .score) noEntry es e₃ 7
-              (λ k l. kept (be 4 (at es k .score)) (scorePlace k) (omega arith) (p .scored k l));
+              (λ k l. kept (be 4 (at es k .score)) (scoreStart k) (omega arith) (p .scored k l));
           hasOffsets = fields-join 2 (offset layout21 es) 0 (countFrom 0 (ceil n bucketSize)) e₃ (7 + 4 * n)
               (λ k l. rw (counted-at (ceil n bucketSize) k 0 (omega arith))
-              (kept (be 2 (offset layout21 es k)) (offsetPlace n k) (omega arith) (p .bucketed k (omega arith))));
+              (kept (be 2 (offset layout21 es k)) (offsetStart n k) (omega arith) (p .bucketed k (omega arith))));
           hasPeaks = fields-join 2 (peak es) 0 (countFrom 0 (ceil n blockSize)) e₃ (peaksAt layout21 n)
               (λ k l. rw (counted-at (ceil n blockSize) k 0 (omega arith))
-              (kept (be 2 (peak es k)) (peakPlace n k) (omega arith) (p .peaked k (omega arith))));
+              (kept (be 2 (peak es k)) (peakStart n k) (omega arith) (p .peaked k (omega arith))));
           hasRecords = kept (records bucketHead 0 [] (names es)) (recordsAt layout21 n) (omega arith) (p .recorded);
         }
 

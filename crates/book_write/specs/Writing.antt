@@ -7,21 +7,21 @@ use Rattle.octets.specs.Octets.{be}
 use Rattle.entries.specs.Entries.{Entry}
 use Rattle.book.specs.Records.{bucketHead, bucketSize, recordOf}
 use Rattle.book.specs.Book.{blockSize, layout21}
-use Rattle.book_laws.specs.Check.{bestBetween, blockEnd, offsetPlace, peakPlace, scorePlace}
+use Rattle.book_laws.specs.Check.{bestBetween, blockEnd, offsetStart, peakStart, scoreStart}
 use Rattle.frame_code.specs.Stored.{putFrame}
 
 -- the offset of a bucket, where its head is at position i and index `at`
 unfoldable pub putOffset : ℕ → ℕ → ℕ → List ℕ → List ℕ
-putOffset n i at d = if bucketHead i then sets d (offsetPlace n (i / bucketSize)) (be 2 at) else d
+putOffset n i at d = if bucketHead i then sets d (offsetStart n (i / bucketSize)) (be 2 at) else d
 
 -- the entry at position i of n, its record at index `at` behind the name prev
 unfoldable pub putEntry : ℕ → ℕ → List ℕ → ℕ → Entry → List ℕ → List ℕ
 putEntry n i prev at e d =
-    sets (putOffset n i at (sets d (scorePlace i) (be 4 (e .score)))) at (recordOf bucketHead i prev (e .name))
+    sets (putOffset n i at (sets d (scoreStart i) (be 4 (e .score)))) at (recordOf bucketHead i prev (e .name))
 
 -- the peak of block j, computed from the scores that stand in the buffer
 abbrev pub putPeak : ℕ → ℕ → List ℕ → List ℕ
-putPeak n j d = sets d (peakPlace n j) (be 2 (bestBetween d (blockSize * j) (blockEnd n j)))
+putPeak n j d = sets d (peakStart n j) (be 2 (bestBetween d (blockSize * j) (blockEnd n j)))
 
 -- the peaks of m blocks from block j on
 abbrev pub putPeaks : ℕ → ℕ → ℕ → List ℕ → List ℕ

@@ -36,7 +36,7 @@ fn put_offset(dst: &mut [u8], n: usize, index: usize, at: usize)
     }
     octets_code::write_u16(
         dst,
-        book_layout::offset_place(n, index / BUCKET_SIZE),
+        book_layout::offset_start(n, index / BUCKET_SIZE),
         at as u16,
     );
 }
@@ -56,7 +56,7 @@ pub fn put_entry(
     ensures { λ r. ⌜ EntryPut (now (dst .entry)) (now (dst .exit)) n index at (now (prev .entry)) (now (name .entry))
         score r ⌝ }
 {
-    octets_code::write_u32(dst, book_layout::score_place(index), score);
+    octets_code::write_u32(dst, book_layout::score_start(index), score);
     put_offset(dst, n, index, at);
     book_record_write::put_record(dst, at, index, prev, name)
 }
@@ -67,7 +67,7 @@ pub fn put_peak(dst: &mut [u8], n: usize, j: usize)
     ensures { λ _. ⌜ now (dst .exit) ≡ putPeak n j (now (dst .entry)) ⌝ }
 {
     let best = book_layout::best_between(dst, BLOCK_SIZE * j, book_layout::block_end(n, j));
-    octets_code::write_u16(dst, book_layout::peak_place(n, j), best as u16);
+    octets_code::write_u16(dst, book_layout::peak_start(n, j), best as u16);
 }
 
 // Stores the peak of each block.

@@ -20,7 +20,7 @@ use Rattle.entries.proofs.Rank.{best-best, best-lt, not-outranks-trans, rank-fi
 use Rattle.entries.proofs.Same.{counted, in-counted, sameEntry}
 use Rattle.entries.proofs.Span.{span, span-at, span-best, span-length}
 use Rattle.completion.specs.declared.Range.{Range}
-use Rattle.completion.specs.Machine.{MachineOffers, bestRange, bests, machine, noRange, offering, openRange}
+use Rattle.completion.specs.Machine.{MachineOffers, bestOpen, bests, machine, noRange, offering, openRange}
 use Rattle.completion.specs.Machine.{others, parts, run}
 
 -- an open range of es, with its best
@@ -220,50 +220,50 @@ module _ (es : List Entry) (rs : List Range) (ne : 0 < length rs) (good : (r : R
   at-best = best (bests es rs)
 
   abbrev next : List Range
-  next = others at-best rs ++ parts es (bestRange es rs)
+  next = others at-best rs ++ parts es (bestOpen es rs)
 
   index : at-best < length rs
   index = let l = length-bests es rs in let b = best-lt (bests es rs) (omega arith) in omega arith
 
-  best-good : Good es (bestRange es rs)
-  best-good = good (bestRange es rs) (get-in noRange rs at-best index)
+  best-good : Good es (bestOpen es rs)
+  best-good = good (bestOpen es rs) (get-in noRange rs at-best index)
 
   next-good : (r : Range) → r ∈ next → Good es r
-  next-good r m = go (append-in r (others at-best rs) (parts es (bestRange es rs)) m)
+  next-good r m = go (append-in r (others at-best rs) (parts es (bestOpen es rs)) m)
     where
-      go : (r ∈ others at-best rs) ⊎ (r ∈ parts es (bestRange es rs)) → Good es r
+      go : (r ∈ others at-best rs) ⊎ (r ∈ parts es (bestOpen es rs)) → Good es r
       go (inl n) = good r (others-in at-best rs r ne n)
-      go (inr n) = parts-good es (bestRange es rs) best-good r n
+      go (inr n) = parts-good es (bestOpen es rs) best-good r n
 
   next-count : (q : Entry → Bool)
-      → count q (contents es rs) ≡ count q (at es (bestRange es rs .best) ∷ contents es next)
+      → count q (contents es rs) ≡ count q (at es (bestOpen es rs .best) ∷ contents es next)
   next-count q =
       let a = others-count es q rs at-best index in
-      let b = parts-count es (bestRange es rs) q best-good in
-      let c = count-append q (contents es (others at-best rs)) (contents es (parts es (bestRange es rs))) in
-      let d = count-append q (at es (bestRange es rs .best) ∷ []) (contents es next) in
-      let e = ap (count q) (contents-append es (others at-best rs) (parts es (bestRange es rs))) in
+      let b = parts-count es (bestOpen es rs) q best-good in
+      let c = count-append q (contents es (others at-best rs)) (contents es (parts es (bestOpen es rs))) in
+      let d = count-append q (at es (bestOpen es rs .best) ∷ []) (contents es next) in
+      let e = ap (count q) (contents-append es (others at-best rs) (parts es (bestOpen es rs))) in
       omega arith
 
   -- everything in the ranges is outranked by the best of the best range
-  all-below : (e : Entry) → e ∈ contents es rs → outranks e (at es (bestRange es rs .best)) ≡ false
+  all-below : (e : Entry) → e ∈ contents es rs → outranks e (at es (bestOpen es rs .best)) ≡ false
   all-below e m =
       let z = contents-in es rs e m in
       let a = good (z .0) (z .1) .tops e (z .2) in
       let b = best-best (bests es rs) (at es (z .0 .best)) (in-map (λ r. at es (r .best)) (z .0) rs (z .1)) in
-      not-outranks-trans e (at es (z .0 .best)) (at es (bestRange es rs .best)) a (rw (at-map es rs at-best index) at b)
+      not-outranks-trans e (at es (z .0 .best)) (at es (bestOpen es rs .best)) a (rw (at-map es rs at-best index) at b)
 
-  next-below : (e : Entry) → e ∈ contents es next → outranks e (at es (bestRange es rs .best)) ≡ false
+  next-below : (e : Entry) → e ∈ contents es next → outranks e (at es (bestOpen es rs .best)) ≡ false
   next-below e m =
       all-below e
       (in-counted e (contents es rs)
       (let a = next-count (sameEntry e) in
       let b = counted e (contents es next) m in
-      let c = count-append (sameEntry e) (at es (bestRange es rs .best) ∷ []) (contents es next) in
+      let c = count-append (sameEntry e) (at es (bestOpen es rs .best) ∷ []) (contents es next) in
       omega arith))
 
-  next-rank : byRank (contents es rs) ≡ at es (bestRange es rs .best) ∷ byRank (contents es next)
-  next-rank = rank-first (at es (bestRange es rs .best)) (contents es rs) (contents es next) next-count next-below
+  next-rank : byRank (contents es rs) ≡ at es (bestOpen es rs .best) ∷ byRank (contents es next)
+  next-rank = rank-first (at es (bestOpen es rs .best)) (contents es rs) (contents es next) next-count next-below
 
 -- the machine offers in rank
 run-offers : (es : List Entry) (k : ℕ) (rs : List Range) → ((r : Range) → r ∈ rs → Good es r)
@@ -332,8 +332,8 @@ run-looks es zero [] = omega arith
 run-looks es zero (r ∷ rs) = omega arith
 run-looks es (suc k) [] = omega arith
 run-looks es (suc k) (r ∷ rs) =
-    let a = parts-length es (bestRange es (r ∷ rs)) in
-    let ih = run-looks es k (others (best (bests es (r ∷ rs))) (r ∷ rs) ++ parts es (bestRange es (r ∷ rs))) in
+    let a = parts-length es (bestOpen es (r ∷ rs)) in
+    let ih = run-looks es k (others (best (bests es (r ∷ rs))) (r ∷ rs) ++ parts es (bestOpen es (r ∷ rs))) in
     omega arith
 
 looks-most : (es : List Entry) (p : List ℕ) (k : ℕ) → 1 ≤ k → machine es p k .looks ≤ 2 * k - 1
@@ -386,7 +386,7 @@ run-exact es (suc (suc k)) (r ∷ rs) good h =
     let a = step-length es (r ∷ rs) (omega arith) good in
     let ih = run-exact es (suc k) n (next-good es (r ∷ rs) (omega arith) good) (omega arith) in
     let b = others-length (best (bests es (r ∷ rs))) (r ∷ rs) (index es (r ∷ rs) (omega arith) good) in
-    let c = length-append (others (best (bests es (r ∷ rs))) (r ∷ rs)) (parts es (bestRange es (r ∷ rs))) in
+    let c = length-append (others (best (bests es (r ∷ rs))) (r ∷ rs)) (parts es (bestOpen es (r ∷ rs))) in
     omega arith
 
 looks-exact : (es : List Entry) (p : List ℕ) (k : ℕ) → rising es ≡ true → length (matches p es) ≤ k

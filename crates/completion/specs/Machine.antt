@@ -22,8 +22,8 @@ bests es rs = map (λ r. at es (r .best)) rs
 abbrev pub noRange : Range
 noRange = record { first = 0; best = 0; score = 0; last = 0 }
 
-abbrev pub bestRange : List Entry → List Range → Range
-bestRange es rs = getD rs (best (bests es rs)) noRange
+abbrev pub bestOpen : List Entry → List Range → Range
+bestOpen es rs = getD rs (best (bests es rs)) noRange
 
 -- the open ranges without the one at index i: the last comes into its place, as their order is of no account
 unfoldable pub others : ℕ → List Range → List Range
@@ -46,10 +46,10 @@ offering i n m = record { offered = i ∷ m .offered; looks = n + m .looks }
 abbrev pub run : ℕ → List Entry → List Range → Machine
 run zero es rs = record { offered = []; looks = 0 }
 run (suc k) es [] = record { offered = []; looks = 0 }
-run (suc zero) es (r ∷ rs) = record { offered = bestRange es (r ∷ rs) .best ∷ []; looks = 0 }
+run (suc zero) es (r ∷ rs) = record { offered = bestOpen es (r ∷ rs) .best ∷ []; looks = 0 }
 run (suc (suc k)) es (r ∷ rs) =
-    offering (bestRange es (r ∷ rs) .best) (length (parts es (bestRange es (r ∷ rs))))
-    (run (suc k) es (others (best (bests es (r ∷ rs))) (r ∷ rs) ++ parts es (bestRange es (r ∷ rs))))
+    offering (bestOpen es (r ∷ rs) .best) (length (parts es (bestOpen es (r ∷ rs))))
+    (run (suc k) es (others (best (bests es (r ∷ rs))) (r ∷ rs) ++ parts es (bestOpen es (r ∷ rs))))
 
 -- The matching positions, if there are any, are the first open range: one look.
 unfoldable pub machine : List Entry → List ℕ → ℕ → Machine

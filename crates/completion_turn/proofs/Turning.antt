@@ -16,7 +16,7 @@ use Rattle.octets.proofs.Tests.{by-test}
 use Rattle.entries.specs.Completion.{maxCount}
 use Rattle.entries.specs.Entries.{Entry, at, best, rising}
 use Rattle.completion.specs.declared.Range.{Range}
-use Rattle.completion.specs.Machine.{bests, bestRange, noRange, offering, others, parts, run}
+use Rattle.completion.specs.Machine.{bests, bestOpen, noRange, offering, others, parts, run}
 use Rattle.completion.proofs.Machine.{others-in}
 use Rattle.completion_turn.specs.declared.BestRange.{BestRange}
 use Rattle.completion_turn.specs.declared.RangeParts.{RangeParts}
@@ -79,16 +79,16 @@ run-none zero es = refl
 run-none (suc k) es = refl
 
 run-one : (es : List Entry) (rs : List Range) → 0 < length rs
-    → run 1 es rs ≡ record { offered = bestRange es rs .best ∷ []; looks = 0 }
+    → run 1 es rs ≡ record { offered = bestOpen es rs .best ∷ []; looks = 0 }
 run-one es [] h = absurd (omega arith)
 run-one es (r ∷ rs) h = refl
 
 run-more :
     (k : ℕ) (es : List Entry) (rs : List Range) → 0 < length rs
     → run (suc (suc k)) es rs
-    ≡ offering (bestRange es rs .best) (length (parts es (bestRange es rs)))
+    ≡ offering (bestOpen es rs .best) (length (parts es (bestOpen es rs)))
     (run (suc k) es (others (best (bests es rs)) rs
-    ++ parts es (bestRange es rs)))
+    ++ parts es (bestOpen es rs)))
 run-more k es [] h = absurd (omega arith)
 run-more k es (r ∷ rs) h = refl
 
@@ -141,7 +141,7 @@ module _ {es : List Entry} (ri : rising es ≡ true) {xs : List Range} {p : Prog
   slot = best-of ri n (g .some) fits (g .inside)
 
   -- the range taken is the one that the machine chooses
-  taken : b .range ≡ bestRange es rs
+  taken : b .range ≡ bestOpen es rs
   taken = slot .range ∙ sym (getD-take n zs (b .at) noRange (slot .low)) ∙ ap (λ i. getD rs i noRange) (slot .at)
 
   pub taken-inside : RangeInside es (b .range)
@@ -158,7 +158,7 @@ module _ {es : List Entry} (ri : rising es ≡ true) {xs : List Range} {p : Prog
       rw (length-rs, a, ← slot .at, c) (sym (take-take (n - 1) n ys (omega arith)))
 
   -- what is offered, with the range's best behind it
-  more : take (p .count + 1) (set (p .offered) (p .count) (b .range .best)) ≡ soFar p ++ (bestRange es rs .best ∷ [])
+  more : take (p .count + 1) (set (p .offered) (p .count) (b .range .best)) ≡ soFar p ++ (bestOpen es rs .best ∷ [])
   more =
       let z : p .count + 1 ≡ suc (p .count) = omega arith in
       rw (z, take-suc-set (p .offered) (p .count) (b .range .best) (omega (arith, g .few, g .places)), taken)
@@ -170,7 +170,7 @@ module _ {es : List Entry} (ri : rising es ≡ true) {xs : List Range} {p : Prog
         ready = λ h. absurd (omega arith);
         before = λ h. turning;
         size = length-ys;
-        offered = rw (t, o, more) (append-nil (soFar p ++ (bestRange es rs .best ∷ [])));
+        offered = rw (t, o, more) (append-nil (soFar p ++ (bestOpen es rs .best ∷ [])));
         looks = rw (t, o) refl;
         few = λ h. omega (arith, g .few);
         places = length-set (p .offered) (p .count) (b .range .best);
@@ -183,19 +183,19 @@ module _ {es : List Entry} (ri : rising es ≡ true) {xs : List Range} {p : Prog
     s = nextOf p (b .range) q
 
     -- the ranges that are open then
-    opened : waiting ys s ≡ others (best (bests es rs)) rs ++ parts es (bestRange es rs)
+    opened : waiting ys s ≡ others (best (bests es rs)) rs ++ parts es (bestOpen es rs)
     opened =
         put-parts ys (n - 1) q (split .few) (split .twice) (omega (arith, split .few, g .room, g .some, length-ys))
         ∙ rw (stay, split .are, taken)
 
     -- one look for each part
-    looked : q .count ≡ length (parts es (bestRange es rs))
+    looked : q .count ≡ length (parts es (bestOpen es rs))
     looked = sym (length-take-le (q .count) (q .first ∷ q .second ∷ []) (split .few)) ∙ ap length (split .are)
         ∙ ap (λ r. length (parts es r)) taken
 
     -- where no range is open it does not matter how many may still be offered
     rest : run (s .turns) es (waiting ys s) ≡ run (p .turns - 1) es (others (best (bests es rs)) rs
-        ++ parts es (bestRange es rs))
+        ++ parts es (bestOpen es rs))
     rest =
         by-test (eqb (n - 1 + q .count) 0)
         (λ t.
@@ -204,21 +204,21 @@ module _ {es : List Entry} (ri : rising es ≡ true) {xs : List Range} {p : Prog
         rw (← opened, w, t) (sym (run-none (p .turns - 1) es)))
         (λ t. rw (t, opened))
 
-    step : run (p .turns) es rs ≡ offering (bestRange es rs .best) (length (parts es (bestRange es rs)))
+    step : run (p .turns) es rs ≡ offering (bestOpen es rs .best) (length (parts es (bestOpen es rs)))
         (run (s .turns) es (waiting ys s))
     step =
         let k : p .turns ≡ suc (suc (p .turns - 2)) = omega arith in
         let m : p .turns - 1 ≡ suc (p .turns - 2) = omega arith in
         ap (λ t. run t es rs) k ∙ run-more (p .turns - 2) es rs some-rs
-        ∙ ap (offering (bestRange es rs .best) (length (parts es (bestRange es rs)))) (sym (rest
-        ∙ ap (λ t. run t es (others (best (bests es rs)) rs ++ parts es (bestRange es rs))) m))
+        ∙ ap (offering (bestOpen es rs .best) (length (parts es (bestOpen es rs)))) (sym (rest
+        ∙ ap (λ t. run t es (others (best (bests es rs)) rs ++ parts es (bestOpen es rs))) m))
 
     open-then : (r : Range) → r ∈ waiting ys s → RangeInside es r
-    open-then r m = go (append-in r (others (best (bests es rs)) rs) (parts es (bestRange es rs)) (rw opened at m))
+    open-then r m = go (append-in r (others (best (bests es rs)) rs) (parts es (bestOpen es rs)) (rw opened at m))
       where
-        go : (r ∈ others (best (bests es rs)) rs) ⊎ (r ∈ parts es (bestRange es rs)) → RangeInside es r
+        go : (r ∈ others (best (bests es rs)) rs) ⊎ (r ∈ parts es (bestOpen es rs)) → RangeInside es r
         go (inl h) = g .inside r (others-in (best (bests es rs)) rs r some-rs h)
-        go (inr h) = parts-inside es (bestRange es rs) (rw taken at taken-inside) r h
+        go (inr h) = parts-inside es (bestOpen es rs) (rw taken at taken-inside) r h
 
     going : 0 < s .turns → Going es ys s
     going h =
@@ -254,7 +254,7 @@ module _ {es : List Entry} (ri : rising es ≡ true) {xs : List Range} {p : Prog
           ready = going;
           before = λ h. turning;
           size = length-ys;
-          offered = rw (more, step) (append-assoc (soFar p) (bestRange es rs .best
+          offered = rw (more, step) (append-assoc (soFar p) (bestOpen es rs .best
               ∷ []) (run (s .turns) es (waiting ys s) .offered));
           looks = rw (step, looked) (omega arith);
           few = λ h. omega (arith, g .few);

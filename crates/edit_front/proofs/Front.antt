@@ -26,7 +26,7 @@ use Rattle.book.specs.Records.{bucketHead, bucketSize, lastOr, records}
 use Rattle.book.proofs.Records.{records-append}
 use Rattle.book_laws.specs.Ahead.{nameBefore, recordAt}
 use Rattle.book.specs.Book.{imageIn, inBook, layout21, offset, recordsAt, scores}
-use Rattle.book_laws.specs.Check.{offsetAt, offsetPlace, scorePlace}
+use Rattle.book_laws.specs.Check.{offsetAt, offsetStart, scoreStart}
 use Rattle.book_laws.proofs.Held.{held-stored}
 use Rattle.book.proofs.Reading.{image-length}
 use Rattle.book.proofs.Sections.{Sections, sections-of}
@@ -49,13 +49,13 @@ module _ {book : List ℕ} {n i at₀ count : ℕ} (a : FrontOf book n i at₀ c
   pub front-inside : at₀ ≤ length book
   front-inside = omega (arith, a .start, front-within layout21 (inBook book) i, held-stored (a .held) .inside)
 
-  pub scores-inside : scorePlace i ≤ length book
+  pub scores-inside : scoreStart i ≤ length book
   unfolding recordsAt
   scores-inside = omega (arith, front-low, front-inside, a .within)
 
   -- the stores
   pub front-put :
-      (d : List ℕ) {d₁ d₂ d₃ : List ℕ} {scored-end buckets old new : ℕ} → scored-end ≡ scorePlace i
+      (d : List ℕ) {d₁ d₂ d₃ : List ℕ} {scored-end buckets old new : ℕ} → scored-end ≡ scoreStart i
       → d₁ ≡ sets d 7 (take (scored-end - 7) (drop 7 book))
       → buckets ≡ ceil i bucketSize → d₂ ≡ putOffsets buckets n count 0 book d₁ → old ≡ recordsAt layout21 n
       → new ≡ recordsAt layout21 count
@@ -134,8 +134,8 @@ module _ {book : List ℕ} {n i at₀ count : ℕ} (a : FrontOf book n i at₀ c
     record Pointed (d : List ℕ) (j : ℕ) : Type 0 where
       long : length d ≡ length d₀
       untouched : drop (length (imageIn layout21 fs)) d ≡ drop (length (imageIn layout21 fs)) d₀
-      scored : (k : ℕ) → k < i → begins (be 4 (at fs k .score)) (drop (scorePlace k) d) ≡ true
-      bucketed : (k : ℕ) → k < j → begins (be 2 (offset layout21 fs k)) (drop (offsetPlace (length fs) k) d) ≡ true
+      scored : (k : ℕ) → k < i → begins (be 4 (at fs k .score)) (drop (scoreStart k) d) ≡ true
+      bucketed : (k : ℕ) → k < j → begins (be 2 (offset layout21 fs k)) (drop (offsetStart (length fs) k) d) ≡ true
 
     image-long : recordsAt layout21 (length fs) ≤ length (imageIn layout21 fs)
     image-long = let l = image-length layout21 fs in omega arith
@@ -159,26 +159,26 @@ module _ {book : List ℕ} {n i at₀ count : ℕ} (a : FrontOf book n i at₀ c
         }
 
     pointed-put : (d : List ℕ) (j : ℕ) → Pointed d j → bucketSize * j < i
-        → Pointed (sets d (offsetPlace (length fs) j) (be 2 (offset layout21 fs j))) (suc j)
+        → Pointed (sets d (offsetStart (length fs) j) (be 2 (offset layout21 fs j))) (suc j)
     unfolding recordsAt
     pointed-put d j p h =
         let g = image-long in
         let f = p .long in
         let new = be 2 (offset layout21 fs j) in
-        let slot = offsetPlace (length fs) j in
+        let slot = offsetStart (length fs) j in
         let there : slot + length new ≤ length d = rw length-be (omega arith) in
         record {
           long = length-sets d slot new ∙ p .long;
           untouched = sets-behind d new slot there (length (imageIn layout21 fs)) (rw length-be (omega arith))
               ∙ p .untouched;
-          scored = λ k l. stays d new slot there (be 4 (at fs k .score)) (scorePlace k)
+          scored = λ k l. stays d new slot there (be 4 (at fs k .score)) (scoreStart k)
               (inl (rw length-be (omega arith)))
               (p .scored k l);
           bucketed = λ k l.
               by-test (ltb k j)
               (λ t.
               let q = ltb-true k j t in
-              stays d new slot there (be 2 (offset layout21 fs k)) (offsetPlace (length fs) k)
+              stays d new slot there (be 2 (offset layout21 fs k)) (offsetStart (length fs) k)
               (inl (rw length-be (omega arith))) (p .bucketed k q))
               (λ t. let q = ltb-false k j t in let e : k ≡ j = omega arith in rw e (sets-stands d new slot there));
         }
@@ -188,7 +188,7 @@ module _ {book : List ℕ} {n i at₀ count : ℕ} (a : FrontOf book n i at₀ c
     pointed-all zero j d e p = subst (Pointed d) (sym (add-zero j) ∙ e) p
     pointed-all (suc m) j d e p =
         rw (offset-moved j (omega arith))
-        (pointed-all m (suc j) (sets d (offsetPlace (length fs) j) (be 2 (offset layout21 fs j))) (omega arith)
+        (pointed-all m (suc j) (sets d (offsetStart (length fs) j) (be 2 (offset layout21 fs j))) (omega arith)
         (pointed-put d j p (omega arith)))
 
     -- the records behind them: the front is put
@@ -216,9 +216,9 @@ module _ {book : List ℕ} {n i at₀ count : ℕ} (a : FrontOf book n i at₀ c
           start = rw x y;
           name = rw x z;
           small = s;
-          scored = rw x (λ k l. stays d new from there (be 4 (at fs k .score)) (scorePlace k)
+          scored = rw x (λ k l. stays d new from there (be 4 (at fs k .score)) (scoreStart k)
               (inl (rw length-be (omega arith))) (p .scored k l));
-          bucketed = rw x (λ j l. stays d new from there (be 2 (offset layout21 fs j)) (offsetPlace (length fs) j)
+          bucketed = rw x (λ j l. stays d new from there (be 2 (offset layout21 fs j)) (offsetStart (length fs) j)
               (inl (rw length-be (omega arith))) (p .bucketed j (omega arith)));
           recorded = rw x (sets-stands d new from there);
         }

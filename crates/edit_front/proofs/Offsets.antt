@@ -10,7 +10,7 @@ use Rattle.octets.specs.Octets.{be}
 use Rattle.entries.specs.Entries.{maxEntries}
 use Rattle.book.specs.Records.{bucketSize}
 use Rattle.book.specs.Book.{inBook, layout21, offset, recordsAt}
-use Rattle.book_laws.specs.Check.{offsetAt, offsetPlace}
+use Rattle.book_laws.specs.Check.{offsetAt, offsetStart}
 use Rattle.book_laws.specs.Held.{Held}
 use Rattle.book_laws.proofs.Held.{held-stored}
 use Rattle.book_laws.proofs.Stored.{offset-within}
@@ -46,7 +46,7 @@ offsets-start book n count m d₀ =
 module _ {book : List ℕ} {n count m : ℕ} {d₀ d : List ℕ} {j : ℕ} (p : OffsetsLeft book n count m d₀ d j) where
   pub offsets-turn :
       {new : List ℕ} {at place : ℕ} → j < m → at ≡ movedTo n count (offsetAt book n j)
-      → place ≡ offsetPlace count j → new ≡ sets d place (be 2 at)
+      → place ≡ offsetStart count j → new ≡ sets d place (be 2 at)
       → OffsetsLeft book n count m d₀ new (j + 1)
   offsets-turn {new} {at} {place} h e there w =
       let z : m - j ≡ suc (m - (j + 1)) = omega arith in

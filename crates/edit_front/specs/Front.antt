@@ -12,7 +12,7 @@ use Rattle.book_laws.specs.Cursor.{nameIn}
 use Rattle.book.specs.Records.{bucketSize}
 use Rattle.book_laws.specs.Ahead.{recordAt}
 use Rattle.book.specs.Book.{inBook, layout21, recordsAt}
-use Rattle.book_laws.specs.Check.{offsetAt, offsetPlace}
+use Rattle.book_laws.specs.Check.{offsetAt, offsetStart}
 use Rattle.book_laws.specs.Held.{Held}
 use Rattle.book_laws.specs.declared.Cursor.{Cursor}
 
@@ -25,7 +25,7 @@ abbrev pub putOffsets : ℕ → ℕ → ℕ → ℕ → List ℕ → List ℕ �
 putOffsets zero n count j book d = d
 putOffsets (suc m) n count j book d =
     putOffsets m n count (suc j) book
-    (sets d (offsetPlace count j) (be 2 (movedTo n count (offsetAt book n j))))
+    (sets d (offsetStart count j) (be 2 (movedTo n count (offsetAt book n j))))
 
 -- the entries in front of position i, whose record begins at index `at`
 unfoldable pub putFront : ℕ → ℕ → ℕ → ℕ → List ℕ → List ℕ → List ℕ

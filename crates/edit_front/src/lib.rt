@@ -53,7 +53,7 @@ fn put_offsets(book: &[u8], n: usize, m: usize, dst: &mut [u8], count: usize)
         let at = book_layout::offset_at(book, n, j);
         octets_code::write_u16(
             dst,
-            book_layout::offset_place(count, j),
+            book_layout::offset_start(count, j),
             (at - old + new) as u16,
         );
         j += 1;
@@ -81,7 +81,7 @@ pub fn put_front(
     octets_code::copy(
         dst,
         FRAME_LENGTH,
-        &book[FRAME_LENGTH..book_layout::score_place(i)],
+        &book[FRAME_LENGTH..book_layout::score_start(i)],
     );
     put_offsets(book, n, book_layout::buckets(i), dst, count);
     let old = book_layout::records_at(n);

@@ -22,7 +22,7 @@ use Rattle.entries.specs.Entries.{Entry, at, entry, names, noEntry, valid}
 use Rattle.entries.proofs.Valid.{valid-of}
 use Rattle.book.specs.Records.{bucketHead, records}
 use Rattle.book.specs.Book.{blockSize, bookImage, imageIn, inBook, layout21, offsets, peak, peaks, recordsAt, scores}
-use Rattle.book_laws.specs.Check.{bestBetween, blockEnd, peakPlace, peaksStart, scorePlace}
+use Rattle.book_laws.specs.Check.{bestBetween, blockEnd, peakStart, peaksStart, scoreStart}
 use Rattle.book_laws.specs.Held.{Held}
 use Rattle.book_laws.proofs.Held.{held-stored}
 use Rattle.book.proofs.Reading.{length-offsets}
@@ -64,29 +64,29 @@ module _
 
     -- the score
     abbrev e : List ℕ
-    e = sets d (scorePlace i) (be 4 s)
+    e = sets d (scoreStart i) (be 4 s)
 
-    score-inside : scorePlace i + 4 ≤ T
+    score-inside : scoreStart i + 4 ≤ T
     unfolding recordsAt
     score-inside = let g = image-long es in omega arith
 
-    score-room : scorePlace i + length (be 4 s) ≤ length d
+    score-room : scoreStart i + length (be 4 s) ≤ length d
     score-room = let f = fits in let g = score-inside in rw length-be (omega arith)
 
     long-e : length e ≡ length d
-    long-e = length-sets d (scorePlace i) (be 4 s)
+    long-e = length-sets d (scoreStart i) (be 4 s)
 
-    scored : (k : ℕ) → k < length fs → begins (be 4 (at fs k .score)) (drop (scorePlace k) e) ≡ true
+    scored : (k : ℕ) → k < length fs → begins (be 4 (at fs k .score)) (drop (scoreStart k) e) ≡ true
     unfolding scores
     scored k l =
         let m = as-long in
         by-test (eqb k i)
         (λ t. let q = eqb-true k i t in
-        rw (q, rescored-there es i s h) (sets-stands d (be 4 s) (scorePlace i) score-room))
+        rw (q, rescored-there es i s h) (sets-stands d (be 4 s) (scoreStart i) score-room))
         (λ t.
         let q = eqb-false k i t in
         rw (getD-set-other es i k (entry (at es i .name) s) noEntry q)
-        (stays d (be 4 s) (scorePlace i) score-room (be 4 (at es k .score)) (scorePlace k)
+        (stays d (be 4 s) (scoreStart i) score-room (be 4 (at es k .score)) (scoreStart k)
         (by-test (ltb k i)
         (λ u. let r = ltb-true k i u in inl (rw length-be (omega arith)))
         (λ u. let r = ltb-false k i u in inr (rw length-be (omega arith))))
@@ -97,7 +97,7 @@ module _
     top = be 2 (peak fs j)
 
     abbrev place : ℕ
-    place = peakPlace n j
+    place = peakStart n j
 
     computed : bestBetween e (blockSize * j) (blockEnd n j) ≡ peak fs j
     computed =
@@ -119,13 +119,13 @@ module _
 
     -- what stands elsewhere stays
     kept :
-        (x : List ℕ) (k : ℕ) → (k + length x ≤ scorePlace i) ⊎ (scorePlace i + 4 ≤ k)
+        (x : List ℕ) (k : ℕ) → (k + length x ≤ scoreStart i) ⊎ (scoreStart i + 4 ≤ k)
         → (k + length x ≤ place) ⊎ (place + 2 ≤ k)
         → begins x (drop k d) ≡ true → begins x (drop k e′) ≡ true
     kept x k a b t = stays e top place peak-room x k (rw length-be b)
-        (stays d (be 4 s) (scorePlace i) score-room x k (rw length-be a) t)
+        (stays d (be 4 s) (scoreStart i) score-room x k (rw length-be a) t)
 
-    peaked : (k : ℕ) → k < ceil n blockSize → begins (be 2 (peak fs k)) (drop (peakPlace n k) e′) ≡ true
+    peaked : (k : ℕ) → k < ceil n blockSize → begins (be 2 (peak fs k)) (drop (peakStart n k) e′) ≡ true
     unfolding peaks
     peaked k l =
         by-test (eqb k j)
@@ -135,7 +135,7 @@ module _
         let c = counted-at (ceil n blockSize) k 0 l in
         let m = length-countFrom 0 (ceil n blockSize) in
         rw (rescored-peak es i s k q)
-        (kept (be 2 (peak es k)) (peakPlace n k) (inr (omega arith))
+        (kept (be 2 (peak es k)) (peakStart n k) (inr (omega arith))
         (by-test (ltb k j)
         (λ u. let r = ltb-true k j u in inl (rw length-be (omega arith)))
         (λ u. let r = ltb-false k j u in inr (omega arith)))
@@ -156,7 +156,7 @@ module _
           hasScores = fields-join 4 (λ (f : Entry). f .score) noEntry fs e′ 7
               (λ k l.
               let a = as-long in
-              stays e top place peak-room (be 4 (at fs k .score)) (scorePlace k) (inl (rw length-be (omega arith)))
+              stays e top place peak-room (be 4 (at fs k .score)) (scoreStart k) (inl (rw length-be (omega arith)))
               (scored k l));
           hasOffsets = rw (rescored-offsets es i s, as-long)
               (kept (offsets layout21 es) (7 + 4 * n) (inr (omega arith)) (inl (omega arith)) (parts .hasOffsets));
@@ -178,13 +178,13 @@ module _
         ∙ ap (λ l. imageIn layout21 fs ++ l)
         (rw image-same
         (sets-behind e top place peak-room T (rw length-be (omega arith))
-        ∙ sets-behind d (be 4 s) (scorePlace i) score-room T (rw length-be (omega arith)))))
+        ∙ sets-behind d (be 4 s) (scoreStart i) score-room T (rw length-be (omega arith)))))
 
 -- the stores of `rescore`, one after the other
 pub rescored-whole :
     (book d₀ : List ℕ) {d₁ d₂ d₃ : List ℕ} {n : ℕ} (i s : ℕ) {total place : ℕ} → Held book n → i < n
     → total ≡ length (bookImage (inBook book)) → total ≤ length d₀
-    → s < 4294967296 → d₁ ≡ sets d₀ 0 (take total book) → place ≡ scorePlace i → d₂ ≡ sets d₁ place (be 4 s)
+    → s < 4294967296 → d₁ ≡ sets d₀ 0 (take total book) → place ≡ scoreStart i → d₂ ≡ sets d₁ place (be 4 s)
     → d₃ ≡ putPeak n (i / blockSize) d₂
     → d₃ ≡ overwrite d₀ (bookImage (rescored (inBook book) i s))
 unfolding bookImage

@@ -26,6 +26,6 @@ pub fn rescore(book: &[u8], n: usize, i: usize, score: u32, total: usize, dst: &
         (bookImage (rescored (inBook (now (book .entry))) i score)) ⌝ }
 {
     octets_code::copy(dst, 0, &book[..total]);
-    octets_code::write_u32(dst, book_layout::score_place(i), score);
+    octets_code::write_u32(dst, book_layout::score_start(i), score);
     book_write::put_peak(dst, n, i / BLOCK_SIZE);
 }

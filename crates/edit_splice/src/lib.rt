@@ -2,7 +2,7 @@
 // One pass does both: those in front of the place are not walked (edit_front), then come the new one, if there is one,
 // and one by one those behind the place or behind the one left out. Scores, offsets and peaks are the result's own.
 // With `fresh` an entry is put in, else one is left out.
-use book_append::Slot;
+use book_append::EntryTarget;
 use book_laws::Cursor;
 ghost use mathlib.Core.Path.{_≡_};
 ghost use mathlib.Core.Bool.{true};
@@ -33,7 +33,7 @@ fn pass_run(
     let mut at = from.at;
     let mut name = from.name;
     let mut index = to.index;
-    let mut put = to.at;
+    let mut to_at = to.at;
     let mut prev = to.name;
     let mut prev_len = to.len;
     while i < end {
@@ -41,18 +41,18 @@ fn pass_run(
         at += p.start + p.own;
         let len = p.kept + p.own;
         let score = book_layout::score_at(book, i);
-        let slot = Slot {
+        let target = EntryTarget {
             n: n,
             index: index,
-            at: put,
+            at: to_at,
             store: store,
         };
-        put = book_append::pass_next(dst, slot, &mut prev, prev_len, &name[..len], score);
+        to_at = book_append::pass_next(dst, target, &mut prev, prev_len, &name[..len], score);
         prev_len = len;
         i += 1;
         index += 1;
     }
-    put
+    to_at
 }
 
 // Passes the new entry, with `fresh`. The cursor behind it.
@@ -76,13 +76,13 @@ fn pass_new(
     let index = c.index;
     let len = c.len;
     let mut prev = c.name;
-    let slot = Slot {
+    let target = EntryTarget {
         n: n,
         index: index,
         at: at,
         store: store,
     };
-    let end = book_append::pass_next(dst, slot, &mut prev, len, name, score);
+    let end = book_append::pass_next(dst, target, &mut prev, len, name, score);
     let next = index + 1;
     Cursor {
         at: end,

@@ -19,21 +19,21 @@ use Rattle.edit_rescore.specs.Rescored.{rescored}
 use Rattle.edit_rescore.proofs.Rescored.{rescored-with}
 use Rattle.answer.specs.Reports.{Answered, foundOf}
 use Rattle.book_write.specs.Whole.{wholeBook}
-use Rattle.lookup_find.specs.Finding.{placeAs}
+use Rattle.lookup_find.specs.Finding.{spotOf}
 use Rattle.lookup_find.proofs.Finding.{at-gap, at-held, found-position}
 use Rattle.answer.proofs.Answers.{answered-as}
 use Rattle.answer.specs.declared.Written.{Written}
 use Rattle.answer.specs.declared.Written.the-variants as written
 use Rattle.answer.specs.declared.Found.{Found}
 use Rattle.answer.specs.declared.Found.the-variants as found
-use Rattle.lookup_find.specs.declared.Spot.the-variants as places
+use Rattle.lookup_find.specs.declared.Spot.the-variants as spots
 
 module _ (b w dst : List ℕ) {n : ℕ} (h : Held b n) (k : isName w ≡ true) where
   abbrev es : List Entry
   es = inBook b
 
   -- a set of a name that is held
-  module _ {i : ℕ} (p : places.Held i ≡ placeAs w (inBook b)) (s : ℕ) where
+  module _ {i : ℕ} (p : spots.Held i ≡ spotOf w (inBook b)) (s : ℕ) where
     pub held-set : {r : Written} {left : List ℕ} → Answered (wholeBook (rescored (inBook b) i s) dst) r left
         → Answered (setEntry b w s dst) r left
     unfolding setEntry writingImage writing
@@ -45,7 +45,7 @@ module _ (b w dst : List ℕ) {n : ℕ} (h : Held b n) (k : isName w ≡ true) w
         answered-as (c ∙ ap (λ l. wholeBook l dst) (sym e)) a
 
   -- a set of a new name
-  module _ {i : ℕ} (p : places.Gap i ≡ placeAs w (inBook b)) (s : ℕ) where
+  module _ {i : ℕ} (p : spots.Gap i ≡ spotOf w (inBook b)) (s : ℕ) where
     pub set-full : maxEntries ≤ n → Answered (setEntry b w s dst) (written.Refused 5) dst
     unfolding setEntry writingImage writing
     set-full l =

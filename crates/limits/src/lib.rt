@@ -56,6 +56,8 @@ pub const BUFFER_LENGTH: usize = 57344;
 pub const KEPT_BYTES: usize = 64;
 // The most digits of a number in a command line or printed: `hasNumber`, `decimal`.
 pub const MOST_DIGITS: usize = 10;
+// The first number that is too high for a command line: `hasNumber`.
+pub const NUMBERS_END: u64 = 4294967296;
 // The bytes that the lines of one command may take: `lineRoom`.
 pub const LINE_ROOM: usize = 1024;
 

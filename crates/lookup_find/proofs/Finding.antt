@@ -28,14 +28,14 @@ use Rattle.book_laws.proofs.Held.{held-stored, held-valid}
 use Rattle.book_find.specs.Find.{Seeks, isAt}
 use Rattle.book_find.specs.declared.Sought.{Sought}
 use Rattle.answer.specs.Reports.{foundOf}
-use Rattle.lookup_find.specs.Finding.{placeAs}
-use Rattle.lookup_find.specs.declared.Spot.the-variants as places
+use Rattle.lookup_find.specs.Finding.{spotOf}
+use Rattle.lookup_find.specs.declared.Spot.the-variants as spots
 use Rattle.answer.specs.declared.Found.{Found}
 use Rattle.answer.specs.declared.Found.the-variants as found
 
 -- what the search for a name gave: its place has another name or is past the last entry, a gap; or it has that name
 module _ (b w : List ℕ) (n : ℕ) {s : Sought} (h : Held b n) (k : Seeks false w (inBook b) s) where
-  pub gap-here : s .same ≡ false → places.Gap (s .index) ≡ placeAs w (inBook b)
+  pub gap-here : s .same ≡ false → spots.Gap (s .index) ≡ spotOf w (inBook b)
   gap-here t =
       let z : isAt (inBook b) (place false w (inBook b)) w ≡ false = rw (k .index) at (sym (k .same) ∙ t) in
       rw (
@@ -44,7 +44,7 @@ module _ (b w : List ℕ) (n : ℕ) {s : Sought} (h : Held b n) (k : Seeks false
         k .index,
       )
 
-  pub held-here : s .same ≡ true → places.Held (s .index) ≡ placeAs w (inBook b)
+  pub held-here : s .same ≡ true → spots.Held (s .index) ≡ spotOf w (inBook b)
   held-here t =
       let i = place false w (inBook b) in
       let z : isAt (inBook b) (place false w (inBook b)) w ≡ true = rw (k .index) at (sym (k .same) ∙ t) in
@@ -54,30 +54,30 @@ module _ (b w : List ℕ) (n : ℕ) {s : Sought} (h : Held b n) (k : Seeks false
       rw (f .0, f .1, k .index)
 
 -- taken apart: a position is that of a name that is held, a gap the place of one that is not
-pub at-held : (w : List ℕ) (es : List Entry) {i : ℕ} → places.Held i ≡ placeAs w es → (holds w es ≡ true)
+pub at-held : (w : List ℕ) (es : List Entry) {i : ℕ} → spots.Held i ≡ spotOf w es → (holds w es ≡ true)
     × (i ≡ position w es)
 at-held w es {i} e =
     by-test (holds w es)
-    (λ t. (t, (let z : places.Held i ≡ places.Held (position w es) = rw t at e in cc)))
-    (λ t. let z : places.Held i ≡ places.Gap (place false w es) = rw t at e in let y : _≡_ {A = ℕ} 0 1 = cc in
+    (λ t. (t, (let z : spots.Held i ≡ spots.Held (position w es) = rw t at e in cc)))
+    (λ t. let z : spots.Held i ≡ spots.Gap (place false w es) = rw t at e in let y : _≡_ {A = ℕ} 0 1 = cc in
     absurd (omega arith))
 
-pub at-gap : (w : List ℕ) (es : List Entry) {i : ℕ} → places.Gap i ≡ placeAs w es → (holds w es ≡ false)
+pub at-gap : (w : List ℕ) (es : List Entry) {i : ℕ} → spots.Gap i ≡ spotOf w es → (holds w es ≡ false)
     × (i ≡ place false w es)
 at-gap w es {i} e =
     by-test (holds w es)
-    (λ t. let z : places.Gap i ≡ places.Held (position w es) = rw t at e in let y : _≡_ {A = ℕ} 0 1 = cc in
+    (λ t. let z : spots.Gap i ≡ spots.Held (position w es) = rw t at e in let y : _≡_ {A = ℕ} 0 1 = cc in
     absurd (omega arith))
-    (λ t. (t, (let z : places.Gap i ≡ places.Gap (place false w es) = rw t at e in cc)))
+    (λ t. (t, (let z : spots.Gap i ≡ spots.Gap (place false w es) = rw t at e in cc)))
 
-pub held-low : (b w : List ℕ) (n : ℕ) {i : ℕ} → Held b n → places.Held i ≡ placeAs w (inBook b) → i < n
+pub held-low : (b w : List ℕ) (n : ℕ) {i : ℕ} → Held b n → spots.Held i ≡ spotOf w (inBook b) → i < n
 held-low b w n {i} h e =
     let f = at-held w (inBook b) e in
     omega (arith, h .count, f .1, position-at w (inBook b) (f .0) .0)
 
 -- so finding gives the position with its score, or none
 pub found-at :
-    (b w : List ℕ) (n i s : ℕ) → Held b n → places.Held i ≡ placeAs w (inBook b) → s ≡ scoreAt b i
+    (b w : List ℕ) (n i s : ℕ) → Held b n → spots.Held i ≡ spotOf w (inBook b) → s ≡ scoreAt b i
     → _≡_ {A = Answer (Option FoundCounts)} (given (some (record { position = i; score = s })))
     (given (foundIn w (inBook b)))
 unfolding foundIn
@@ -89,7 +89,7 @@ found-at b w n i s h e z =
     rw (f .0, f .1, score)
 
 pub found-gap :
-    (b w : List ℕ) (i : ℕ) → places.Gap i ≡ placeAs w (inBook b)
+    (b w : List ℕ) (i : ℕ) → spots.Gap i ≡ spotOf w (inBook b)
     → _≡_ {A = Answer (Option FoundCounts)} (given none) (given (foundIn w (inBook b)))
 unfolding foundIn
 found-gap b w i e = rw (at-gap w (inBook b) e .0)

@@ -6,7 +6,7 @@ ghost use Rattle.answer.specs.Reports.{foundOf};
 ghost use Rattle.book.specs.Book.{inBook};
 ghost use Rattle.book_laws.specs.Held.{Held};
 ghost use Rattle.lookup.specs.Lookups.{foundIn};
-ghost use Rattle.lookup_find.specs.Finding.{placeAs};
+ghost use Rattle.lookup_find.specs.Finding.{spotOf};
 
 // A position, or the gap that a name would fill.
 pub enum Spot {
@@ -17,7 +17,7 @@ pub enum Spot {
 // The position of a name, or the gap that it would fill.
 pub fn look_up(book: &[u8], n: usize, name: &[u8]) -> Spot
     requires { ⌜ Held (now book) n ⌝ }
-    ensures { λ r. ⌜ r ≡ placeAs (now (name .entry)) (inBook (now (book .entry))) ⌝ }
+    ensures { λ r. ⌜ r ≡ spotOf (now (name .entry)) (inBook (now (book .entry))) ⌝ }
 {
     let s = book_find::seek(book, n, name, false);
     let i = s.index;

@@ -1,7 +1,7 @@
 // Merges two books into a third buffer: both are passed side by side, first to measure the entries chosen, then to
 // write them.
 use answer::Written;
-use book_append::Slot;
+use book_append::EntryTarget;
 use frame_code::Image;
 use limits::LONGEST_NAME;
 use limits::MAX_ENTRIES;
@@ -54,7 +54,7 @@ fn pass(
     let mut name = [0u8; LONGEST_NAME];
     let mut prev = [0u8; LONGEST_NAME];
     let mut prev_len = 0;
-    let mut put = at;
+    let mut to_at = at;
     let mut index = 0;
     let mut x = merge_read::first_name(first, n, &mut a);
     let mut y = merge_read::first_name(second, m, &mut b);
@@ -62,23 +62,23 @@ fn pass(
         let t = merge_read::next_entry(first, x, &mut a, second, y, &mut b, &mut name);
         let len = t.len;
         let w = &name[..len];
-        let slot = Slot {
+        let target = EntryTarget {
             n: count,
             index: index,
-            at: put,
+            at: to_at,
             store: store,
         };
-        put = book_append::pass_next(dst, slot, &mut prev, prev_len, w, t.score);
+        to_at = book_append::pass_next(dst, target, &mut prev, prev_len, w, t.score);
         prev_len = len;
         x = t.first;
         y = t.second;
         index += 1;
     }
-    let next = x.len + y.len;
+    let left = x.len + y.len;
     MergePass {
         entries: index,
-        end: put,
-        more: 0 < next,
+        end: to_at,
+        more: 0 < left,
     }
 }
 

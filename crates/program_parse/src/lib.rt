@@ -1,5 +1,6 @@
 // The program's command lines: what a line asks for.
 use limits::MOST_DIGITS;
+use limits::NUMBERS_END;
 ghost use mathlib.Core.Path.{_≡_};
 ghost use Prim.Native.Nat.{_≤_};
 ghost use lib.ListN.{drop, length};
@@ -10,8 +11,6 @@ ghost use Rattle.program_parse.specs.Parsing.{Asks, makeOf, numberAs};
 const WORD_LENGTH: usize = 4;
 // The same with the space behind a number.
 const NUMBER_OVERHEAD: usize = WORD_LENGTH + 1;
-// The first number that is no score.
-const SCORES_END: u64 = 4294967296;
 
 // A number at the front of bytes and how many digits it has, or that there is none of the form.
 enum Number {
@@ -77,7 +76,7 @@ fn number_at_front(s: &[u8]) -> Number
         return Number::Missing;
     }
     let v = value_of(s, n);
-    if SCORES_END <= v {
+    if NUMBERS_END <= v {
         return Number::Missing;
     }
     if !octets_code::starts_with(&s[n..], b" ") {

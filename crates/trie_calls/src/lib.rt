@@ -15,7 +15,7 @@ pub fn write_trie(book: &[u8], dst: &mut [u8]) -> Written
     let Image::Entries(n) = book_check::check(book) else {
         return Written::Refused(1);
     };
-    let trie_write::Fitted::Bytes(total) = trie_write::write(book, n, dst) else {
+    let trie_write::TrieRoom::Bytes(total) = trie_write::write(book, n, dst) else {
         return Written::Refused(7);
     };
     Written::Wrote {

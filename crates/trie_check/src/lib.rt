@@ -59,7 +59,7 @@ fn node(
     ))
 }
 
-// The group at a position, with all its descendants. `seen` has a mark for each key of the siblings before.
+// The group at an offset, with all its descendants. `seen` has a mark for each key of the siblings before.
 fn group(
     buf: &[u8],
     at: usize,

@@ -16,7 +16,7 @@ fn key_of(label: &[u8]) -> usize
     label[0] as usize + 1
 }
 
-// The node at a position, if its bytes are there, its score field has the smallest size and its label is allowed.
+// The node at an offset, if its bytes are there, its score field has the smallest size and its label is allowed.
 pub fn head_at(buf: &[u8], at: usize) -> trie_check_laws::Head
     ensures is { λ r. ⌜ r ≡ headOf (now (buf .entry)) at ⌝ }
     ensures known { λ r. ⌜ HeadKnown r at (length (now (buf .entry))) ⌝ }
@@ -54,7 +54,7 @@ pub fn head_at(buf: &[u8], at: usize) -> trie_check_laws::Head
     })
 }
 
-// Where the group at a position ends: past its first node with the last mark.
+// Where the group at an offset ends: past its first node with the last mark.
 pub fn group_end(buf: &[u8], at: usize) -> Ended
     ensures is { λ r. ⌜ EndIs (now (buf .entry)) at r ⌝ }
     ensures known { λ r. ⌜ EndKnown r at (length (now (buf .entry))) ⌝ }

@@ -12,7 +12,7 @@ pub struct Fields {
     pub len: usize,
 }
 
-// The node at a position, or none is laid out there.
+// The node at an offset, or none is laid out there.
 pub enum Head {
     Cut,
     Node(Fields),
@@ -35,7 +35,7 @@ pub struct Among {
     pub left: usize,
 }
 
-// The place behind a node.
+// What is known behind a node.
 pub enum BehindNode {
     Bad,
     At(Among),

@@ -116,7 +116,7 @@ pub fn new_score(p: trie_check_laws::Among, n: trie_check_laws::Fields) -> usize
     p.score
 }
 
-// The place behind a node: where the next group is to begin, how the next child field says so, and the entries still to
+// Behind a node: where the next group is to begin, how the next child field says so, and the entries still to
 // come.
 pub fn after_node(
     p: trie_check_laws::Among,
@@ -143,7 +143,7 @@ pub fn after_node(
     }
 }
 
-// The place before the group at a position, which ends at next.
+// Before the group at an offset, whose siblings end at next.
 pub fn begin_at(
     at: usize,
     next: usize,

@@ -65,7 +65,7 @@ fn mark_of(last: bool) -> u8
     ensures { λ r. ⌜ r ≡ (if last then 8 else 0) ⌝ }
 {
     if last {
-        return 8;
+        return 1 << MARK_SHIFT;
     }
     0
 }

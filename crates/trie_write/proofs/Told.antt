@@ -12,13 +12,13 @@ use Rattle.octets.proofs.Tests.{by-test}
 use Rattle.entries.specs.Entries.{Entry}
 use Rattle.trie.specs.Trie.{trieImage}
 use Rattle.trie_write.specs.Writing.{TrieWritten}
-use Rattle.trie_write.specs.declared.Fitted.{Fitted}
-use Rattle.trie_write.specs.declared.Fitted.the-variants.{Bytes, TooShort}
+use Rattle.trie_write.specs.declared.TrieRoom.{TrieRoom}
+use Rattle.trie_write.specs.declared.TrieRoom.the-variants.{Bytes, TooShort}
 
 apart : {k : ℕ} → TooShort ≡ Bytes k → ⊥
 apart e = let z : _≡_ {A = ℕ} 0 1 = cc in omega arith
 
-module _ {es : List Entry} {dst out : List ℕ} {r : Fitted} (a : TrieWritten es dst r out) where
+module _ {es : List Entry} {dst out : List ℕ} {r : TrieRoom} (a : TrieWritten es dst r out) where
   short : ltb (length dst) (length (trieImage es)) ≡ true → (r ≡ TooShort) × (out ≡ dst)
   short t = (rw t at (a .answer), rw t at (a .left))
 

@@ -27,8 +27,8 @@ use Rattle.trie_write_nodes.specs.Nodes.{putIf}
 use Rattle.trie_write_rows.specs.Rows.{Named, Shared, setAt}
 use Rattle.trie_write.specs.Writing.{Groupable, Grouped, TrieWritten, underAt}
 use Rattle.trie.proofs.Bound.{group-bound}
-use Rattle.trie_write.specs.declared.Fitted.{Fitted}
-use Rattle.trie_write.specs.declared.Fitted.the-variants.{Bytes, TooShort}
+use Rattle.trie_write.specs.declared.TrieRoom.{TrieRoom}
+use Rattle.trie_write.specs.declared.TrieRoom.the-variants.{Bytes, TooShort}
 
 remains-none : (es : List Entry) → remains 0 es ≡ es
 remains-none [] = refl
@@ -150,6 +150,6 @@ module _
           }
 
 -- the same entries are answered alike
-pub answered-same : {es fs : List Entry} {dst : List ℕ} {r : Fitted} {out : List ℕ} → es ≡ fs → TrieWritten es dst r out
+pub answered-same : {es fs : List Entry} {dst : List ℕ} {r : TrieRoom} {out : List ℕ} → es ≡ fs → TrieWritten es dst r out
     → TrieWritten fs dst r out
 answered-same e a = record { answer = rw (← e) (a .answer); left = rw (← e) (a .left) }

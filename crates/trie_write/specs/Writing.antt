@@ -12,8 +12,8 @@ use Rattle.trie.specs.Trie.{groupOf, levels, trieImage, usedUp}
 use Rattle.book_table.specs.Table.{entries}
 use Rattle.trie_write_nodes.specs.Nodes.{putIf}
 use Rattle.trie_write_rows.specs.Rows.{Splittable, setAt}
-use Rattle.trie_write.specs.declared.Fitted.{Fitted}
-use Rattle.trie_write.specs.declared.Fitted.the-variants.{Bytes, TooShort}
+use Rattle.trie_write.specs.declared.TrieRoom.{TrieRoom}
+use Rattle.trie_write.specs.declared.TrieRoom.the-variants.{Bytes, TooShort}
 
 -- what stands under rows lo to hi behind their first d bytes, where a first sibling's score field is s: nothing under a
 -- name that is used up, else the group of what is left
@@ -34,6 +34,6 @@ pub record Grouped (es : List Entry) (lo hi d s : ℕ) (dst out : List ℕ) (tot
     pub bytes : out ≡ putIf put dst (total - r) (underAt es lo hi d s)
 
 -- the answer r and every byte of the destination afterwards, by whether there is room for the trie
-pub record TrieWritten (es : List Entry) (dst : List ℕ) (r : Fitted) (out : List ℕ) : Type 0 where
+pub record TrieWritten (es : List Entry) (dst : List ℕ) (r : TrieRoom) (out : List ℕ) : Type 0 where
   pub answer : r ≡ (if ltb (length dst) (length (trieImage es)) then TooShort else Bytes (length (trieImage es)))
   pub left : out ≡ (if ltb (length dst) (length (trieImage es)) then dst else overwrite dst (trieImage es))

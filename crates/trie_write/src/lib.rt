@@ -9,12 +9,11 @@ use trie_write_nodes::Target;
 use trie_write_runs::Run;
 ghost use mathlib.Core.Path.{_≡_};
 ghost use mathlib.Core.Bool.{true};
-ghost use Prim.Native.Nat.{_+_, min};
+ghost use Prim.Native.Nat.{_+_};
 ghost use lib.ListN.{length};
 ghost use Rattle.entries.specs.Entries.{valid};
 ghost use Rattle.book.specs.Book.{inBook};
 ghost use Rattle.book_laws.specs.Held.{Held};
-ghost use Rattle.trie.specs.Trie.{longestLabel};
 ghost use Rattle.book_table.specs.Table.{Table, entries};
 ghost use Rattle.trie_write.specs.Writing.{Groupable, Grouped, TrieWritten};
 
@@ -41,18 +40,8 @@ fn with_under(r: Run, n: u32) -> Run
     }
 }
 
-// The label of a lone suffix: all of it, cut to 7 bytes.
-fn cut(rest: usize) -> usize
-    ensures { λ r. ⌜ r ≡ min longestLabel rest ⌝ }
-{
-    if rest < LONGEST_LABEL {
-        return rest;
-    }
-    LONGEST_LABEL
-}
-
-// What stands under one row behind its first d bytes: groups of one node each. How many bytes stand from there to the
-// end.
+// What stands under one row behind its first d bytes: groups of one node each, the first with the score field s. How
+// many bytes of the first `total` stand from where it begins.
 fn lone(
     names: &[u8],
     lens: &[u8],
@@ -64,12 +53,12 @@ fn lone(
     to: Target,
 ) -> usize
     requires { ⌜ Groupable (now names) (now lens) (now scores) row (row + 1) d s (length (now dst)) (to .total)
-        (to .back) (to .put) ⌝ }
+        (to .back) (to .store) ⌝ }
     ensures { λ r. ⌜ Grouped (entries (now (names .entry)) (now (lens .entry)) (now (scores .entry))) row (row + 1) d s
-        (now (dst .entry)) (now (dst .exit)) (to .total) (to .back) (to .put) r ⌝ }
+        (now (dst .entry)) (now (dst .exit)) (to .total) (to .back) (to .store) r ⌝ }
 {
     let all = lens[row] as usize;
-    let len = cut(all - d);
+    let len = octets_code::least(LONGEST_LABEL, all - d);
     if len == 0 {
         return to.back;
     }
@@ -89,13 +78,13 @@ fn lone(
     let front = Target {
         total: to.total,
         back: n,
-        put: to.put,
+        store: to.store,
     };
     trie_write_nodes::finish_one(names, d, r, s, dst, front)
 }
 
-// What stands under rows: their group, and behind it the groups of its nodes, the last node's put first. How many bytes
-// stand from there to the end.
+// What stands under rows: their group, with the score field s first, and behind it the groups of its nodes, the last
+// node's put first. How many bytes of the first `total` stand from where it begins.
 fn group(
     names: &[u8],
     lens: &[u8],
@@ -106,9 +95,9 @@ fn group(
     to: Target,
 ) -> usize
     requires { ⌜ Groupable (now names) (now lens) (now scores) (rows .lo) (rows .hi) (rows .d) s (length (now dst))
-        (to .total) (to .back) (to .put) ⌝ }
+        (to .total) (to .back) (to .store) ⌝ }
     ensures { λ r. ⌜ Grouped (entries (now (names .entry)) (now (lens .entry)) (now (scores .entry))) (rows .lo)
-        (rows .hi) (rows .d) s (now (dst .entry)) (now (dst .exit)) (to .total) (to .back) (to .put) r ⌝ }
+        (rows .hi) (rows .d) s (now (dst .entry)) (now (dst .exit)) (to .total) (to .back) (to .store) r ⌝ }
 {
     if rows.hi - rows.lo == 1 {
         return lone(names, lens, scores, rows.lo, rows.d, s, dst, to);
@@ -131,7 +120,7 @@ fn group(
         let behind = Target {
             total: to.total,
             back: back,
-            put: to.put,
+            store: to.store,
         };
         let n = group(names, lens, scores, below, 0, dst, behind);
         let filled = with_under(r, (n - back) as u32);
@@ -141,19 +130,19 @@ fn group(
     let front = Target {
         total: to.total,
         back: back,
-        put: to.put,
+        store: to.store,
     };
     trie_write_nodes::finish(names, rows.d, &runs, count, s, dst, front)
 }
 
-// Too short a destination, or the bytes written.
-pub enum Fitted {
+// Whether a trie has room: too short a destination, or the bytes written.
+pub enum TrieRoom {
     TooShort,
     Bytes(usize),
 }
 
 // Writes the trie of the table's entries to the front of dst, where it has room.
-fn write_rows(names: &[u8], lens: &[u8], scores: &[u32], dst: &mut [u8]) -> Fitted
+fn write_rows(names: &[u8], lens: &[u8], scores: &[u32], dst: &mut [u8]) -> TrieRoom
     requires { ⌜ Table (now names) (now lens) (now scores)
         × (valid (entries (now names) (now lens) (now scores)) ≡ true) ⌝ }
     ensures { λ r. ⌜ TrieWritten (entries (now (names .entry)) (now (lens .entry)) (now (scores .entry)))
@@ -172,12 +161,12 @@ fn write_rows(names: &[u8], lens: &[u8], scores: &[u32], dst: &mut [u8]) -> Fitt
         Target {
             total: 0,
             back: 0,
-            put: false,
+            store: false,
         },
     );
     let total = size + FRAME_LENGTH;
     if dst.len() < total {
-        return Fitted::TooShort;
+        return TrieRoom::TooShort;
     }
     frame_code::put_frame(dst, TRIE_VERSION, total, n);
     group(
@@ -190,14 +179,14 @@ fn write_rows(names: &[u8], lens: &[u8], scores: &[u32], dst: &mut [u8]) -> Fitt
         Target {
             total: total,
             back: 0,
-            put: true,
+            store: true,
         },
     );
-    Fitted::Bytes(total)
+    TrieRoom::Bytes(total)
 }
 
 // Writes the trie of a book that was checked, where the destination has room.
-pub fn write(book: &[u8], n: usize, dst: &mut [u8]) -> Fitted
+pub fn write(book: &[u8], n: usize, dst: &mut [u8]) -> TrieRoom
     requires { ⌜ Held (now book) n ⌝ }
     ensures { λ r. ⌜ TrieWritten (inBook (now (book .entry))) (now (dst .entry)) r (now (dst .exit)) ⌝ }
 {

@@ -12,12 +12,12 @@ ghost use Rattle.trie_write_runs.specs.Runs.{RunsKept, firstRuns};
 ghost use Rattle.trie_write_nodes.specs.Nodes.{AllFit, Finished, Finishing, Measurable, OneFits, nodesBytes};
 ghost use Rattle.trie_write_nodes.specs.Nodes.{nodesLength, oneNode};
 
-// Where nodes are put: in front of the `back` bytes that end the first `total` of a destination; without `put` they are
+// Where nodes are put: in front of the `back` bytes that end the first `total` of a destination; without `store` they are
 // only measured.
 pub struct Target {
     pub total: usize,
     pub back: usize,
-    pub put: bool,
+    pub store: bool,
 }
 
 // The bytes of a group's own nodes, where the fields of the first are given.
@@ -93,7 +93,8 @@ fn put_nodes(
     }
 }
 
-// The group's own nodes; how many bytes stand from there to the end.
+// Puts the group's own nodes, with the score field s first. How many bytes of the first `total` stand from where the
+// group begins.
 pub fn finish(
     names: &[u8],
     d: usize,
@@ -104,14 +105,14 @@ pub fn finish(
     to: Target,
 ) -> usize
     requires { ⌜ RunsKept (now runs) count
-        × Finishing (now names) d (firstRuns (now runs) count) s (length (now dst)) (to .total) (to .back) (to .put) ⌝ }
+        × Finishing (now names) d (firstRuns (now runs) count) s (length (now dst)) (to .total) (to .back) (to .store) ⌝ }
     ensures { λ r. ⌜ Finished (now (names .entry)) d (firstRuns (now (runs .entry)) count) s (now (dst .entry))
-        (now (dst .exit)) (to .total) (to .back) (to .put) r ⌝ }
+        (now (dst .exit)) (to .total) (to .back) (to .store) r ⌝ }
 {
     let other = nodes_size(runs, count, trie_write_runs::plain_fields(s));
     let first = trie_write_runs::first_fields(s, other);
     let full = nodes_size(runs, count, first);
-    if to.put {
+    if to.store {
         put_nodes(names, d, runs, count, first, dst, to.total - to.back - full);
         return to.back + full;
     }
@@ -120,14 +121,14 @@ pub fn finish(
 
 // The same for a group of one node.
 pub fn finish_one(names: &[u8], d: usize, r: Run, s: usize, dst: &mut [u8], to: Target) -> usize
-    requires { ⌜ Finishing (now names) d (r ∷ []) s (length (now dst)) (to .total) (to .back) (to .put) ⌝ }
+    requires { ⌜ Finishing (now names) d (r ∷ []) s (length (now dst)) (to .total) (to .back) (to .store) ⌝ }
     ensures { λ n. ⌜ Finished (now (names .entry)) d (r ∷ []) s (now (dst .entry)) (now (dst .exit)) (to .total)
-        (to .back) (to .put) n ⌝ }
+        (to .back) (to .store) n ⌝ }
 {
     let other = trie_write_runs::node_size(r, trie_write_runs::plain_fields(s));
     let first = trie_write_runs::first_fields(s, other);
     let full = trie_write_runs::node_size(r, first);
-    if to.put {
+    if to.store {
         put_node(names, d, r, first, true, dst, to.total - to.back - full);
         return to.back + full;
     }

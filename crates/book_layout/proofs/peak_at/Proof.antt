@@ -4,8 +4,8 @@ use borrow.Author.Needs.{needs}
 use Rattle.book_layout.proofs.peak_at.Statement.{statement}
 use Rattle.book_layout.proofs.peak_at.Tie as tie
 
-peak-place-requires : tie.Need-peak-place-requires
-peak-place-requires c κs = c .before .pre
+peak-start-requires : tie.Need-peak-start-requires
+peak-start-requires c κs = c .before .pre
 
 read-u16-requires : tie.Need-read-u16-requires
 read-u16-requires c κs = tt
@@ -14,7 +14,7 @@ cast-result : tie.Need-cast-result
 cast-result c = search needs
 
 returns : tie.Need-returns
-returns c = rw (← c .before .peak-place .ensures) (c .read-u16 .ensures)
+returns c = rw (← c .before .peak-start .ensures) (c .read-u16 .ensures)
 
 pub peak-at-spec : {M : Type 1} → statement M
-peak-at-spec = tie.close (tie.spec peak-place-requires read-u16-requires cast-result returns)
+peak-at-spec = tie.close (tie.spec peak-start-requires read-u16-requires cast-result returns)

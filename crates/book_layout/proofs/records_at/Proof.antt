@@ -8,12 +8,12 @@ use Rattle.book_layout.proofs.records_at.Tie as tie
 blocks-requires : tie.Need-blocks-requires
 blocks-requires c κs = omega arith
 
-peak-place-requires : tie.Need-peak-place-requires
-peak-place-requires c κs = omega arith
+peak-start-requires : tie.Need-peak-start-requires
+peak-start-requires c κs = omega arith
 
 returns : tie.Need-returns
 unfolding recordsAt
 returns c = omega arith
 
 pub records-at-spec : {M : Type 1} → statement M
-records-at-spec = tie.close (tie.spec blocks-requires peak-place-requires returns)
+records-at-spec = tie.close (tie.spec blocks-requires peak-start-requires returns)

@@ -13,11 +13,11 @@ after-put-offset c = c .before .before .before .before
 abbrev after-write-u32 : tie.After-put-offset → tie.After-write-u32
 after-write-u32 c = c .before .before .before .before
 
-abbrev begin : tie.After-score-place → tie.Start
+abbrev begin : tie.After-score-start → tie.Start
 begin c = c .before .before .before .before .before
 
-score-place-requires : tie.Need-score-place-requires
-score-place-requires c κs = omega arith
+score-start-requires : tie.Need-score-start-requires
+score-start-requires c κs = omega arith
 
 write-u32-requires : tie.Need-write-u32-requires
 write-u32-requires c κs = tt
@@ -40,13 +40,13 @@ returns c =
     let z = begin p in
     entry-put (z .args .dst .now) (z .args .n) (z .args .index) (z .args .at) (z .args .prev .now) (z .args .name .now)
     (z .args .score)
-    (p .score-place .ensures) (s .write-u32 .ensures) (o .put-offset .ensures) (r .put-record .ensures)
+    (p .score-start .ensures) (s .write-u32 .ensures) (o .put-offset .ensures) (r .put-record .ensures)
 
 pub put-entry-spec : {M : Type 1} → statement M
 put-entry-spec =
     tie.close
     (tie.spec
-    score-place-requires
+    score-start-requires
     write-u32-requires
     put-offset-requires
     put-record-requires

@@ -15,8 +15,8 @@ returns c =
     let h = c .before .is-head in
     simp (← h .ensures, not-true (h .result) (c .if1 .taken))
 
-offset-place-requires : tie.Need-offset-place-requires
-offset-place-requires c κs = omega arith
+offset-start-requires : tie.Need-offset-start-requires
+offset-start-requires c κs = omega arith
 
 cast-write-u16 : tie.Need-cast-write-u16
 cast-write-u16 c = omega arith
@@ -34,7 +34,7 @@ returns-2 c =
     let p = w .before in
     let o = p .before .before in
     let h = o .before .is-head in
-    rw (← h .ensures, not-false (h .result) (o .if1 .left), ← p .offset-place .ensures) (w .write-u16 .ensures)
+    rw (← h .ensures, not-false (h .result) (o .if1 .left), ← p .offset-start .ensures) (w .write-u16 .ensures)
 
 pub put-offset-spec : {M : Type 1} → statement M
 put-offset-spec =
@@ -42,7 +42,7 @@ put-offset-spec =
     (tie.spec
     is-head-requires
     returns
-    offset-place-requires
+    offset-start-requires
     cast-write-u16
     write-u16-requires
     same-length

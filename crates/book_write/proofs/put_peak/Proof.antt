@@ -14,8 +14,8 @@ block-end-requires c κs = omega arith
 best-between-requires : tie.Need-best-between-requires
 best-between-requires c κs = omega arith
 
-peak-place-requires : tie.Need-peak-place-requires
-peak-place-requires c κs = omega arith
+peak-start-requires : tie.Need-peak-start-requires
+peak-start-requires c κs = omega arith
 
 cast-write-u16 : tie.Need-cast-write-u16
 cast-write-u16 c = omega arith
@@ -34,7 +34,7 @@ returns c =
     let e = b .before in
     let a = e .before .before .before .args in
     peak-stored (a .n) (a .j) (a .dst .now) (e .block-end .ensures) (b .best-between .ensures .0)
-    (p .peak-place .ensures) (w .write-u16 .ensures)
+    (p .peak-start .ensures) (w .write-u16 .ensures)
 
 pub put-peak-spec : {M : Type 1} → statement M
 put-peak-spec =
@@ -43,7 +43,7 @@ put-peak-spec =
     mul-best-between
     block-end-requires
     best-between-requires
-    peak-place-requires
+    peak-start-requires
     cast-write-u16
     write-u16-requires
     same-length

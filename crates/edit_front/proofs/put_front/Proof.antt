@@ -36,8 +36,8 @@ few z = held-few (z .pre .held)
 returns : tie.Need-returns
 returns c = rw (not-true (c .before .before .before .args .store) (c .if1 .taken))
 
-score-place-requires : tie.Need-score-place-requires
-score-place-requires c κs = let z = start (c .before) in omega (arith, few z, z .pre .within)
+score-start-requires : tie.Need-score-start-requires
+score-start-requires c κs = let z = start (c .before) in omega (arith, few z, z .pre .within)
 
 sub-copy : tie.Need-sub-copy
 sub-copy c = omega arith
@@ -92,7 +92,7 @@ returns-2 c =
     let z = entry k in
     let s = k .before .before in
     rw (not-false (z .args .store) (s .before .before .if1 .left))
-    (front-put (z .pre) (z .args .dst .now) (s .score-place .ensures) (k .copy .ensures)
+    (front-put (z .pre) (z .args .dst .now) (s .score-start .ensures) (k .copy .ensures)
     (o .before .before .buckets .ensures) (o .put-offsets .ensures) (r .records-at .ensures)
     (b .records-at2 .ensures) (t .copy2 .ensures))
 
@@ -101,7 +101,7 @@ put-front-spec =
     tie.close
     (tie.spec
     returns
-    score-place-requires
+    score-start-requires
     sub-copy
     part-copy-start
     part-copy-end

@@ -74,8 +74,8 @@ loop-holds c = let a = begin c .args in
 offset-at-requires : tie.Need-offset-at-requires Inv-loop μ-loop
 offset-at-requires c κs = (few c, omega (arith, few c, bucket c))
 
-offset-place-requires : tie.Need-offset-place-requires Inv-loop μ-loop
-offset-place-requires c κs =
+offset-start-requires : tie.Need-offset-start-requires Inv-loop μ-loop
+offset-start-requires c κs =
     let i = c .before .before in
     (start i .pre .2, omega (arith, few i, bucket i))
 
@@ -110,7 +110,7 @@ loop-again c =
       i .before .before .before .records-at .ensures,
       i .before .before .records-at2 .ensures,
     ))
-    (p .offset-place .ensures) (w .write-u16 .ensures)
+    (p .offset-start .ensures) (w .write-u16 .ensures)
 
 same-length : tie.Need-same-length Inv-loop μ-loop
 same-length c = c .before .loop .inv .sameLength
@@ -128,7 +128,7 @@ put-offsets-spec =
     records-at-requires-2
     loop-holds
     offset-at-requires
-    offset-place-requires
+    offset-start-requires
     sub-write-u16
     add-write-u16
     cast-write-u16

@@ -17,8 +17,8 @@ use Rattle.edit_rescore.proofs.rescore.Tie as tie
 abbrev begin : tie.After-copy-arg2 → tie.Start
 begin c = c .before .before .before .before
 
-abbrev after-copy-of-score-place : tie.After-score-place → tie.After-copy
-after-copy-of-score-place c = c .before .before .before .before
+abbrev after-copy-of-score-start : tie.After-score-start → tie.After-copy
+after-copy-of-score-start c = c .before .before .before .before
 
 abbrev after-copy : tie.After-put-peak-arg → tie.After-copy
 after-copy c = c .before .before .before .before .before .before .before .before
@@ -50,8 +50,8 @@ slice-aggregate-copy c =
 copy-requires : tie.Need-copy-requires
 copy-requires c κs = tt
 
-score-place-requires : tie.Need-score-place-requires
-score-place-requires c κs = let z = start (c .before .before .before) in omega (arith, few z, z .pre .1)
+score-start-requires : tie.Need-score-start-requires
+score-start-requires c κs = let z = start (c .before .before .before) in omega (arith, few z, z .pre .1)
 
 write-u32-requires : tie.Need-write-u32-requires
 write-u32-requires c κs = tt
@@ -69,11 +69,11 @@ returns c =
     let p = c .before .before in
     let w = after-write-u32 p in
     let q = w .before in
-    let k = after-copy-of-score-place q in
+    let k = after-copy-of-score-start q in
     let z = start k in
     rescored-whole (z .args .book .now) (z .args .dst .now) (z .args .i) (z .args .score) (z .pre .0) (z .pre .1)
     (z .pre .2) (z .pre .3) (fits z) (k .copy .ensures)
-    (q .score-place .ensures) (w .write-u32 .ensures) (p .put-peak .ensures)
+    (q .score-start .ensures) (w .write-u32 .ensures) (p .put-peak .ensures)
 
 pub rescore-spec : {M : Type 1} → statement M
 rescore-spec =
@@ -81,7 +81,7 @@ rescore-spec =
     (tie.spec
     slice-aggregate-copy
     copy-requires
-    score-place-requires
+    score-start-requires
     write-u32-requires
     put-peak-requires
     same-length

@@ -18,13 +18,13 @@ use Rattle.edit_splice.proofs.pass_run.Statement.{statement}
 use Rattle.edit_splice.proofs.pass_run.Tie as tie
 
 abbrev Inv-loop : tie.InvT-loop
-Inv-loop book end dst₀ n store i₀ at₀ name₀ index₀ put₀ prev₀ prev-len₀ dst i at name index put prev prev-len =
-    RunLeft book i₀ end dst₀ n (cursorOf put₀ index₀ prev₀ prev-len₀) store at i name dst
-    (cursorOf put index prev prev-len)
+Inv-loop book end dst₀ n store i₀ at₀ name₀ index₀ to-at₀ prev₀ prev-len₀ dst i at name index to-at prev prev-len =
+    RunLeft book i₀ end dst₀ n (cursorOf to-at₀ index₀ prev₀ prev-len₀) store at i name dst
+    (cursorOf to-at index prev prev-len)
     × (length prev ≡ longestName)
 
 abbrev μ-loop : tie.MeasureT-loop
-μ-loop book end dst₀ n store i₀ at₀ name₀ index₀ put₀ prev₀ prev-len₀ dst i at name index put prev prev-len = end - i
+μ-loop book end dst₀ n store i₀ at₀ name₀ index₀ to-at₀ prev₀ prev-len₀ dst i at name index to-at prev prev-len = end - i
 
 -- places that the proofs below look back to
 abbrev begin : tie.After-prev Inv-loop μ-loop → tie.Start Inv-loop μ-loop

@@ -17,16 +17,16 @@ use Rattle.merge_calls.proofs.pass.Statement.{statement}
 use Rattle.merge_calls.proofs.pass.Tie as tie
 
 abbrev Inv-loop : tie.InvT-loop
-Inv-loop first n second m dst₀ count at store a₀ b₀ name₀ prev₀ prev-len₀ put₀ index₀ x₀ y₀ dst a b name prev prev-len
-    put
+Inv-loop first n second m dst₀ count at store a₀ b₀ name₀ prev₀ prev-len₀ to-at₀ index₀ x₀ y₀ dst a b name prev prev-len
+    to-at
     index x y =
-    PassLeft first second dst₀ count at store x a y b dst (cursorOf put index prev prev-len)
+    PassLeft first second dst₀ count at store x a y b dst (cursorOf to-at index prev prev-len)
     × (length name ≡ longestName)
     × (length prev ≡ longestName)
 
 abbrev μ-loop : tie.MeasureT-loop
-μ-loop first n second m dst₀ count at store a₀ b₀ name₀ prev₀ prev-len₀ put₀ index₀ x₀ y₀ dst a b name prev prev-len
-    put index
+μ-loop first n second m dst₀ count at store a₀ b₀ name₀ prev₀ prev-len₀ to-at₀ index₀ x₀ y₀ dst a b name prev prev-len
+    to-at index
     x y = count - index
 
 -- before the loop
@@ -153,8 +153,8 @@ loop-again c =
 abbrev last : tie.Else1 Inv-loop μ-loop → tie.At-loop Inv-loop μ-loop
 last c = c .before .before
 
-add-next : tie.Need-add-next Inv-loop μ-loop
-add-next c = let v = last (c .before .before) .loop .inv .0 in omega (arith, v .ofFirst .small, v .ofSecond .small)
+add-left : tie.Need-add-left Inv-loop μ-loop
+add-left c = let v = last (c .before .before) .loop .inv .0 in omega (arith, v .ofFirst .small, v .ofSecond .small)
 
 same-length : tie.Need-same-length Inv-loop μ-loop
 same-length c = last (c .before .before) .loop .inv .0 .passing .sameLength
@@ -186,6 +186,6 @@ pass-spec =
     add-index
     loop-less
     loop-again
-    add-next
+    add-left
     same-length
     returns)

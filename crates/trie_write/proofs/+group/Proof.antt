@@ -39,7 +39,7 @@ group-below t = and 4 group-kinds.ps (falls 4 group-kinds.ps _<_ μ-group t) gro
 
 abbrev group-Inv-loop : group-lts.InvT-loop
 group-Inv-loop names lens scores rows s dst₀ to runs₀ count back₀ i₀ dst runs back i = Turning
-    (entries names lens scores) (rows .d) (to .total) (to .back) (to .put) dst₀ runs₀ count dst runs back i
+    (entries names lens scores) (rows .d) (to .total) (to .back) (to .store) dst₀ runs₀ count dst runs back i
 
 abbrev group-μ-loop : group-lts.MeasureT-loop
 group-μ-loop names lens scores rows s dst₀ to runs₀ count back₀ i₀ dst runs back i = i

@@ -12,11 +12,11 @@ use Rattle.trie_write.specs.Writing.{Grouped}
 use Rattle.trie_write.proofs.Alone.{lone-falls, lone-finish, lone-grouped, lone-low, lone-none, lone-ready}
 use Rattle.trie_write.proofs.Alone.{row-long, row-low}
 use Rattle.trie_write.proofs.Going.{length-put}
+use Rattle.octets_code.proofs.least.Reads as least-reads
 use Rattle.trie_write_nodes.proofs.finish_one.Reads as finish-one-reads
 use Rattle.trie_write.proofs.+lone.{statement}
 use Rattle.trie_write.proofs.+lone.Lts-lone as lone-lts
 use Rattle.trie_write.proofs.+lone.Tie.{close}
-use Rattle.trie_write.proofs.cut.Reads as cut-reads
 use Rattle.trie_write.proofs.lone.Kinds as lone-kinds
 use Rattle.trie_write.proofs.lone.Reads as lone
 
@@ -33,8 +33,8 @@ lone-below t = and 4 lone-kinds.ps (falls 4 lone-kinds.ps _<_ μ-lone t) lone.Pr
 module _ (t : ℕ) where
   abbrev claims : lone-lts.Claims
   claims = (
-    cut-reads.Asked,
-    cut-reads.Learnt,
+    least-reads.Asked,
+    least-reads.Learnt,
     lone-below t,
     lone.Post,
     finish-one-reads.Asked,
@@ -62,15 +62,15 @@ module _ (t : ℕ) where
   lone-cast-all : lone-lts.Need-cast-all claims (lone-at t) lone.Post
   lone-cast-all c = omega (arith, row-long (start c .pre .1) .1)
 
-  lone-sub-cut : lone-lts.Need-sub-cut claims (lone-at t) lone.Post
-  lone-sub-cut c = omega (arith, row-long (start c .pre .1) .0)
+  lone-sub-least : lone-lts.Need-sub-least claims (lone-at t) lone.Post
+  lone-sub-least c = omega (arith, row-long (start c .pre .1) .0)
 
-  lone-cut-requires : lone-lts.Need-cut-requires claims (lone-at t) lone.Post
-  lone-cut-requires c κs = tt
+  lone-least-requires : lone-lts.Need-least-requires claims (lone-at t) lone.Post
+  lone-least-requires c κs = tt
 
   lone-returns : lone-lts.Need-returns claims (lone-at t) lone.Post
   lone-returns c = let k = c .before in
-      lone-none (start (k .before) .pre .1) (sym (k .cut .ensures) ∙ c .if1 .taken)
+      lone-none (start (k .before) .pre .1) (sym (k .least .ensures) ∙ c .if1 .taken)
 
   lone-mul-high : lone-lts.Need-mul-high claims (lone-at t) lone.Post
   lone-mul-high c = let s = start (c .before .before) .pre .1 in omega (arith, row-low s, s .able .table .few)
@@ -81,16 +81,16 @@ module _ (t : ℕ) where
 
   lone-add-lone : lone-lts.Need-add-lone claims (lone-at t) lone.Post
   lone-add-lone c = let k = c .before .before in let s = start (k .before) .pre .1 in
-      omega (arith, k .cut .ensures, row-long s .0, row-long s .1)
+      omega (arith, k .least .ensures, row-long s .0, row-long s .1)
 
   lone-lone-requires : lone-lts.Need-lone-requires claims (lone-at t) lone.Post
   lone-lone-requires c κs =
       let e = c .before .before in
       let k = e .before in
       let s = start (k .before) in (
-        subst (λ (x : ℕ). longestName - (s .args .d + k .cut .result) < x) (s .pre .0)
-            (lone-falls (s .pre .1) (k .cut .ensures) (e .if1 .left)),
-        lone-ready (s .pre .1) (k .cut .ensures) (e .if1 .left) (s .args .dst .now) refl,
+        subst (λ (x : ℕ). longestName - (s .args .d + k .least .result) < x) (s .pre .0)
+            (lone-falls (s .pre .1) (k .least .ensures) (e .if1 .left)),
+        lone-ready (s .pre .1) (k .least .ensures) (e .if1 .left) (s .args .dst .now) refl,
       )
 
   lone-sub-under : lone-lts.Need-sub-under claims (lone-at t) lone.Post
@@ -102,7 +102,7 @@ module _ (t : ℕ) where
       let e = labelled u in
       omega (
         arith,
-        lone-low (begin u .pre .1) (e .before .cut .ensures) (e .if1 .left) refl (u .lone .ensures),
+        lone-low (begin u .pre .1) (e .before .least .ensures) (e .if1 .left) refl (u .lone .ensures),
       )
 
   lone-cast-lo : lone-lts.Need-cast-lo claims (lone-at t) lone.Post
@@ -112,14 +112,14 @@ module _ (t : ℕ) where
   lone-add-hi c = let s = begin (c .before .before .before) .pre .1 in omega (arith, row-low s, s .able .table .few)
 
   lone-cast-label : lone-lts.Need-cast-label claims (lone-at t) lone.Post
-  lone-cast-label c = omega (arith, labelled (c .before .before .before) .before .cut .ensures)
+  lone-cast-label c = omega (arith, labelled (c .before .before .before) .before .least .ensures)
 
   lone-finish-one-requires : lone-lts.Need-finish-one-requires claims (lone-at t) lone.Post
   lone-finish-one-requires c κs =
       let o = c .before in
       let u = o .before .before .before in
       let e = labelled u in
-      lone-finish (begin u .pre .1) (e .before .cut .ensures) (e .if1 .left) refl (u .lone .ensures)
+      lone-finish (begin u .pre .1) (e .before .least .ensures) (e .if1 .left) refl (u .lone .ensures)
 
   -- at the end: what stands under the node, and the node in front of it
   abbrev Finished : Type 0
@@ -131,11 +131,11 @@ module _ (t : ℕ) where
   grouped : (f : Finished) → let a = begin (under f) .args in
       Grouped (entries (a .names .now) (a .lens .now) (a .scores .now)) (a .row) (a .row + 1) (a .d) (a .s)
       (a .dst .now)
-      (f .finish-one .last .1 .1 .1 .1 .0) (a .to .total) (a .to .back) (a .to .put) (f .finish-one .result)
+      (f .finish-one .last .1 .1 .1 .1 .0) (a .to .total) (a .to .back) (a .to .store) (f .finish-one .result)
   grouped f =
       let u = under f in
       let e = labelled u in
-      lone-grouped (begin u .pre .1) (e .before .cut .ensures) (e .if1 .left) refl (u .lone .ensures)
+      lone-grouped (begin u .pre .1) (e .before .least .ensures) (e .if1 .left) refl (u .lone .ensures)
       (f .finish-one .ensures)
 
   lone-same-length : lone-lts.Need-same-length claims (lone-at t) lone.Post
@@ -150,8 +150,8 @@ pub +lone-spec : {M : Type 1} → statement M
     lone.Post
     (lone-shared-slice-read-all t)
     (lone-cast-all t)
-    (lone-sub-cut t)
-    (lone-cut-requires t)
+    (lone-sub-least t)
+    (lone-least-requires t)
     (lone-returns t)
     (lone-mul-high t)
     (lone-shared-slice-read-high t)
