@@ -106,7 +106,7 @@ pub fn peak_at(buf: &[u8], n: usize, j: usize) -> usize
 }
 
 // The better of two positions, of which b is the earlier one. It is the one that outranks the other (`outranks` in
-// crates/entries/specs/Entries.antt): the positions stand in name order, so that at equal scores the place alone
+// crates/entries/specs/Entries.antt): the positions stand in name order, so that at equal scores the position alone
 // decides, and the earlier one wins.
 pub fn better(buf: &[u8], b: usize, i: usize) -> usize
     requires { ⌜ (b ≤ maxEntries) × (i ≤ maxEntries) ⌝ }
