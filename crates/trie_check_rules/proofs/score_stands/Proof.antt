@@ -7,21 +7,12 @@ use Rattle.trie_check_rules.proofs.Rules.{score-zero}
 use Rattle.trie_check_rules.proofs.score_stands.Statement.{statement}
 use Rattle.trie_check_rules.proofs.score_stands.Tie as tie
 
--- places that the proofs below look back to
-abbrev then1-of-else3 : tie.Else3 → tie.Then1
-then1-of-else3 c = c .before .before .before .before
+-- from a later test: the node is a first sibling; or it is none, and its score field is not too high
+abbrev first : tie.Else2 → tie.Then1
+first e = e .before .before
 
-abbrev then1 : tie.After-is-lonely2 → tie.Then1
-then1 c = c .before .before .before .before .before
-
-abbrev else1 : tie.Then5 → tie.Else1
-else1 c = c .before .before .before .before .before
-
-abbrev else1-of-struct-known7 : tie.After-struct-known7 → tie.Else1
-else1-of-struct-known7 c = c .before .before .before .before .before .before .before
-
-abbrev else4 : tie.After-struct-known7 → tie.Else4
-else4 c = c .before .before .before .before
+abbrev later : tie.Else4 → tie.Else1
+later e = e .before .before .before
 
 is-lonely-requires : tie.Need-is-lonely-requires
 is-lonely-requires c κs = search needs
@@ -34,14 +25,14 @@ is-lonely-requires-2 c κs = search needs
 
 returns-2 : tie.Need-returns-2
 returns-2 c =
-    let first = then1 c in
-    let a = first .before .args in
-    c .is-lonely2 .ensures ∙ score-zero (a .p) (a .n) (first .if1 .taken) (c .before .before .before .if2 .left)
-    (c .before .if3 .taken)
+    let e = c .before .before .before in
+    let z = first e in
+    let a = z .before .args in
+    c .is-lonely2 .ensures ∙ score-zero (a .p) (a .n) (z .if1 .taken) (e .if2 .left) (c .before .if3 .taken)
 
 returns-3 : tie.Need-returns-3
 returns-3 c = simp (
-  then1-of-else3 c .if1 .taken,
+  first (c .before .before) .if1 .taken,
   ne-eqb _ _ (c .before .before .if2 .left),
   ne-eqb _ _ (c .if3 .left),
 )
@@ -51,17 +42,16 @@ returns-4 c = simp (c .before .before .before .if1 .left, lt-leb _ _ (c .if4 .ta
 
 returns-5 : tie.Need-returns-5
 returns-5 c = simp (
-  else1 c .if1 .left,
+  later (c .before .before) .if1 .left,
   le-leb _ _ (c .before .before .if4 .left),
   ne-eqb _ _ (c .if5 .taken),
 )
 
 returns-6 : tie.Need-returns-6
-returns-6 c = simp (
-  else1-of-struct-known7 c .if1 .left,
-  le-leb _ _ (else4 c .if4 .left),
-  eq-eqb _ _ (c .before .before .if5 .left),
-)
+returns-6 c =
+    let z = c .before .before in
+    let e = z .before .before in
+    simp (later e .if1 .left, le-leb _ _ (e .if4 .left), eq-eqb _ _ (z .if5 .left))
 
 pub score-stands-spec : {M : Type 1} → statement M
 score-stands-spec =
