@@ -9,10 +9,10 @@ use native.Mathlib.Omega.{arith}
 use lib.Dec.{eqb}
 use lib.ListN.{drop, length, take}
 use borrow.Author.Tests.{eq-eqb, eqb-true}
-use Rattle.octets.specs.Lists.{_∈_, concatMap, keep, sortBy}
+use Rattle.octets.specs.Lists.{_∈_, keep, sortBy}
 use Rattle.octets.specs.Octets.{begins}
 use Rattle.octets.proofs.Count.{count, count-concat-sort, count-map}
-use Rattle.octets.proofs.Lists.{all-in, concat-in, in-append-left, keep-none, sort-in}
+use Rattle.octets.proofs.Lists.{all-in, concat-in, in-append-left, keep-append, keep-every, keep-none, sort-in}
 use Rattle.octets.proofs.Tests.{and-true, by-test}
 use Rattle.entries.specs.Completion.{completion, matches}
 use Rattle.entries.specs.Entries.{Entry, entry, valid}
@@ -24,8 +24,8 @@ use Rattle.trie.specs.Trie.{byFirst, highest, labelOf, levels, remains, usedUp}
 use Rattle.trie.proofs.Sets.{byFirst-flat, byFirst-run, flat, label-progress, label-split, set-rising, used-up}
 use Rattle.trie_laws.proofs.Keys.{label-key, run-key}
 use Rattle.trie_find_laws.specs.Search.{Forest, Proper, WaitingForest, inside, none, ownEntries, searchOffers}
-use Rattle.trie_find_laws.specs.Search.{top, tree, wait, waitingEntries}
-use Rattle.trie_find_laws.proofs.Search.{AllWait, rank-same, search-offers}
+use Rattle.trie_find_laws.specs.Search.{top, tree, wait}
+use Rattle.trie_find_laws.proofs.Search.{AllWait, allWaiting, rank-same, search-offers}
 use Rattle.trie_find_laws.specs.Planted.{kidsOf, plant, plantAll}
 use Rattle.trie_find_laws.specs.Descend.{descend, orElse, startFor}
 use Rattle.trie_find_laws.proofs.Planted.{Fine, From, Placed, begins-key, book-offers, inside-cons, kids-none}
@@ -111,15 +111,6 @@ begins-longer (x ∷ p) (y ∷ u) r h = let a = and-true (eqb x y) (begins p u) 
 abbrev hit : List ℕ → Entry → Bool
 hit p e = begins p (e .name)
 
-keep-append : (p : Entry → Bool) (xs ys : List Entry) → keep p (xs ++ ys) ≡ keep p xs ++ keep p ys
-keep-append p [] ys = refl
-keep-append p (x ∷ xs) ys = let ih = keep-append p xs ys in
-    by-test (p x) (λ t. rw t (ap (λ l. x ∷ l) ih)) (λ t. rw t ih)
-
-keep-all : (p : Entry → Bool) (xs : List Entry) → ((x : Entry) → x ∈ xs → p x ≡ true) → keep p xs ≡ xs
-keep-all p [] h = refl
-keep-all p (x ∷ xs) h = rw (h x (inl refl)) (ap (λ l. x ∷ l) (keep-all p xs (λ y m. h y (inr m))))
-
 count-keep : (x p : Entry → Bool) (xs : List Entry) → count x (keep p xs) ≡ count (λ e. p e && x e) xs
 count-keep x p [] = refl
 count-keep x p (e ∷ xs) = let ih = count-keep x p xs in
@@ -138,9 +129,6 @@ descend-step p q l s (tree a b c d) next = refl
 inner-some : (f : Forest) → (f ≡ none → ⊥) → inner f ≡ true
 inner-some none h = absurd (h refl)
 inner-some (tree a b c d) h = refl
-
-abbrev all : List WaitingForest → List Entry
-all ws = concatMap waitingEntries ws
 
 -- no other set has a match where p goes on with the first byte of this one
 others-none : (p q : List ℕ) (es s : List Entry) (ss : List (List Entry)) → begins p q ≡ false
@@ -166,7 +154,7 @@ from-label q s x f = ap (λ y. y .name) (f .eq) ∙ ap (λ w. q ++ w) (label-spl
 
 all-hit : (p q : List ℕ) (s : List Entry) → begins p (q ++ labelOf s) ≡ true
     → keep (hit p) (prefixed q s) ≡ prefixed q s
-all-hit p q s h = keep-all (hit p) (prefixed q s) (λ x m. let f = prefixed-from q s x m in
+all-hit p q s h = keep-every (hit p) (prefixed q s) (λ x m. let f = prefixed-from q s x m in
     ap (begins p) (from-label q s x f) ∙ begins-longer p (q ++ labelOf s) (drop (length (labelOf s)) (f .of .name)) h)
 
 none-hit : (p q : List ℕ) (s : List Entry) → begins p (q ++ labelOf s) ≡ false
@@ -195,8 +183,8 @@ sets-match :
     → begins p q ≡ false
     → ((s : List Entry) → s ∈ ss → s ∈ byFirst es) → Placed ss
     → ((r : List ℕ) (t : List Entry) → begins p r ≡ false → Fine d t
-    → count x (all (descend p r (plant d t))) ≡ count x (keep (hit p) (prefixed r t)))
-    → count x (all (descend p q (plantAll (plant d) ss))) ≡ count x (keep (hit p) (prefixed q (flat ss)))
+    → count x (allWaiting (descend p r (plant d t))) ≡ count x (keep (hit p) (prefixed r t)))
+    → count x (allWaiting (descend p q (plantAll (plant d) ss))) ≡ count x (keep (hit p) (prefixed q (flat ss)))
 sets-match d p q es [] x z n h l ih = refl
 sets-match d p q es (s ∷ ss) x z n h l ih =
     let rec = sets-match d p q es ss x z n (λ t m. h t (inr m)) (l .2) ih in
@@ -251,7 +239,7 @@ sets-match d p q es (s ∷ ss) x z n h l ih =
     ) rec))))
 
 plant-match : (d : ℕ) (p q : List ℕ) (es : List Entry) (x : Entry → Bool) → begins p q ≡ false → Fine d es
-    → count x (all (descend p q (plant d es))) ≡ count x (keep (hit p) (prefixed q es))
+    → count x (allWaiting (descend p q (plant d es))) ≡ count x (keep (hit p) (prefixed q es))
 plant-match zero p q [] x n z = refl
 plant-match zero p q (e ∷ es) x n z = absurd (not-suc-le-zero (z .short e (inl refl)))
 plant-match (suc d) p q es x n z =
@@ -282,5 +270,5 @@ start-offers es (b ∷ p) k h =
     search-offers k (descend (b ∷ p) [] (plant levels es)) (descend-kept (b
     ∷ p) [] (plant levels es) (plant-proper levels [] es z))
     ∙ ap (take k)
-    (rank-same (all (descend (b ∷ p) [] (plant levels es))) (matches (b ∷ p) es)
+    (rank-same (allWaiting (descend (b ∷ p) [] (plant levels es))) (matches (b ∷ p) es)
     (λ x. plant-match levels (b ∷ p) [] es x refl z ∙ ap (λ l. count x (keep (hit (b ∷ p)) l)) (prefixed-none es)))

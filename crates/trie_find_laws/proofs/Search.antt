@@ -13,9 +13,9 @@ use Rattle.octets.specs.Lists.{_∈_, concatMap, insertBy}
 use Rattle.octets.specs.Octets.{begins, below}
 use Rattle.octets.proofs.Count.{count, count-append, count-concat-insert, count-sort}
 use Rattle.octets.proofs.Lists.{append-in, concat-in, drop-in, in-append-left, in-append-right, insert-in, take-in}
-use Rattle.octets.proofs.Order.{begins-append, begins-split}
+use Rattle.octets.proofs.Order.{begins-append, begins-self, begins-split}
 use Rattle.octets.proofs.Sorted.{sorted}
-use Rattle.octets.proofs.Tests.{and-true, by-test, eqb-self}
+use Rattle.octets.proofs.Tests.{and-true, by-test}
 use Rattle.entries.specs.Entries.{Entry, byRank, entry, outranks}
 use Rattle.entries.proofs.Rank.{not-outranks-trans, outranks-asym, outranks-total, rank-first, rank-sorted}
 use Rattle.entries.proofs.Same.{sorted-unique}
@@ -77,10 +77,6 @@ begins-more [] l w h = refl
 begins-more (x ∷ p) l [] h = h
 begins-more (x ∷ p) l (y ∷ w) h = let a = and-true (eqb x y) (begins (p ++ l) w) h in
     rw (a .0) (begins-more p l w (a .1))
-
-begins-self : (w : List ℕ) → begins w w ≡ true
-begins-self [] = refl
-begins-self (x ∷ w) = rw (eqb-self x) (begins-self w)
 
 top-begins : (p l : List ℕ) (s : ℕ) (kids next : Forest) → begins (p ++ l) (top p (tree l s kids next) .name) ≡ true
 top-begins p l s none next = begins-self (p ++ l)
