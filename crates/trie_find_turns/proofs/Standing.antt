@@ -4,8 +4,9 @@ use mathlib.Core.Path.{_∙_, _≡_, ap, refl, sym}
 use mathlib.Core.Bool.{false, false≢true}
 use mathlib.Core.List.{List, _++_}
 use lib.ListN.{drop, length, length-append, length-drop, length-take, take}
-use lib.Seq.{length-sets, length-take-le, sets, sets-eq, take-at, take-take}
+use lib.Seq.{length-sets, sets, take-at, take-take}
 use native.Mathlib.Omega.{arith}
+use Rattle.octets.proofs.Stores.{take-sets}
 use Rattle.entries.specs.Names.{longestName}
 use Rattle.trie.specs.Reading.{labelLength}
 use Rattle.trie_find_laws.specs.Places.{ForestAt, fromBehind, headerAt, isLeafAt, isNone, labelAt, labelFrom}
@@ -22,14 +23,6 @@ label-long bs at h =
     let a = length-take (labelLength (headerAt bs at)) (drop (labelFrom bs at) bs) in
     let b = length-drop (labelFrom bs at) bs in
     omega arith
-
--- bytes stored behind the front of an array
-take-stored : (path w : List ℕ) (n : ℕ) → n + length w ≤ length path
-    → take (n + length w) (sets path n w) ≡ take n path ++ w
-take-stored path w n h =
-    let a = length-take-le n path (omega arith) in
-    let b = length-append (take n path) w in
-    rw (sets-eq w path n h) (take-at (take n path ++ w) (drop (n + length w) path) (n + length w) (omega arith))
 
 -- a node of a forest where it stands, reached behind its path
 pub here-is :
@@ -48,7 +41,7 @@ here-is bs path p len score at from l s kids next a b c d st =
     record {
       array = length-sets path len (labelAt bs at) ∙ a;
       path = ap (λ n. take (len + n) (sets path len (labelAt bs at))) (sym k)
-          ∙ take-stored path (labelAt bs at) len room ∙ (λ j. b j ++ lab j);
+          ∙ take-sets path len (labelAt bs at) room ∙ (λ j. b j ++ lab j);
       len = omega arith;
       score = d;
       last = st .1;
