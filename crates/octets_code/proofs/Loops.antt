@@ -12,6 +12,7 @@ use native.Mathlib.Omega.{arith}
 use borrow.Author.Tests.{eq-eqb, le-leb, leb-false, leb-true, lt-leb, ne-eqb}
 use Rattle.octets.specs.Lists.{if_then_else_}
 use Rattle.octets.specs.Octets.{begins, below, common, fromBe, numberAt, same}
+use Rattle.octets.proofs.Coding.{common-nil}
 use Rattle.octets.proofs.Tests.{by-test}
 
 -- a list from index i on: its next element
@@ -28,10 +29,6 @@ pub common-differ :
     (a b : List ℕ) (i : ℕ) → i < length a → i < length b → (getD a i 0 ≡ getD b i 0 → ⊥)
     → common (drop i a) (drop i b) ≡ 0
 common-differ a b i h k n = rw (drop-next a i h, drop-next b i k, ne-eqb (getD a i 0) (getD b i 0) n)
-
-common-nil : (a : List ℕ) → common a [] ≡ 0
-common-nil [] = refl
-common-nil (x ∷ a) = refl
 
 pub common-end : (a b : List ℕ) (i : ℕ) → min (length a) (length b) ≤ i → common (drop i a) (drop i b) ≡ 0
 common-end a b i h =

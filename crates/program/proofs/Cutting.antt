@@ -5,12 +5,13 @@ use mathlib.Core.Bool.{Bool, false, true}
 use mathlib.Core.List.{List, [], _++_, _∷_, append-assoc}
 use lib.Dec.{leb}
 use lib.ListN.{drop, length, length-take, take}
-use lib.Seq.{take-all, take-nil}
+use lib.Seq.{take-all}
 use native.Mathlib.Omega.{arith}
 use borrow.Author.Tests.{le-leb, leb-false, leb-true, lt-leb}
 use Rattle.program.specs.Program as program
 use Rattle.octets.specs.Octets.{begins}
 use Rattle.octets.specs.Text.{text}
+use Rattle.octets.proofs.Lists.{drop-take}
 use Rattle.octets.proofs.Tests.{by-test}
 use Rattle.entries.specs.Entries.{Entry}
 use Rattle.entries.specs.Names.{isName, isPrefix}
@@ -19,13 +20,6 @@ use Rattle.program.specs.Program.{commandOf, digits, edit, hasNumber, he
 use Rattle.program.specs.Program.{valueOn}
 use Rattle.program.specs.Theorem.{Alike, CutAlike}
 use Rattle.program.specs.Console.{Console, consoleAfter, fedBy, saidAt, saidFor}
-
-drop-take : (i m : ℕ) (s : List ℕ) → i ≤ m → drop i (take m s) ≡ take (m - i) (drop i s)
-drop-take zero m s h = let z : m - 0 ≡ m = omega arith in rw z
-drop-take (suc i) zero s h = absurd (omega arith)
-drop-take (suc i) (suc m) [] h = sym (take-nil (suc m - suc i))
-drop-take (suc i) (suc m) (x ∷ s) h = let z : suc m - suc i ≡ m - i = omega arith in drop-take i m s (omega arith)
-    ∙ ap (λ k. take k (drop i s)) (sym z)
 
 begins-cut : (x s : List ℕ) (m : ℕ) → length x ≤ m → begins x (take m s) ≡ begins x s
 begins-cut [] s m h = refl
@@ -86,7 +80,7 @@ module _ (s : List ℕ) (m : ℕ) (l : 60 ≤ m) where
       (λ t.
       let d = digits-same (leb-true (length (digits s)) 10 t) in
       let n = leb-true (length (digits s)) 10 t in
-      let z = drop-take (length (digits s)) m s (omega arith) in
+      let z = drop-take (length (digits s)) m s in
       rw (d, z, begins-cut (text " ") (drop (length (digits s)) s) (m - length (digits s)) (omega arith)))
       (λ t.
       let n : 10 < length (digits s) = leb-false (length (digits s)) 10 t in
@@ -108,7 +102,7 @@ module _ (s : List ℕ) (m : ℕ) (l : 60 ≤ m) where
       (λ t.
       let n = number-few t in
       let d = digits-same n in
-      let z = drop-take (suc (length (digits s))) m s (omega arith) in
+      let z = drop-take (suc (length (digits s))) m s in
       let r = h (valueOn 0 (digits s)) (m - suc (length (digits s))) (drop (suc (length (digits s))) s) (omega arith) in
       rw (number-cut ∙ t, t, d, z) r)
       (λ t. rw (number-cut ∙ t, t) (same-alike es refl))
@@ -118,7 +112,7 @@ pub cut-alike : CutAlike
 unfolding commandOf
 cut-alike line n es h =
     let s = drop 4 line in
-    let z = drop-take 4 n line (omega arith) in
+    let z = drop-take 4 n line in
     by-test (begins (text "set ") line)
     (λ t. rw (
       begins-cut (text "set ") line n (omega arith)

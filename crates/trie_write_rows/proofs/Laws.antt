@@ -5,11 +5,12 @@ use mathlib.Core.Bool.{Bool, false, true}
 use mathlib.Core.List.{List, [], _∷_}
 use lib.Dec.{eqb}
 use lib.ListN.{drop, getD, length, length-drop, length-map, take}
-use lib.Seq.{drop-drop, length-slice, slice, slice-cons, slice-empty, take-nil}
+use lib.Seq.{drop-drop, length-slice, slice, slice-cons, slice-empty}
 use native.Mathlib.Numerals.{add-one}
 use native.Mathlib.Omega.{arith}
 use borrow.Author.Tests.{eq-eqb, eqb-false, eqb-true, ne-eqb}
 use Rattle.octets.specs.Octets.{below, common}
+use Rattle.octets.proofs.Lists.{drop-take}
 use Rattle.octets.proofs.Tests.{and-intro}
 use Rattle.entries.specs.Entries.{Entry, at, entry, noEntry, rising}
 use Rattle.entries.specs.Names.{longestName}
@@ -144,12 +145,6 @@ used-not es lo hi d e l k = sym (go (setAt es lo hi d) refl)
     go (x ∷ y ∷ s) q = refl
 
 -- the label of a range, by its first and last row
-drop-take : (d n : ℕ) (l : List ℕ) → drop d (take n l) ≡ take (n - d) (drop d l)
-drop-take zero n l = let q : n - 0 ≡ n = omega arith in rw q
-drop-take (suc d) zero l = let q : 0 - suc d ≡ 0 = omega arith in rw q
-drop-take (suc d) (suc n) [] = sym (take-nil (suc n - suc d))
-drop-take (suc d) (suc n) (x ∷ l) = let q : suc n - suc d ≡ n - d = omega arith in rw q (drop-take d n l)
-
 pub rest-part : (u m sc : List ℕ) → Table u m sc → (p d : ℕ) → p < length m → d ≤ getD m p 0
     → take ((p * longestName + getD m p 0) - (p * longestName + d)) (drop (p * longestName + d) u) ≡ restAt
     (entries u m sc) d p

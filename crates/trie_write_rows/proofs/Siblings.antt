@@ -13,7 +13,7 @@ use Rattle.octets.specs.Octets.{below, common}
 use Rattle.octets.proofs.Lists.{insert-ext, sort-in}
 use Rattle.octets.proofs.Order.{below-asym, below-cases, below-trans}
 use Rattle.octets.proofs.Tests.{and-true, by-test, eqb-self}
-use Rattle.octets.proofs.Coding.{common-most}
+use Rattle.octets.proofs.Coding.{common-most, common-nil}
 use Rattle.entries.specs.Entries.{Entry, rising}
 use Rattle.entries.proofs.Valid.{rising-tail}
 use Rattle.trie.specs.Trie.{byFirst, commonPrefix, highest, labelOf, sameFirst}
@@ -110,10 +110,6 @@ most-trans : (u v w : List ℕ) → AtMost u v → AtMost v w → AtMost u w
 most-trans u v w (inl a) (inl b) = inl (below-trans u v w a b)
 most-trans u v w (inl a) (inr b) = inl (rw b at a)
 most-trans u v w (inr a) b = rw a b
-
-common-nil : (p : List ℕ) → common p [] ≡ 0
-common-nil [] = refl
-common-nil (x ∷ p) = refl
 
 abbrev lcp : List ℕ → List ℕ → List ℕ
 lcp u v = take (common u v) u
