@@ -2,34 +2,19 @@
 use Prim.Native.Nat.{_+_, _-_, _<_, _≤_, suc, zero, ℕ}
 use mathlib.Core.Path.{_∙_, _≡_, ap, refl, sym}
 use mathlib.Core.Bool.{false, true}
-use mathlib.Core.List.{List, [], _++_, _∷_, append-assoc, append-nil}
+use mathlib.Core.List.{List, [], _++_, _∷_, append-nil}
 use lib.ListN.{drop, drop-of-length-le, getD, length, length-append, length-set, length-take, set, take}
-use lib.Seq.{drop-cons, getD-take, length-take-le, take-all, take-append-le, take-suc-set, take-take}
+use lib.Seq.{getD-take, length-take-le, take-all, take-append-le, take-suc-set, take-take}
 use native.Mathlib.Numerals.{add-one}
 use native.Mathlib.Omega.{arith}
 use Rattle.octets.specs.Lists.{_∈_}
-use Rattle.octets.proofs.Lists.{get-in}
+use Rattle.octets.proofs.Lists.{drop-take-cons, drop-take-set, get-in, take-snoc}
 use Rattle.octets.proofs.Tests.{by-test}
 use Rattle.trie_find_queue.specs.Waits.{Queued, nodeOutranks, placeAmong, putAt, putInRank, waits}
 use Rattle.trie_find_queue.specs.declared.NodeQueue.{NodeQueue}
 use Rattle.trie_find_queue.specs.declared.WaitingNode.{WaitingNode}
 
 -- one element of the front of a list
-drop-take-cons : (d : WaitingNode) (l : List WaitingNode) (n i : ℕ) → i < n → n ≤ length l
-    → drop i (take n l) ≡ getD l i d
-    ∷ drop (suc i) (take n l)
-drop-take-cons d l n i h k =
-    let a = length-take-le n l k in
-    drop-cons (take n l) i d (omega arith) ∙ ap (λ (x : WaitingNode). x ∷ drop (suc i) (take n l)) (getD-take n l i d h)
-
-drop-take-set : (l : List WaitingNode) (n i : ℕ) (a : WaitingNode)
-    → drop (suc i) (take n (set l i a)) ≡ drop (suc i) (take n l)
-drop-take-set [] zero i a = refl
-drop-take-set [] (suc n) i a = refl
-drop-take-set (x ∷ l) zero i a = refl
-drop-take-set (x ∷ l) (suc n) zero a = refl
-drop-take-set (x ∷ l) (suc n) (suc i) a = drop-take-set l n i a
-
 pub in-front : (d : WaitingNode) (l : List WaitingNode) (n i : ℕ) → i < n → n ≤ length l → getD l i d ∈ take n l
 in-front d l n i h k =
     let a = length-take-le n l k in
@@ -103,11 +88,6 @@ moving-start q i x h l =
       rest = ap (λ f. f
           ++ (x ∷ drop i (waits q))) (sym (take-take i (q .count) (q .nodes) h));
     }
-
-take-snoc : (l : List WaitingNode) (i : ℕ) (a : WaitingNode) (ys : List WaitingNode) → i < length l
-    → take (suc i) (set l i a)
-    ++ ys ≡ take i l ++ (a ∷ ys)
-take-snoc l i a ys h = rw (take-suc-set l i a h) (append-assoc (take i l) (a ∷ []) ys)
 
 module _ (q : NodeQueue) (i : ℕ) (x : WaitingNode) (nodes : List WaitingNode) (carry d : WaitingNode) (j : ℕ)
     (few : q .count ≤ 16)
