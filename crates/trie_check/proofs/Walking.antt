@@ -15,7 +15,7 @@ use Rattle.trie.specs.Trie.{longestLabel}
 use Rattle.trie_check_laws.specs.Walk.{afterInner, afterNode, andThen, beginGroup, behindGroup, beneath, endAfter}
 use Rattle.trie_check_laws.specs.Walk.{groupEnd, headOf, inNode, inRest, into, nodeOn, nodeThen, noneSeen, reachedBy}
 use Rattle.trie_check_laws.specs.Walk.{scoreOf, stands, walkOf}
-use Rattle.trie_check_laws.proofs.Sound.{end-past}
+use Rattle.trie_check_laws.proofs.Sound.{end-past, no-end}
 use Rattle.trie_check_laws.proofs.Stand.{FieldsStand, stands-true}
 use Rattle.trie_check_fields.specs.Known.{EndIs, EndKnown}
 use Rattle.trie_check_fields.proofs.Heads.{Read}
@@ -174,9 +174,6 @@ module _ (s : List ℕ) (p : Among) (seen : List ℕ) (n : Fields) (r : Read s (
 -- A group. It ends at e, with some number of turns.
 abbrev Stops : List ℕ → ℕ → ℕ → Type 0
 Stops s at e = (m : ℕ) × (groupEnd s m at ≡ some e)
-
-no-end : {e : ℕ} → none ≡ some e → ⊥
-no-end h = let z : _≡_ {A = ℕ} 0 1 = cc in omega arith
 
 told-at : (o : Option ℕ) {e : ℕ} → endedAs o ≡ ended.At e → o ≡ some e
 told-at none h = absurd (let z : _≡_ {A = ℕ} 0 1 = cc in omega arith)

@@ -8,7 +8,7 @@ use mathlib.Core.Option.{Option, none, some}
 use lib.Dec.{eqb, leb}
 use lib.ListN.{drop, length}
 use native.Mathlib.Omega.{arith}
-use borrow.Author.Tests.{eq-eqb, eqb-false, eqb-true, le-leb, leb-true, lt-ltb, ltb-true, ne-eqb}
+use borrow.Author.Tests.{eq-eqb, eqb-false, eqb-true, le-leb, leb-true, ltb-true, ne-eqb}
 use Rattle.octets.specs.Lists.{_∈_}
 use Rattle.octets.specs.Octets.{be, begins, numberAt}
 use Rattle.octets.proofs.Lists.{all-in, all-of}
@@ -17,7 +17,7 @@ use Rattle.octets.proofs.Order.{begins-append, begins-length, begins-split}
 use Rattle.octets.proofs.Tests.{and-intro, and-true, by-test}
 use Rattle.entries.specs.Entries.{Entry, isEntry, maxEntries, valid}
 use Rattle.entries.specs.Names.{allowedBytes, isName, isPrefix, isScore, longestName}
-use Rattle.entries.proofs.Valid.{Valid, valid-intro, valid-of}
+use Rattle.entries.proofs.Valid.{Valid, score-fits, valid-intro, valid-of}
 use Rattle.frame.specs.Frame.{framed, isRead}
 use Rattle.frame_laws.specs.Test.{frameIs}
 use Rattle.frame_laws.proofs.Test.{FrameTests, frame-passes, frame-tests, version-stands, version-there}
@@ -57,10 +57,6 @@ score-of : (v : ℕ) → isScore v ≡ true → v < 2 ^ 32
 unfolding isScore
 score-of v h = ltb-true v (2 ^ 32) h
 
-score-is : (v : ℕ) → v < 2 ^ 32 → isScore v ≡ true
-unfolding isScore
-score-is v h = lt-ltb v (2 ^ 32) h
-
 not-lone : (es : List Entry) → ((e : Entry) → e ∈ es → 1 ≤ length (e .name)) → usedUp 0 es ≡ false
 not-lone [] h = refl
 not-lone (e ∷ []) h = let a = h e (inl refl) in ne-eqb (length (e .name)) 0 (λ z. omega arith)
@@ -90,7 +86,7 @@ suffixes-valid es h few =
     and-intro (isName (e .name)) (isScore (e .score))
     (name-is (e .name)
     (record { allowed = h .allowed e m; short = let a = h .short e m in omega arith; some = h .ends refl e m }))
-    (score-is (e .score) (h .fits e m))))
+    (score-fits (e .score) (h .fits e m))))
     (h .up)
 
 -- the body of an image, and how long it can be

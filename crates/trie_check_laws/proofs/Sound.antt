@@ -431,7 +431,7 @@ module _
 bad-next : {q l : ℕ} → Bad ≡ Next q l → ⊥
 bad-next h = let z : _≡_ {A = ℕ} 0 1 = cc in omega arith
 
-no-end : {a : ℕ} → none ≡ some a → ⊥
+pub no-end : {a : ℕ} → none ≡ some a → ⊥
 no-end h = let z : _≡_ {A = ℕ} 0 1 = cc in omega arith
 
 -- a group ends in one place, past its begin
