@@ -6,8 +6,8 @@ use mathlib.Core.List.{List, [], _++_, _∷_, append-nil}
 use lib.ListN.{length, length-append, length-take}
 use lib.Seq.{length-sets, take-length}
 use native.Mathlib.Omega.{arith}
-use Rattle.octets.specs.Lists.{all}
-use Rattle.octets.proofs.Tests.{and-intro, and-true, by-test}
+use Rattle.octets.proofs.Lists.{append-all}
+use Rattle.octets.proofs.Tests.{and-true, by-test}
 use Rattle.entries.specs.Entries.{Entry, entry, names}
 use Rattle.entries.specs.Names.{isName, longestName}
 use Rattle.entries.proofs.Valid.{length-names, name-length}
@@ -23,13 +23,6 @@ use Rattle.book_laws.specs.declared.Cursor.{Cursor}
 names-append : (es fs : List Entry) → names (es ++ fs) ≡ names es ++ names fs
 names-append [] fs = refl
 names-append (e ∷ es) fs = ap (λ l. e .name ∷ l) (names-append es fs)
-
-all-append : (q : Entry → Bool) (es fs : List Entry) → all q (es ++ fs) ≡ true → (all q es ≡ true) × (all q fs ≡ true)
-all-append q [] fs h = (refl, h)
-all-append q (e ∷ es) fs h =
-    let a = and-true (q e) (all q (es ++ fs)) h in
-    let ih = all-append q es fs (a .1) in
-    (and-intro (q e) (all q es) (a .0) (ih .0), ih .1)
 
 last-append : (prev : List ℕ) (vs ws : List (List ℕ)) → lastOr prev (vs ++ ws) ≡ lastOr (lastOr prev vs) ws
 last-append prev [] ws = refl
@@ -114,7 +107,7 @@ module _ {c : Cursor} {es : List Entry} {r : Cursor} (p : Went c es r) where
         few = f .few;
         low = omega (arith, f .low, p .index, length-append es fs);
         small = p .small;
-        allowed = all-append (λ g. isName (g .name)) es fs (f .allowed) .1;
+        allowed = append-all (λ g. isName (g .name)) es fs (f .allowed) .1;
         near = rw (end-append fs) (f .near);
         enough = λ t. rw (end-append fs, long) (f .enough t);
       }
@@ -160,7 +153,7 @@ fits-first {store} {n} {c} es fs {d} f =
       few = f .few;
       low = omega (arith, f .low, length-append es fs);
       small = f .small;
-      allowed = all-append (λ g. isName (g .name)) es fs (f .allowed) .0;
+      allowed = append-all (λ g. isName (g .name)) es fs (f .allowed) .0;
       near = omega (arith, f .near);
       enough = λ t. omega (arith, f .enough t);
     }

@@ -1,15 +1,14 @@
 -- The place of a key: unique by its neighbours, the position of a name that is held, and the ends of a prefix range.
 use Prim.Native.Nat.{_+_, _-_, _<_, _≤_, suc, zero, ℕ}
-use mathlib.Core.Path.{_∙_, _≡_, ap, refl, sym}
+use mathlib.Core.Path.{_∙_, _≡_, refl, sym}
 use mathlib.Core.Bool.{Bool, false, false≢true, true}
 use mathlib.Core.List.{List, [], _∷_}
 use lib.Dec.{eqb, ltb}
-use lib.ListN.{getD, length}
+use lib.ListN.{length}
 use native.Mathlib.Omega.{arith}
 use borrow.Author.Tests.{eq-eqb, eqb-true, ltb-false, ltb-true}
-use Rattle.octets.specs.Lists.{keep}
 use Rattle.octets.specs.Octets.{begins, below, same}
-use Rattle.octets.proofs.Lists.{get-in, keep-length}
+use Rattle.octets.proofs.Lists.{get-in, keep-first, keep-length}
 use Rattle.octets.proofs.Order.{begins-between, begins-self, below-irrefl, below-total, below-trans, same-eq, same-refl}
 use Rattle.octets.proofs.Tests.{and-true, by-test}
 use Rattle.entries.specs.Completion.{begun, firstMatch, matches}
@@ -38,21 +37,6 @@ before-lower past key e f h b =
     (λ u.
     let c = and-true past (begins key (f .name)) (rw u at b) in
     rw (t, c .0) (before-begun key (e .name) (f .name) h (c .1) t)))
-
--- the first r elements pass a test and the others do not
-keep-first :
-    {A : Type 0} (p : A → Bool) (d : A) (xs : List A) (r : ℕ) → r ≤ length xs
-    → ((i : ℕ) → i < r → p (getD xs i d) ≡ true) → ((i : ℕ) → r ≤ i → i < length xs → p (getD xs i d) ≡ false)
-    → length (keep p xs) ≡ r
-keep-first p d [] r h first rest = omega arith
-keep-first p d (x ∷ xs) zero h first rest =
-    rw (rest 0 (omega arith) (omega arith))
-    (keep-first p d xs zero (omega arith) (λ i l. absurd (omega arith))
-    (λ i l m. rest (suc i) (omega arith) (omega arith)))
-keep-first p d (x ∷ xs) (suc r) h first rest =
-    rw (first 0 (omega arith))
-    (ap suc (keep-first p d xs r (omega arith) (λ i l. first (suc i) (omega arith))
-    (λ i l m. rest (suc i) (omega arith) (omega arith))))
 
 -- the place is known by the entries on both sides of it
 module _ (past : Bool) (key : List ℕ) (es : List Entry) (r : rising es ≡ true) where

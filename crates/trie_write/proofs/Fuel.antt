@@ -1,13 +1,14 @@
 -- The group of a set does not depend on how many levels are allowed, where these are enough.
 use Prim.Native.Nat.{_-_, _<_, _≤_, suc, zero, ℕ}
 use mathlib.Core.Path.{_≡_, ap, refl}
-use mathlib.Core.Logic.{inl, inr}
+use mathlib.Core.Logic.{inl}
 use mathlib.Core.Bool.{Bool, false, true}
-use mathlib.Core.List.{List, [], _∷_, map}
+use mathlib.Core.List.{List, [], _∷_}
 use lib.ListN.{length}
 use native.Mathlib.Nat.{not-suc-le-zero}
 use native.Mathlib.Omega.{arith}
 use Rattle.octets.specs.Lists.{_∈_, sortBy}
+use Rattle.octets.proofs.Lists.{map-ext}
 use Rattle.entries.specs.Completion.{different}
 use Rattle.entries.specs.Entries.{Entry}
 use Rattle.trie.specs.Trie.{Node, byFirst, groupBytes, groupOf, highest, labelOf, nodeOf, remains, standsBefore, usedUp}
@@ -53,10 +54,6 @@ node-ext a b s h = go (usedUp (length (labelOf s)) s) h
         })
     go true k = refl
     go false k = ap (λ (x : List ℕ). record { label = labelOf s; score = highest s; under = x }) (k refl)
-
-map-ext : {A B : Type 0} (f g : A → B) (xs : List A) → ((x : A) → x ∈ xs → f x ≡ g x) → map f xs ≡ map g xs
-map-ext f g [] h = refl
-map-ext f g (x ∷ xs) h = let a = h x (inl refl) in let b = map-ext f g xs (λ y m. h y (inr m)) in cc
 
 none-short : (es : List Entry) → 0 < length es → Enough 0 es → ⊥
 none-short [] n h = not-suc-le-zero n

@@ -81,9 +81,6 @@ siblings-shown names d f (x ∷ xs) (r ∷ rs) a =
       last-same names d xs rs (a .1),
     )
 
-unders : List Node → List ℕ
-unders xs = concatMap (λ (x : Node). x .under) xs
-
 group-shown : (names : List ℕ) (d s : ℕ) (xs : List Node) (rs : List Run) → AllShow names d xs rs
     → Each (RunFits (length names) d) rs → groupBytes s xs ≡ groupOwnBytes names d s rs
     ++ concatMap (λ (x : Node). x .under) xs
