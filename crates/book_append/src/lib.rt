@@ -8,8 +8,8 @@ ghost use Rattle.entries.specs.Names.{longestName};
 ghost use Rattle.book_laws.specs.Cursor.{cursorOf};
 ghost use Rattle.book_append.specs.Append.{AppendDone, Fits, cursorBehind};
 
-// Where an entry is put: as the one at position `index` of a book of n, its record at offset `at`. Without `store` it is
-// only measured.
+// Where an entry is put: as the one at position `index` of a book of n, its record at offset `at`. Without `store` it
+// is only measured.
 pub struct EntryTarget {
     pub n: usize,
     pub index: usize,

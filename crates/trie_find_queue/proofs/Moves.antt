@@ -1,4 +1,4 @@
--- Nodes put in their place in a queue: the place, the nodes behind it moved on by one, the last dropped.
+-- Nodes put into a queue by rank: the index, the nodes behind it moved on by one, the last dropped.
 use Prim.Native.Nat.{_+_, _-_, _<_, _≤_, suc, zero, ℕ}
 use mathlib.Core.Path.{_∙_, _≡_, ap, refl, sym}
 use mathlib.Core.Bool.{false, true}
@@ -10,7 +10,7 @@ use native.Mathlib.Omega.{arith}
 use Rattle.octets.specs.Lists.{_∈_}
 use Rattle.octets.proofs.Lists.{drop-take-cons, drop-take-set, get-in, take-snoc}
 use Rattle.octets.proofs.Tests.{by-test}
-use Rattle.trie_find_queue.specs.Waits.{Queued, nodeOutranks, placeAmong, putAt, putInRank, waits}
+use Rattle.trie_find_queue.specs.Waits.{Queued, nodeOutranks, rankAmong, putAt, putInRank, waits}
 use Rattle.trie_find_queue.specs.declared.NodeQueue.{NodeQueue}
 use Rattle.trie_find_queue.specs.declared.WaitingNode.{WaitingNode}
 
@@ -20,20 +20,20 @@ in-front d l n i h k =
     let a = length-take-le n l k in
     rw (getD-take n l i d h) at (get-in d (take n l) i (omega arith))
 
--- the place of x among the first `count`, counted up to i
+-- how many of the first `count` come before x, counted up to i
 pub record Placing (x : WaitingNode) (nodes : List WaitingNode) (count i : ℕ) : Type 0 where
   pub upto : i ≤ count
-  pub rest : i + placeAmong x (drop i (take count nodes)) ≡ placeAmong x (take count nodes)
+  pub rest : i + rankAmong x (drop i (take count nodes)) ≡ rankAmong x (take count nodes)
 
 pub placing-start : (x : WaitingNode) (nodes : List WaitingNode) (count : ℕ) → Placing x nodes count 0
 placing-start x nodes count = record { upto = omega arith; rest = omega arith }
 
-place-before : (x y : WaitingNode) (ys : List WaitingNode) → nodeOutranks y x ≡ true
-    → placeAmong x (y ∷ ys) ≡ suc (placeAmong x ys)
-place-before x y ys t = rw t
+rank-before : (x y : WaitingNode) (ys : List WaitingNode) → nodeOutranks y x ≡ true
+    → rankAmong x (y ∷ ys) ≡ suc (rankAmong x ys)
+rank-before x y ys t = rw t
 
-place-here : (x y : WaitingNode) (ys : List WaitingNode) → nodeOutranks y x ≡ false → placeAmong x (y ∷ ys) ≡ 0
-place-here x y ys t = rw t
+rank-here : (x y : WaitingNode) (ys : List WaitingNode) → nodeOutranks y x ≡ false → rankAmong x (y ∷ ys) ≡ 0
+rank-here x y ys t = rw t
 
 module _ (x : WaitingNode) (nodes : List WaitingNode) (count : ℕ) (d : WaitingNode) (i : ℕ)
     (long : count ≤ length nodes)
@@ -41,36 +41,36 @@ module _ (x : WaitingNode) (nodes : List WaitingNode) (count : ℕ) (d : Waiting
   pub placing-on : i < count → nodeOutranks (getD nodes i d) x ≡ true → Placing x nodes count (i + 1)
   placing-on h t =
       let r = v .rest in
-      let a = ap (placeAmong x) (drop-take-cons d nodes count i h long) in
-      let b = place-before x (getD nodes i d) (drop (suc i) (take count nodes)) t in
+      let a = ap (rankAmong x) (drop-take-cons d nodes count i h long) in
+      let b = rank-before x (getD nodes i d) (drop (suc i) (take count nodes)) t in
       record { upto = omega arith; rest = rw (add-one i) (omega arith) }
 
-  pub placing-found : i < count → nodeOutranks (getD nodes i d) x ≡ false → i ≡ placeAmong x (take count nodes)
+  pub placing-found : i < count → nodeOutranks (getD nodes i d) x ≡ false → i ≡ rankAmong x (take count nodes)
   placing-found h t =
       let r = v .rest in
-      let a = ap (placeAmong x) (drop-take-cons d nodes count i h long) in
-      let b = place-here x (getD nodes i d) (drop (suc i) (take count nodes)) t in
+      let a = ap (rankAmong x) (drop-take-cons d nodes count i h long) in
+      let b = rank-here x (getD nodes i d) (drop (suc i) (take count nodes)) t in
       omega arith
 
-  pub placing-end : count ≤ i → i ≡ placeAmong x (take count nodes)
+  pub placing-end : count ≤ i → i ≡ rankAmong x (take count nodes)
   placing-end h =
       let r = v .rest in
       let n = length-take-le count nodes long in
       let past : length (take count nodes) ≤ i = omega arith in
-      let a = ap (placeAmong x) (drop-of-length-le (take count nodes) past) in
+      let a = ap (rankAmong x) (drop-of-length-le (take count nodes) past) in
       omega arith
 
-pub place-most : (x : WaitingNode) (ws : List WaitingNode) → placeAmong x ws ≤ length ws
-place-most x [] = omega arith
-place-most x (y ∷ ys) = let ih = place-most x ys in
+pub rank-most : (x : WaitingNode) (ws : List WaitingNode) → rankAmong x ws ≤ length ws
+rank-most x [] = omega arith
+rank-most x (y ∷ ys) = let ih = rank-most x ys in
     by-test (nodeOutranks y x) (λ t. rw t (omega arith)) (λ t. rw t (omega arith))
 
-pub put-place : (x : WaitingNode) (ws : List WaitingNode) → putAt (placeAmong x ws) x ws ≡ putInRank x ws
-put-place x [] = refl
-put-place x (y ∷ ys) = let ih = put-place x ys in
+pub put-rank : (x : WaitingNode) (ws : List WaitingNode) → putAt (rankAmong x ws) x ws ≡ putInRank x ws
+put-rank x [] = refl
+put-rank x (y ∷ ys) = let ih = put-rank x ys in
     by-test (nodeOutranks y x) (λ t. rw t (ap (λ l. y ∷ l) ih)) (λ t. rw t)
 
--- the nodes from place i on moved on by one, up to j
+-- the nodes from index i on moved on by one, up to j
 pub record Moving (q : NodeQueue) (i : ℕ) (x : WaitingNode) (nodes : List WaitingNode) (carry : WaitingNode) (j : ℕ) :
     Type 0 where
   pub low : i ≤ j

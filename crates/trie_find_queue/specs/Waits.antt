@@ -41,9 +41,9 @@ pub record QueueReady (q : NodeQueue) : Type 0 where
   pub short : Short (waits q)
 
 -- how many, from the front, come before x
-abbrev pub placeAmong : WaitingNode → List WaitingNode → ℕ
-placeAmong x [] = 0
-placeAmong x (y ∷ ys) = if nodeOutranks y x then suc (placeAmong x ys) else 0
+abbrev pub rankAmong : WaitingNode → List WaitingNode → ℕ
+rankAmong x [] = 0
+rankAmong x (y ∷ ys) = if nodeOutranks y x then suc (rankAmong x ys) else 0
 
 abbrev pub putAt : ℕ → WaitingNode → List WaitingNode → List WaitingNode
 putAt i x ws = take i ws ++ (x ∷ drop i ws)

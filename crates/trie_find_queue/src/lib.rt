@@ -6,7 +6,7 @@ ghost use Prim.Native.Nat.{_-_, _<_, _≤_};
 ghost use lib.ListN.{drop};
 ghost use Rattle.entries.specs.Completion.{maxCount};
 ghost use Rattle.entries.specs.Names.{longestName};
-ghost use Rattle.trie_find_queue.specs.Waits.{QueueReady, Queued, nodeOutranks, placeAmong, putAt, putInRank};
+ghost use Rattle.trie_find_queue.specs.Waits.{QueueReady, Queued, nodeOutranks, rankAmong, putAt, putInRank};
 ghost use Rattle.trie_find_queue.specs.Waits.{waits};
 
 // A node that waits: the path down to it with its own label, and its score; where it stands in the trie; from where its
@@ -39,9 +39,9 @@ fn node_outranks(a: WaitingNode, b: WaitingNode) -> bool
 }
 
 // How many nodes come before x.
-fn place_of(q: NodeQueue, x: WaitingNode) -> usize
+fn rank_among(q: NodeQueue, x: WaitingNode) -> usize
     requires { ⌜ QueueReady q × (x .len ≤ longestName) ⌝ }
-    ensures { λ r. ⌜ r ≡ placeAmong x (waits q) ⌝ }
+    ensures { λ r. ⌜ r ≡ rankAmong x (waits q) ⌝ }
 {
     let nodes = q.nodes;
     let count = q.count;
@@ -56,7 +56,7 @@ fn place_of(q: NodeQueue, x: WaitingNode) -> usize
     i
 }
 
-// Puts x at place i; if there are then more than `most`, the last is dropped.
+// Puts x at index i; if there are then more than `most`, the last is dropped.
 fn put_at(q: NodeQueue, i: usize, x: WaitingNode, most: usize) -> NodeQueue
     requires { ⌜ (i ≤ q .count) × (q .count ≤ most) × (most ≤ maxCount) ⌝ }
     ensures { λ r. ⌜ Queued most (putAt i x (waits q)) r ⌝ }
@@ -89,7 +89,7 @@ pub fn put(q: NodeQueue, x: WaitingNode, most: usize) -> NodeQueue
     requires { ⌜ QueueReady q × (x .len ≤ longestName) × (q .count ≤ most) × (most ≤ maxCount) ⌝ }
     ensures { λ r. ⌜ Queued most (putInRank x (waits q)) r ⌝ }
 {
-    let i = place_of(q, x);
+    let i = rank_among(q, x);
     put_at(q, i, x, most)
 }
 

@@ -150,6 +150,7 @@ module _
           }
 
 -- the same entries are answered alike
-pub answered-same : {es fs : List Entry} {dst : List ℕ} {r : TrieRoom} {out : List ℕ} → es ≡ fs → TrieWritten es dst r out
+pub answered-same : {es fs : List Entry} {dst : List ℕ} {r : TrieRoom} {out : List ℕ} → es ≡ fs
+    → TrieWritten es dst r out
     → TrieWritten fs dst r out
 answered-same e a = record { answer = rw (← e) (a .answer); left = rw (← e) (a .left) }

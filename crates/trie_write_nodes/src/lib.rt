@@ -12,8 +12,8 @@ ghost use Rattle.trie_write_runs.specs.Runs.{RunsKept, firstRuns};
 ghost use Rattle.trie_write_nodes.specs.Nodes.{AllFit, Finished, Finishing, Measurable, OneFits, nodesBytes};
 ghost use Rattle.trie_write_nodes.specs.Nodes.{nodesLength, oneNode};
 
-// Where nodes are put: in front of the `back` bytes that end the first `total` of a destination; without `store` they are
-// only measured.
+// Where nodes are put: in front of the `back` bytes that end the first `total` of a destination. Without `store` they
+// are only measured.
 pub struct Target {
     pub total: usize,
     pub back: usize,
@@ -105,7 +105,8 @@ pub fn finish(
     to: Target,
 ) -> usize
     requires { ⌜ RunsKept (now runs) count
-        × Finishing (now names) d (firstRuns (now runs) count) s (length (now dst)) (to .total) (to .back) (to .store) ⌝ }
+        × Finishing (now names) d (firstRuns (now runs) count) s (length (now dst)) (to .total) (to .back)
+        (to .store) ⌝ }
     ensures { λ r. ⌜ Finished (now (names .entry)) d (firstRuns (now (runs .entry)) count) s (now (dst .entry))
         (now (dst .exit)) (to .total) (to .back) (to .store) r ⌝ }
 {

@@ -24,7 +24,8 @@ Inv-loop book end dst₀ n store i₀ at₀ name₀ index₀ to-at₀ prev₀ pr
     × (length prev ≡ longestName)
 
 abbrev μ-loop : tie.MeasureT-loop
-μ-loop book end dst₀ n store i₀ at₀ name₀ index₀ to-at₀ prev₀ prev-len₀ dst i at name index to-at prev prev-len = end - i
+μ-loop book end dst₀ n store i₀ at₀ name₀ index₀ to-at₀ prev₀ prev-len₀ dst i at name index to-at prev prev-len = end -
+    i
 
 -- places that the proofs below look back to
 abbrev begin : tie.After-prev Inv-loop μ-loop → tie.Start Inv-loop μ-loop

@@ -1,4 +1,4 @@
--- `trie_find_queue::put_at` meets its contract: from place i on each node takes the place of the next; what is carried
+-- `trie_find_queue::put_at` meets its contract: from index i on each node takes the place of the next; what is carried
 -- at the end is put behind the last if there is room. Invariant: the nodes up to j, the one carried, and the nodes from
 -- j on are the list with x put in. The nodes left fall. Assumes nothing.
 use Prim.Native.Nat.{_-_, _≤_}

@@ -1,5 +1,5 @@
--- `trie_find_queue::place_of` meets its contract: the nodes in front of x are counted until one does not come before
--- it. Invariant: the count so far and the place among the nodes that are left make the place. The nodes left fall.
+-- `trie_find_queue::rank_among` meets its contract: the nodes in front of x are counted until one does not come before
+-- it. Invariant: the count so far and the rank among the nodes that are left make the rank. The nodes left fall.
 -- Assumes nothing.
 use Prim.Native.Nat.{_-_, _≤_}
 use mathlib.Core.Path.{_∙_, _≡_, sym}
@@ -7,8 +7,8 @@ use lib.ListN.{length}
 use native.Mathlib.Omega.{arith}
 use borrow.Author.Needs.{needs}
 use borrow.Author.Tests.{not-false, not-true}
-use Rattle.trie_find_queue.proofs.place_of.Statement.{statement}
-use Rattle.trie_find_queue.proofs.place_of.Tie as tie
+use Rattle.trie_find_queue.proofs.rank_among.Statement.{statement}
+use Rattle.trie_find_queue.proofs.rank_among.Tie as tie
 use Rattle.trie_find_queue.specs.Waits.{nowhere}
 use Rattle.trie_find_queue.proofs.Moves.{Placing, in-front, placing-end, placing-found, placing-on}
 use Rattle.trie_find_queue.proofs.Moves.{placing-start}
@@ -88,8 +88,8 @@ returns-2 c =
     placing-end (z .args .x) (z .args .q .nodes) (z .args .q .count) nowhere (c .before .loop .i) (room z)
     (c .before .loop .inv) (c .loop-test .left)
 
-pub place-of-spec : {M : Type 1} → statement M
-place-of-spec =
+pub rank-among-spec : {M : Type 1} → statement M
+rank-among-spec =
     tie.close
     (tie.spec Inv-loop μ-loop loop-holds mul-y array-copy-out-y node-outranks-requires returns add-i loop-less
     loop-again
