@@ -114,22 +114,15 @@ pub fn write_u16(dst: &mut [u8], at: usize, v: u16)
     copy(dst, at, &bytes);
 }
 
-// The last 4 bytes of a number, the high one first.
-pub fn be_bytes(v: usize) -> [u8; 4]
-    ensures { λ r. ⌜ r ≡ be 4 v ⌝ }
-{
-    [
-        (v / 16777216 % 256) as u8,
-        (v / 65536 % 256) as u8,
-        (v / 256 % 256) as u8,
-        (v % 256) as u8,
-    ]
-}
-
 // Stores v as 4 bytes from index at.
 pub fn write_u32(dst: &mut [u8], at: usize, v: u32)
     ensures { λ _. ⌜ now (dst .exit) ≡ sets (now (dst .entry)) at (be 4 v) ⌝ }
 {
-    let bytes = be_bytes(v as usize);
+    let bytes = [
+        (v / 16777216 % 256) as u8,
+        (v / 65536 % 256) as u8,
+        (v / 256 % 256) as u8,
+        (v % 256) as u8,
+    ];
     copy(dst, at, &bytes);
 }

@@ -1,11 +1,12 @@
 -- The bytes of one node: its fields as bytes, its label, its length, and the stores that put it.
-use Prim.Native.Nat.{_*_, _+_, _-_, _≤_, suc, zero, ℕ}
+use Prim.Native.Nat.{_%_, _*_, _+_, _-_, _/_, _≤_, suc, zero, ℕ}
 use mathlib.Core.Path.{_∙_, _≡_, refl}
 use mathlib.Core.Bool.{Bool}
-use mathlib.Core.List.{List, [], _++_}
+use mathlib.Core.List.{List, [], _++_, _∷_}
 use lib.ListN.{drop, length, length-append, length-drop, length-take, set, take}
 use lib.Seq.{sets}
 use native.Mathlib.Numerals.{add-one}
+use native.Mathlib.Nat.{div-one}
 use native.Mathlib.Omega.{arith}
 use Rattle.octets.specs.Octets.{be}
 use Rattle.octets.proofs.Coding.{length-be}
@@ -20,13 +21,13 @@ use Rattle.trie_write_nodes.specs.Nodes.{RunFits, oneNode, runLabel}
 -- the last k of a number's 4 bytes
 pub be-part :
     (k v : ℕ) → k ≤ 4
-    → take (4 - (4 - k)) (drop (4 - k) (be 4 v)) ≡ be k v
+    → take (4 - (4 - k)) (drop (4 - k) (v / 16777216 % 256 ∷ v / 65536 % 256 ∷ v / 256 % 256 ∷ v % 256 ∷ [])) ≡ be k v
 unfolding be
 be-part zero v h = refl
-be-part (suc zero) v h = refl
-be-part (suc (suc zero)) v h = refl
-be-part (suc (suc (suc zero))) v h = refl
-be-part (suc (suc (suc (suc zero)))) v h = refl
+be-part (suc zero) v h = rw div-one
+be-part (suc (suc zero)) v h = rw div-one
+be-part (suc (suc (suc zero))) v h = rw div-one
+be-part (suc (suc (suc (suc zero)))) v h = rw div-one
 be-part (suc (suc (suc (suc (suc k))))) v h = absurd (omega arith)
 
 -- the label, as the code takes it from the rows

@@ -44,7 +44,12 @@ fn put_be(dst: &mut [u8], at: usize, k: usize, v: usize)
     requires { ⌜ k ≤ 4 ⌝ }
     ensures { λ _. ⌜ now (dst .exit) ≡ sets (now (dst .entry)) at (be k v) ⌝ }
 {
-    let bytes = octets_code::be_bytes(v);
+    let bytes = [
+        (v / 16777216 % 256) as u8,
+        (v / 65536 % 256) as u8,
+        (v / 256 % 256) as u8,
+        (v % 256) as u8,
+    ];
     octets_code::copy(dst, at, &bytes[4 - k..]);
 }
 

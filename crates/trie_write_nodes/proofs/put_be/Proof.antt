@@ -1,20 +1,28 @@
 -- `trie_write_nodes::put_be` meets its contract: the last k of the number's 4 bytes are stored.
 -- No loop, so no invariant. Assumes nothing.
-use Prim.Native.Nat.{_-_}
 use mathlib.Core.Path.{_∙_, ap}
-use lib.ListN.{drop, take}
 use lib.Seq.{sets}
+use native.Mathlib.Omega.{arith}
 use borrow.Author.Needs.{needs}
 use Rattle.trie_write_nodes.proofs.Bytes.{be-part}
 use Rattle.trie_write_nodes.proofs.put_be.Statement.{statement}
 use Rattle.trie_write_nodes.proofs.put_be.Tie as tie
 
 -- places that the proofs below look back to
-abbrev after-be-bytes : tie.After-copy → tie.After-be-bytes
-after-be-bytes c = c .before .before .before .before
+abbrev begin : tie.After-slice-known2 → tie.Start
+begin c = c .before .before .before .before .before .before .before
 
-be-bytes-requires : tie.Need-be-bytes-requires
-be-bytes-requires c κs = tt
+cast-t8 : tie.Need-cast-t8
+cast-t8 c = omega arith
+
+cast-t11 : tie.Need-cast-t11
+cast-t11 c = omega arith
+
+cast-t14 : tie.Need-cast-t14
+cast-t14 c = omega arith
+
+cast-t16 : tie.Need-cast-t16
+cast-t16 c = omega arith
 
 sub-copy : tie.Need-sub-copy
 sub-copy c = search needs
@@ -35,20 +43,17 @@ same-length : tie.Need-same-length
 same-length c = search needs
 
 returns : tie.Need-returns
-returns c =
-    let p = c .before .before in
-    let b = after-be-bytes p in
-    let s = b .before .before in
-    p .copy .ensures
-    ∙ ap (sets _ _)
-    (ap (λ bs. take (4 - (4 - s .args .k)) (drop (4 - s .args .k) bs)) (b .be-bytes .ensures)
-    ∙ be-part (s .args .k) (s .args .v) (s .pre))
+returns c = let s = begin c in c .before .before .copy .ensures
+    ∙ ap (sets _ _) (be-part (s .args .k) (s .args .v) (s .pre))
 
 pub put-be-spec : {M : Type 1} → statement M
 put-be-spec =
     tie.close
     (tie.spec
-    be-bytes-requires
+    cast-t8
+    cast-t11
+    cast-t14
+    cast-t16
     sub-copy
     sub-copy-2
     part-copy-start
