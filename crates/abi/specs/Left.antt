@@ -10,7 +10,8 @@ use Rattle.completion.specs.Complete.{Lent}
 use Rattle.completion.specs.declared.Range.{Range}
 use Rattle.panel.specs.Panel.{AfterKey}
 use Rattle.panel.specs.declared.Panel.{Panel}
-use Rattle.abi.specs.Told.{OfferedTold, RowsTold, WrittenTold}
+use Rattle.script.specs.Run.{Finish}
+use Rattle.abi.specs.Told.{OfferedTold, PlayedTold, RowsTold, WrittenTold}
 
 -- a call that writes: its counts, and the destination that it leaves
 pub record Left (o : Outcome WrittenCounts) (r e b : ℕ) (dst : List ℕ) : Type 0 where
@@ -31,6 +32,11 @@ pub record OfferedOver (o : Outcome OfferedCounts) (r n b l : ℕ) (dst : List �
 pub record PanelLeft (o : AfterKey) (r k : ℕ) (panel : Panel) : Type 0 where
   pub told : RowsTold (o .answer) r k
   pub leaves : panel ≡ o .panel
+
+-- the run of a history: its two buffers, and the answers
+pub record RunLeft (f : Finish) (r n t : ℕ) (first second out : List ℕ) : Type 0 where
+  pub told : PlayedTold (f .answer) r n t
+  pub leaves : (first ≡ f .first) × (second ≡ f .second) × (out ≡ f .out)
 
 -- where its head name begins: behind the length byte at the bucket's offset
 abbrev pub headAt : List ℕ → ℕ → ℕ

@@ -2,10 +2,11 @@
 use Prim.Native.Nat.{ℕ}
 use mathlib.Core.Path.{_≡_}
 use mathlib.Core.Option.{Option, none, some}
-use Rattle.answer.specs.Answers.{Answer, FoundCounts, OfferedCounts, SpanCounts, WrittenCounts, counts, noneFound}
-use Rattle.answer.specs.Answers.{noneOffered, noneSpan, noneWritten, number}
+use Rattle.octets.specs.Lists.{if_then_else_}
+use Rattle.answer.specs.Answers.{Answer, FoundCounts, OfferedCounts, PlayedCounts, SpanCounts, WrittenCounts, counts}
+use Rattle.answer.specs.Answers.{noneFound, noneOffered, nonePlayed, noneSpan, noneWritten, number}
 
--- of a call that writes: the entries and bytes
+-- of a call that writes, and of the check: the entries and bytes
 pub record WrittenTold (a : Answer WrittenCounts) (r e b : ℕ) : Type 0 where
   pub returned : r ≡ number a
   pub entries : e ≡ counts noneWritten a .entries
@@ -43,3 +44,9 @@ pub record SpanTold (a : Answer SpanCounts) (r i k : ℕ) : Type 0 where
   pub returned : r ≡ number a
   pub first : i ≡ counts noneSpan a .first
   pub count : k ≡ counts noneSpan a .count
+
+-- of the run of a history: the calls made, and whether the second buffer holds the book, 1 or 0
+pub record PlayedTold (a : Answer PlayedCounts) (r n t : ℕ) : Type 0 where
+  pub returned : r ≡ number a
+  pub calls : n ≡ counts nonePlayed a .calls
+  pub turned : t ≡ (if counts nonePlayed a .turned then 1 else 0)

@@ -1,12 +1,14 @@
 // What a call answered, told to C: each function returns 0 or the refusal's number and puts the counts into the
 // caller's out values, all of them 0 with a refusal.
+use answer::Checked;
 use answer::Completion;
 use answer::Found;
+use answer::Played;
 use answer::Pressed;
 use answer::Span;
 use answer::Written;
-ghost use Rattle.answer.specs.Reports.{foundOf, offeredOf, pressedOf, spanOf, writtenOf};
-ghost use Rattle.abi.specs.Told.{FoundTold, OfferedTold, RowsTold, SpanTold, WrittenTold};
+ghost use Rattle.answer.specs.Reports.{checkedOf, foundOf, offeredOf, playedOf, pressedOf, spanOf, writtenOf};
+ghost use Rattle.abi.specs.Told.{FoundTold, OfferedTold, PlayedTold, RowsTold, SpanTold, WrittenTold};
 
 // Tells what was written.
 pub fn tell_written(w: Written, entries: &mut usize, bytes: &mut usize) -> u8
@@ -17,6 +19,25 @@ pub fn tell_written(w: Written, entries: &mut usize, bytes: &mut usize) -> u8
     match w {
         Written::Refused(n) => n,
         Written::Wrote {
+            entries: e,
+            bytes: b,
+        } => {
+            *entries = e;
+            *bytes = b;
+            0
+        }
+    }
+}
+
+// Tells what was checked.
+pub fn tell_checked(w: Checked, entries: &mut usize, bytes: &mut usize) -> u8
+    ensures { λ r. ⌜ WrittenTold (checkedOf w) r (now (entries .exit)) (now (bytes .exit)) ⌝ }
+{
+    *entries = 0;
+    *bytes = 0;
+    match w {
+        Checked::Refused(n) => n,
+        Checked::Holds {
             entries: e,
             bytes: b,
         } => {
@@ -96,6 +117,27 @@ pub fn tell_span(w: Span, first: &mut usize, count: &mut usize) -> u8
         Span::Range { first: i, count: k } => {
             *first = i;
             *count = k;
+            0
+        }
+    }
+}
+
+// Tells what a history's run made.
+pub fn tell_played(w: Played, calls: &mut usize, turned: &mut usize) -> u8
+    ensures { λ r. ⌜ PlayedTold (playedOf w) r (now (calls .exit)) (now (turned .exit)) ⌝ }
+{
+    *calls = 0;
+    *turned = 0;
+    match w {
+        Played::Refused(n) => n,
+        Played::Done {
+            calls: n,
+            turned: t,
+        } => {
+            *calls = n;
+            if t {
+                *turned = 1;
+            }
             0
         }
     }

@@ -1,6 +1,6 @@
 -- Answers and refusals (document 01, "When a call declines"), and the bytes of one answer entry.
 use Prim.Native.Nat.{ℕ}
-use mathlib.Core.Bool.{Bool, not}
+use mathlib.Core.Bool.{Bool, false, not}
 use mathlib.Core.List.{List, [], _++_, _∷_}
 use mathlib.Core.Option.{Option}
 use lib.Dec.{ltb}
@@ -25,7 +25,8 @@ abbrev pub counts : {A : Type 0} → A → Answer A → A
 counts zeros (refused n) = zeros
 counts zeros (given a) = a
 
--- what a call that writes a book, a trie, a sheet or an entry reports: the entries in it and its bytes
+-- what a call that writes a book, a trie, a sheet or an entry reports: the entries in it and its bytes; the check
+-- reports the same of the book that it was given
 pub record WrittenCounts : Type 0 where
   pub entries : ℕ
   pub bytes : ℕ
@@ -46,6 +47,11 @@ pub record SpanCounts : Type 0 where
   pub first : ℕ
   pub count : ℕ
 
+-- what the run of a history reports: the calls made, and whether the second buffer holds the book
+pub record PlayedCounts : Type 0 where
+  pub calls : ℕ
+  pub turned : Bool
+
 -- a refusal's counts are all 0
 abbrev pub noneWritten : WrittenCounts
 noneWritten = record { entries = 0; bytes = 0 }
@@ -58,6 +64,9 @@ noneFound = record { position = 0; score = 0 }
 
 abbrev pub noneSpan : SpanCounts
 noneSpan = record { first = 0; count = 0 }
+
+abbrev pub nonePlayed : PlayedCounts
+nonePlayed = record { calls = 0; turned = false }
 
 -- A check: a cause of refusal, and its number.
 pub record Check : Type 0 where

@@ -3,8 +3,8 @@ use Prim.Native.Nat.{ℕ}
 use mathlib.Core.Path.{_≡_}
 use mathlib.Core.List.{List}
 use mathlib.Core.Option.{Option, none, some}
-use Rattle.answer.specs.Answers.{Answer, FoundCounts, OfferedCounts, Outcome, SpanCounts, WrittenCounts, given}
-use Rattle.answer.specs.Answers.{refused}
+use Rattle.answer.specs.Answers.{Answer, FoundCounts, OfferedCounts, Outcome, PlayedCounts, SpanCounts}
+use Rattle.answer.specs.Answers.{WrittenCounts, given, refused}
 use Rattle.answer.specs.declared.Checked.{Checked}
 use Rattle.answer.specs.declared.Checked.the-variants as checked
 use Rattle.answer.specs.declared.Completion.{Completion}
@@ -13,6 +13,8 @@ use Rattle.answer.specs.declared.Found.{Found}
 use Rattle.answer.specs.declared.Found.the-variants as found
 use Rattle.answer.specs.declared.HeadLength.{HeadLength}
 use Rattle.answer.specs.declared.HeadLength.the-variants as head-length
+use Rattle.answer.specs.declared.Played.{Played}
+use Rattle.answer.specs.declared.Played.the-variants as played
 use Rattle.answer.specs.declared.Pressed.{Pressed}
 use Rattle.answer.specs.declared.Pressed.the-variants as pressed
 use Rattle.answer.specs.declared.Span.{Span}
@@ -41,10 +43,10 @@ abbrev pub spanOf : Span → Answer SpanCounts
 spanOf (span.Refused n) = refused n
 spanOf (span.Range i k) = given (record { first = i; count = k })
 
--- the check of a book: how many entries it has
-abbrev pub checkedOf : Checked → Answer ℕ
+-- the check of a book: how many entries it has, and how many bytes its image
+abbrev pub checkedOf : Checked → Answer WrittenCounts
 checkedOf (checked.Refused n) = refused n
-checkedOf (checked.Entries k) = given k
+checkedOf (checked.Holds e b) = given (record { entries = e; bytes = b })
 
 -- the companion of the head name: the name's length
 abbrev pub lengthOf : HeadLength → Answer ℕ
@@ -60,3 +62,8 @@ offeredOf (completion.Offered n b l) = given (record { offered = n; bytes = b; l
 abbrev pub pressedOf : Pressed → Answer ℕ
 pressedOf (pressed.Refused n) = refused n
 pressedOf (pressed.Rows k) = given k
+
+-- the run of a history: the calls made, and whether the second buffer holds the book
+abbrev pub playedOf : Played → Answer PlayedCounts
+playedOf (played.Refused n) = refused n
+playedOf (played.Done n t) = given (record { calls = n; turned = t })

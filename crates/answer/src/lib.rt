@@ -20,10 +20,10 @@ pub enum Span {
     Range { first: usize, count: usize },
 }
 
-// How many entries the book in a buffer has.
+// How many entries the book in a buffer has, and how many bytes its image.
 pub enum Checked {
     Refused(u8),
-    Entries(usize),
+    Holds { entries: usize, bytes: usize },
 }
 
 // The length of a bucket's head name.
@@ -46,4 +46,10 @@ pub enum Completion {
 pub enum Pressed {
     Refused(u8),
     Rows(usize),
+}
+
+// What a history's run reports: the calls made, and whether the second buffer holds the book.
+pub enum Played {
+    Refused(u8),
+    Done { calls: usize, turned: bool },
 }

@@ -9,6 +9,7 @@ use Rattle.octets.specs.Octets.{be, fromBe}
 use Rattle.entries.specs.Entries.{Entry, best, entry, names}
 use Rattle.book.specs.Records.{bucketHead, bucketSize, namesFrom, records}
 use Rattle.frame.specs.Frame.{countOf, entriesOf, framed, isRead, readAs}
+use Rattle.answer.specs.Answers.{WrittenCounts}
 
 -- entries in a block that has a peak
 abbrev pub blockSize : ℕ
@@ -87,3 +88,7 @@ isBook buf = isRead (readBook buf)
 
 abbrev pub inBook : List ℕ → List Entry
 inBook buf = entriesOf (readBook buf)
+
+-- what is reported of the book of these entries: how many they are, and the length of their image
+abbrev pub reported : List Entry → WrittenCounts
+reported es = record { entries = length es; bytes = length (bookImage es) }

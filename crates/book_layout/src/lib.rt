@@ -1,14 +1,18 @@
-// Where things stand in the image of a book of n entries, and the scores, offsets and peaks that stand there.
+// Where things stand in the image of a book of n entries, and the scores, offsets and peaks that stand there; the
+// length that the image says.
 use limits::BLOCK_SIZE;
 use limits::BUCKET_SIZE;
 use limits::FRAME_LENGTH;
 use limits::SCORE_BYTES;
+use limits::TOTAL_AT;
 ghost use mathlib.Core.Path.{_≡_};
+ghost use mathlib.Core.Bool.{true};
+ghost use lib.ListN.{length};
 ghost use Prim.Native.Nat.{_<_, _≤_};
 ghost use Rattle.octets.specs.Lists.{ceil};
 ghost use Rattle.entries.specs.Entries.{maxEntries};
 ghost use Rattle.book.specs.Records.{bucketHead, bucketSize};
-ghost use Rattle.book.specs.Book.{blockSize, layout21, recordsAt};
+ghost use Rattle.book.specs.Book.{blockSize, bookImage, inBook, isBook, layout21, recordsAt};
 ghost use Rattle.book_laws.specs.Check.{bestBetween, betterOf, blockEnd, offsetAt, offsetStart, peakAt, peakStart};
 ghost use Rattle.book_laws.specs.Check.{scoreAt, scoreStart};
 
@@ -16,6 +20,14 @@ ghost use Rattle.book_laws.specs.Check.{scoreAt, scoreStart};
 const OFFSET_BYTES: usize = 2;
 
 const PEAK_BYTES: usize = 2;
+
+// The bytes of the image of a book that was checked.
+pub fn image_length(book: &[u8]) -> usize
+    requires { ⌜ isBook (now book) ≡ true ⌝ }
+    ensures { λ r. ⌜ r ≡ length (bookImage (inBook (now (book .entry)))) ⌝ }
+{
+    octets_code::read_u32(book, TOTAL_AT) as usize
+}
 
 // How many buckets n entries have, the last perhaps shorter.
 pub fn buckets(n: usize) -> usize

@@ -2,23 +2,15 @@
 // computed again. Names, offsets, records and the other peaks are the old book's.
 use limits::BLOCK_SIZE;
 ghost use mathlib.Core.Path.{_≡_};
-ghost use mathlib.Core.Bool.{true};
 ghost use lib.ListN.{length};
 ghost use Prim.Native.Nat.{_<_, _≤_};
 ghost use Rattle.octets.specs.Octets.{overwrite};
-ghost use Rattle.book.specs.Book.{bookImage, inBook, isBook};
+ghost use Rattle.book.specs.Book.{bookImage, inBook};
 ghost use Rattle.book_laws.specs.Held.{Held};
 ghost use Rattle.edit_rescore.specs.Rescored.{rescored};
 
-// The bytes of the image of a book that was checked; with another score it has as many.
-pub fn image_length(book: &[u8]) -> usize
-    requires { ⌜ isBook (now book) ≡ true ⌝ }
-    ensures { λ r. ⌜ r ≡ length (bookImage (inBook (now (book .entry)))) ⌝ }
-{
-    octets_code::read_u32(book, 1) as usize
-}
-
-// Writes the book of n entries and so many bytes with another score at position i, for which there is room.
+// Writes the book of n entries and so many bytes with another score at position i, for which there is room: it has as
+// many bytes as before.
 pub fn rescore(book: &[u8], n: usize, i: usize, score: u32, total: usize, dst: &mut [u8])
     requires { ⌜ Held (now book) n × (i < n) × (total ≡ length (bookImage (inBook (now book))))
         × (total ≤ length (now dst)) ⌝ }

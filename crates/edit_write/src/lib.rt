@@ -40,7 +40,7 @@ pub fn write_score(book: &[u8], n: usize, i: usize, score: u32, dst: &mut [u8]) 
     ensures { λ r. ⌜ Answered (wholeBook (rescored (inBook (now (book .entry))) i score) (now (dst .entry))) r
         (now (dst .exit)) ⌝ }
 {
-    let total = edit_rescore::image_length(book);
+    let total = book_layout::image_length(book);
     if dst.len() < total {
         return Written::Refused(7);
     }

@@ -1,17 +1,20 @@
 -- What a front-door call answered is what C is told of it.
 use Prim.Native.Nat.{ℕ}
+use mathlib.Core.Path.{_≡_, refl}
 use mathlib.Core.List.{List}
 use Rattle.answer.specs.Answers.{OfferedCounts, Outcome, WrittenCounts}
 use Rattle.completion.specs.Complete.{Completed, CompletedOver}
-use Rattle.answer.specs.Reports.{Answered, offeredOf, pressedOf, writtenOf}
+use Rattle.answer.specs.Reports.{Answered, offeredOf, playedOf, pressedOf, writtenOf}
 use Rattle.answer.specs.declared.Completion.{Completion}
 use Rattle.completion.specs.declared.Range.{Range}
 use Rattle.panel.specs.Panel.{AfterKey, PressedAs}
 use Rattle.panel.specs.declared.Panel.{Panel}
+use Rattle.answer.specs.declared.Played.{Played}
 use Rattle.answer.specs.declared.Pressed.{Pressed}
 use Rattle.answer.specs.declared.Written.{Written}
-use Rattle.abi.specs.Told.{OfferedTold, RowsTold, WrittenTold}
-use Rattle.abi.specs.Left.{Left, OfferedLeft, OfferedOver, PanelLeft}
+use Rattle.script.specs.Run.{Finish, finishOf}
+use Rattle.abi.specs.Told.{OfferedTold, PlayedTold, RowsTold, WrittenTold}
+use Rattle.abi.specs.Left.{Left, OfferedLeft, OfferedOver, PanelLeft, RunLeft}
 
 -- every call that writes
 pub left :
@@ -35,3 +38,9 @@ pub rows-left :
     {o : AfterKey} {w : Pressed} {p : Panel} {r k : ℕ}
     → PressedAs o w p → RowsTold (pressedOf w) r k → PanelLeft o r k p
 rows-left a t = record { told = rw (← a .answer) t; leaves = a .leaves }
+
+-- the run of a history
+pub run-left :
+    {f : Finish} {w : Played} {a b out : List ℕ} {r n t : ℕ}
+    → finishOf w a b out ≡ f → PlayedTold (playedOf w) r n t → RunLeft f r n t a b out
+run-left e t = rw (← e) (record { told = t; leaves = (refl, refl, refl) })

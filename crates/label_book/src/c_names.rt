@@ -1,19 +1,20 @@
-// The label book for C: each call of the front door under a C name (include/label_book.h). A call returns 0 or the
-// refusal's number, and tells its counts through pointers, all of them 0 with a refusal.
+// The label book for C: the calls of the front door under C names (include/label_book.h), `head` and `head_length` in
+// one. A call returns 0 or the refusal's number, and tells its counts through pointers, all of them 0 with a refusal.
 use answer::HeadLength;
 use limits::COUNT_AT;
 ghost use mathlib.Core.Path.{_≡_};
 ghost use lib.ListN.{length};
-ghost use Rattle.lookup.specs.Lookups.{find, nameAt, nameOf, prefixRange};
+ghost use Rattle.lookup.specs.Lookups.{checkBook, find, nameAt, nameOf, prefixRange};
 ghost use Rattle.edit.specs.Edits.{emptyBook, setEntry, withdrawEntry};
 ghost use Rattle.merge.specs.Joined.{mergeBooks};
 ghost use Rattle.sheet.specs.Sheet.{buildBook, listBook};
 ghost use Rattle.completion.specs.Complete.{completeBook};
 ghost use Rattle.trie.specs.Calls.{completeTrie, writeTrie};
 ghost use Rattle.panel.specs.Panel.{press};
-ghost use Rattle.abi.specs.Told.{FoundTold, SpanTold};
+ghost use Rattle.script.specs.Run.{runOf};
+ghost use Rattle.abi.specs.Told.{FoundTold, SpanTold, WrittenTold};
 ghost use Rattle.label_book.specs.HeadStart.{HasBucket};
-ghost use Rattle.abi.specs.Left.{HeadTold, Left, OfferedLeft, OfferedOver, PanelLeft, headAt};
+ghost use Rattle.abi.specs.Left.{HeadTold, Left, OfferedLeft, OfferedOver, PanelLeft, RunLeft, headAt};
 
 // Writes the book of no entries.
 #[no_mangle]
@@ -68,6 +69,14 @@ pub extern "C" fn label_book_merge(
         (now (entries .exit)) (now (bytes .exit)) (now (dst .exit)) ⌝ }
 {
     abi_values::tell_written(merge_calls::merge(first, second, dst), entries, bytes)
+}
+
+// Whether a buffer holds a book: how many entries it has, and how many bytes its image.
+#[no_mangle]
+pub extern "C" fn label_book_check(book: &[u8], entries: &mut usize, bytes: &mut usize) -> u8
+    ensures { λ r. ⌜ WrittenTold (checkBook (now (book .entry))) r (now (entries .exit)) (now (bytes .exit)) ⌝ }
+{
+    abi_values::tell_checked(lookup_number_calls::check(book), entries, bytes)
 }
 
 // Writes the entry at a position as one answer entry.
@@ -261,4 +270,25 @@ pub extern "C" fn label_book_press(
 {
     let answer = panel_calls::press(book, panel, key);
     abi_values::tell_rows(answer, rows)
+}
+
+// Runs a history, a script of sets and withdrawals, on two lent buffers from the empty book on.
+#[no_mangle]
+pub extern "C" fn label_book_run(
+    script: &[u8],
+    first: &mut [u8],
+    second: &mut [u8],
+    out: &mut [u8],
+    calls: &mut usize,
+    turned: &mut usize,
+) -> u8
+    ensures { λ r. ⌜ RunLeft (runOf (now (script .entry)) (now (first .entry)) (now (second .entry))
+        (now (out .entry))) r (now (calls .exit)) (now (turned .exit)) (now (first .exit)) (now (second .exit))
+        (now (out .exit)) ⌝ }
+{
+    abi_values::tell_played(
+        script_calls::run(script, first, second, out),
+        calls,
+        turned,
+    )
 }

@@ -41,7 +41,7 @@ pub use answer::Span;
 // Lookups by number, as defined there too.
 
 // check(book: &[u8]) -> Checked
-// Whether the buffer holds a book, and how many entries it has: `checkBook`.
+// Whether the buffer holds a book, and how many entries and bytes it has: `checkBook`.
 pub use lookup_number_calls::check;
 // name_at(book: &[u8], position: usize, dst: &mut [u8]) -> Written
 // Writes the entry at a position as one answer entry: `nameAt`.
@@ -52,7 +52,7 @@ pub use lookup_head_calls::head;
 // head_length(book: &[u8], bucket: usize) -> HeadLength
 // The length of that name: `headLength`.
 pub use lookup_head_calls::head_length;
-// Refused(number), or Entries(count).
+// Refused(number), or Holds { entries, bytes }: what is in the book, and the length of its image.
 pub use answer::Checked;
 // Refused(number), or Bytes(length).
 pub use answer::HeadLength;
@@ -92,5 +92,14 @@ pub use panel::Panel;
 // Refused(number), or Rows(count).
 pub use answer::Pressed;
 
-// The same calls under C names, but for `check`, and `head` and `head_length` in one: `src/c_names.rt`.
+// Histories.
+
+// run(script: &[u8], first: &mut [u8], second: &mut [u8], out: &mut [u8]) -> Played
+// Runs a script of sets and withdrawals on two buffers from the empty book on, the answers kept in `out`: `runOf` in
+// `crates/script/specs/Run.antt`; `crates/script/specs/Theorem.antt` says that what it leaves is the ledger's.
+pub use script_calls::run;
+// Refused(number), or Done { calls, turned }: the calls made, and whether the second buffer holds the book.
+pub use answer::Played;
+
+// The same calls under C names, but for `head` and `head_length`, which are one there: `src/c_names.rt`.
 mod c_names;

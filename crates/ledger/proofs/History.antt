@@ -16,13 +16,13 @@ use Rattle.entries.specs.Entries.{Entry, entry, valid, with, without}
 use Rattle.entries.specs.Names.{isName}
 use Rattle.entries.proofs.Edits.{valid-with, valid-without}
 use Rattle.answer.specs.Answers.{Answer, WrittenCounts, given, onAnswer, refused, writing, writingImage}
-use Rattle.book.specs.Book.{bookImage, readBook}
+use Rattle.book.specs.Book.{bookImage, readBook, reported}
 use Rattle.answer.proofs.Answers.{clear}
 use Rattle.book.proofs.Reading.{readBook-of}
 use Rattle.edit.specs.Edits.{setEntry, withdrawEntry}
 use Rattle.edit.proofs.Empty.{empty-given, empty-length, empty-valid}
 use Rattle.ledger.specs.History.{Buffers, answers, buffersAfter, call, callStep, started}
-use Rattle.ledger.specs.Ledger.{Edit, held, ledgerAnswer, ledgerAnswers, ledgerChecks, ledgerStep, reported}
+use Rattle.ledger.specs.Ledger.{Edit, held, ledgerAnswer, ledgerAnswers, ledgerChecks, ledgerStep}
 use Rattle.ledger.specs.Ledger.{result, scoreFits, setName, withdrawName}
 
 -- buffers of L bytes of which the first holds the book of the entries es

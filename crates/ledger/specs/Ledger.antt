@@ -7,7 +7,7 @@ use lib.ListN.{length}
 use Rattle.entries.specs.Entries.{Entry, entry, holds, maxEntries, with, without}
 use Rattle.entries.specs.Names.{isName, isScore}
 use Rattle.answer.specs.Answers.{Answer, Check, WrittenCounts, _when_, onAnswer, unless}
-use Rattle.book.specs.Book.{bookImage}
+use Rattle.book.specs.Book.{bookImage, reported}
 
 -- One call of a history with its arguments other than the buffers: a set of a name and a score, or a withdraw of a
 -- name.
@@ -34,9 +34,6 @@ abbrev pub ledgerChecks : ℕ → Edit → List Entry → List Check
 ledgerChecks L c es = refusals c es ++ (7 when ltb L (length (bookImage (result c es))) ∷ [])
 
 -- the answer: the refusal, or how many entries there are and the length of their image
-abbrev pub reported : List Entry → WrittenCounts
-reported es = record { entries = length es; bytes = length (bookImage es) }
-
 unfoldable pub ledgerAnswer : ℕ → Edit → List Entry → Answer WrittenCounts
 ledgerAnswer L c es = unless (ledgerChecks L c es) (reported (result c es))
 

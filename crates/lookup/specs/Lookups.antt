@@ -15,7 +15,7 @@ use Rattle.entries.specs.Names.{isName, isPrefix}
 use Rattle.book.specs.Records.{bucketSize}
 use Rattle.answer.specs.Answers.{Answer, FoundCounts, Outcome, SpanCounts, WrittenCounts, _when_, entryBytes, given}
 use Rattle.answer.specs.Answers.{onAnswer, refused, unless, writingImage}
-use Rattle.book.specs.Book.{inBook, isBook}
+use Rattle.book.specs.Book.{inBook, isBook, reported}
 
 -- finding: position and score, or none
 unfoldable pub foundIn : List ℕ → List Entry → Option FoundCounts
@@ -64,6 +64,7 @@ pub record HeadPart (book : List ℕ) (j : ℕ) : Type 0 where
   -- else it gives the part's length, and the part is not empty
   pub whole : (k : ℕ) → headLength book j ≡ given k → (length (headName book j) ≡ k) × (headName book j ≡ [] → ⊥)
 
--- the check: 1 where the image is not laid out as a book's, or cut off by its buffer; else how many entries it has
-unfoldable pub checkBook : List ℕ → Answer ℕ
-checkBook book = unless (1 when not (isBook book) ∷ []) (length (inBook book))
+-- the check: 1 where the image is not laid out as a book's, or cut off by its buffer; else how many entries it has and
+-- how many bytes
+unfoldable pub checkBook : List ℕ → Answer WrittenCounts
+checkBook book = unless (1 when not (isBook book) ∷ []) (reported (inBook book))

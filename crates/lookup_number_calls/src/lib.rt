@@ -1,4 +1,4 @@
-// A book's parts by number: how many entries it has, and the entry at a position.
+// A book's parts by number: how many entries and bytes it has, and the entry at a position.
 use answer::Checked;
 use answer::Written;
 use frame_code::Image;
@@ -6,14 +6,18 @@ ghost use mathlib.Core.Path.{_≡_};
 ghost use Rattle.lookup.specs.Lookups.{checkBook, nameAt};
 ghost use Rattle.answer.specs.Reports.{Answered, checkedOf};
 
-// Checks the book at the front of a buffer, in one pass.
+// Checks the book at the front of a buffer, in one pass: how many entries it has, and how many bytes its image.
 pub fn check(book: &[u8]) -> Checked
     ensures { λ r. ⌜ checkedOf r ≡ checkBook (now (book .entry)) ⌝ }
 {
     let Image::Entries(n) = book_check::check(book) else {
         return Checked::Refused(1);
     };
-    Checked::Entries(n)
+    let total = book_layout::image_length(book);
+    Checked::Holds {
+        entries: n,
+        bytes: total,
+    }
 }
 
 // Writes the entry at a position as one answer entry.

@@ -13,10 +13,9 @@ use Rattle.octets.proofs.Tests.{and-true}
 use Rattle.entries.specs.Entries.{maxEntries, valid}
 use Rattle.entries.proofs.Valid.{valid-of}
 use Rattle.answer.specs.Answers.{Check, WrittenCounts, _when_, given, refused, tooShort, writing, writingImage}
-use Rattle.book.specs.Book.{bookImage, inBook, isBook}
+use Rattle.book.specs.Book.{bookImage, inBook, isBook, reported}
 use Rattle.answer.proofs.Answers.{clear, given-is, refused-same}
 use Rattle.book.proofs.Reading.{readBook-of, valid-in}
-use Rattle.ledger.specs.Ledger.{reported}
 use Rattle.ledger.proofs.Demand.{offers-best}
 use Rattle.merge.specs.Joined.{mergeBooks, mergeRefusals, mergedEntries}
 use Rattle.merge.specs.Merged.{Merged, Merged·all}

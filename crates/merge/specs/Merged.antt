@@ -6,9 +6,8 @@ use mathlib.Core.List.{List}
 use lib.ListN.{length, take}
 use Rattle.entries.specs.Entries.{Entry, maxEntries}
 use Rattle.answer.specs.Answers.{Outcome, WrittenCounts, given, refused}
-use Rattle.book.specs.Book.{bookImage, inBook, isBook}
+use Rattle.book.specs.Book.{bookImage, inBook, isBook, reported}
 use Rattle.ledger.specs.Demand.{OffersBest}
-use Rattle.ledger.specs.Ledger.{reported}
 use Rattle.merge.specs.Joined.{Joins, mergeBooks, mergedEntries}
 
 -- For the books first and second, and what an accepted merge of them answers and leaves:

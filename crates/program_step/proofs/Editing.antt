@@ -7,9 +7,9 @@ use Rattle.octets.specs.Text.{text}
 use Rattle.ledger.specs.Ledger.{Edit}
 use Rattle.answer.specs.Answers.{onAnswer}
 use Rattle.answer.specs.Reports.{writtenOf}
-use Rattle.script_call.specs.Calls.{Performed}
+use Rattle.script_step.specs.Calls.{Performed}
 use Rattle.script.specs.Run.{Bench}
-use Rattle.script_call.proofs.Calling.{performed-bench}
+use Rattle.script_step.proofs.Calling.{performed-bench}
 use Rattle.program.specs.Program.{decimal, edit, editLine, lineFeed, refusedLine}
 use Rattle.program_print.specs.Printing.{Printed}
 use Rattle.program_step.specs.Step.{StepDone}

@@ -6,7 +6,7 @@ use limits::MAX_COUNT;
 ghost use Prim.Native.Nat.{_≤_};
 ghost use lib.ListN.{length};
 ghost use Rattle.answer.specs.Reports.{writtenOf};
-ghost use Rattle.script_call.specs.Calls.{Small, editOf};
+ghost use Rattle.script_step.specs.Calls.{Small, editOf};
 ghost use Rattle.script.specs.Run.{bench};
 ghost use Rattle.program.specs.Program.{commandOf, edit, editLine, top};
 ghost use Rattle.program_print.specs.Printing.{Printed};
@@ -47,10 +47,10 @@ fn step_edit(
         (bench (now (first .entry)) (now (second .entry)) turned) (now (out .entry))
         r (now (first .exit)) (now (second .exit)) (now (out .exit)) ⌝ }
 {
-    let w = script_call::perform(set, name, score, turned, first, second);
+    let w = script_step::perform(set, name, score, turned, first, second);
     LineReport {
         bytes: print_edit(w, out),
-        turned: script_call::turned_after(turned, w),
+        turned: script_step::turned_after(turned, w),
     }
 }
 

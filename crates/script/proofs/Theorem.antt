@@ -16,16 +16,17 @@ use Rattle.octets.specs.Octets.{numberAt, overwrite}
 use Rattle.octets.proofs.Count.{count}
 use Rattle.octets.proofs.Numbers.{Bytes, bytes-drop, number-below}
 use Rattle.octets.proofs.Tests.{and-intro, by-test, or-false}
-use Rattle.answer.specs.Answers.{Answer, WrittenCounts, given, refused}
+use Rattle.answer.specs.Answers.{Answer, PlayedCounts, WrittenCounts, given, refused}
 use Rattle.book.specs.Book.{bookImage}
 use Rattle.answer.proofs.Answers.{clear, given-is}
 use Rattle.ledger.specs.History.{Buffers, buffersAfter, call, callStep, started}
 use Rattle.ledger.specs.Ledger.{Edit, held, scoreFits}
-use Rattle.ledger.proofs.History.{history-answers, history-holds, refused-unchanged, start-holds}
-use Rattle.script.specs.Run.{Bench, Played, benchAfter, benchAnswers, benchCall, benchStep, bookOf, buffersOf}
+use Rattle.ledger.proofs.Demand.{offers-best}
+use Rattle.ledger.proofs.History.{history-answers, history-holds, reads, refused-unchanged, start-holds}
+use Rattle.script.specs.Run.{Bench, benchAfter, benchAnswers, benchCall, benchStep, bookOf, buffersOf}
 use Rattle.script.specs.Run.{runChecks, runOf, startBench, told}
 use Rattle.script.specs.Script.{answerBytes, callAt, callLength, calls, callsFrom, callsOf, isCall, withCall}
-use Rattle.script.specs.Theorem.{Ledgers, RefusedStays, RunLedgers}
+use Rattle.script.specs.Theorem.{Ledgers, RefusedStays, RunLedgers, bookLeft}
 use Rattle.entries.proofs.Valid.{score-fits}
 use Rattle.script.proofs.Script.{call-stands}
 
@@ -98,15 +99,15 @@ scores-fit (suc n) (b ∷ bs) k =
     (λ t. rw t)
 
 -- an accepted run: its checks do not apply
-pub record Accepted (script a b out : List ℕ) (p : Played) : Type 0 where
+pub record Accepted (script a b out : List ℕ) (p : PlayedCounts) : Type 0 where
   pub long : 7 ≤ length a
   pub even : length b ≡ length a
   pub played : record {
-    count = length (callsOf (calls script));
+    calls = length (callsOf (calls script));
     turned = benchAfter (callsOf (calls script)) (startBench a b) .turned;
   } ≡ p
 
-module _ (script a b out : List ℕ) (p : Played) (h : runOf script a b out .answer ≡ given p) where
+module _ (script a b out : List ℕ) (p : PlayedCounts) (h : runOf script a b out .answer ≡ given p) where
   abbrev cs : List Edit
   cs = callsOf (calls script)
 
@@ -116,7 +117,7 @@ module _ (script a b out : List ℕ) (p : Played) (h : runOf script a b out .ans
   accepted : Accepted script a b out p
   unfolding runOf
   accepted =
-      let x : Played = record { count = length cs; turned = benchAfter cs (startBench a b) .turned } in
+      let x : PlayedCounts = record { calls = length cs; turned = benchAfter cs (startBench a b) .turned } in
       let ok = clear (runChecks script a b out) x p h in
       let s = or-false (ltb (length a) 7) (not (eqb (length b) (length a)) || ltb (length out) (7 * length cs))
       (ok _ (inr (inl refl))) in
@@ -132,8 +133,7 @@ module _ (script a b out : List ℕ) (p : Played) (h : runOf script a b out .ans
   unfolding runOf
   left-out = rw h
 
-  left-book : (if p .turned then runOf script a b out .second else runOf script a b out .first) ≡ bookOf
-      (benchAfter cs (startBench a b))
+  left-book : bookLeft p (runOf script a b out) ≡ bookOf (benchAfter cs (startBench a b))
   unfolding runOf
   left-book = rw (h, ← accepted .played)
 
@@ -144,16 +144,18 @@ module _ (script a b out : List ℕ) (p : Played) (h : runOf script a b out .ans
       let f = scores-fit (length script) script k in
       let s = start-holds L a b refl (q .even) (q .long) in
       let m = history-holds L cs [] (started a b) s f in
-      let e : bookOf (benchAfter cs (startBench a b)) ≡ bookImage (held L cs []) ++ m .rest =
-      ap (λ x. x .book) (after-buffers cs (startBench a b)) ∙ m .front
+      let e : bookLeft p (runOf script a b out) ≡ buffersAfter cs (started a b) .book =
+      left-book ∙ ap (λ x. x .book) (after-buffers cs (startBench a b))
       in
       record {
-        count = ap (λ x. x .count) (sym (q .played));
+        made = ap (λ x. x .calls) (sym (q .played));
         answered =
             left-out
             ∙ ap (λ l. overwrite out (concatMap answerBytes l)) (answers-same cs (startBench a b)
             ∙ history-answers L cs [] (started a b) s f);
-        stands = rw (left-book, e) (take-append-seam (bookImage (held L cs [])) (m .rest));
+        stands = rw (e, m .front) (take-append-seam (bookImage (held L cs [])) (m .rest));
+        offersBest =
+            rw e (offers-best (held L cs []) _ (reads L (held L cs []) (buffersAfter cs (started a b)) m) (m .ok));
       }
 
 pub run-ledgers : RunLedgers

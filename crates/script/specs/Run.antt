@@ -7,7 +7,9 @@ use lib.Dec.{eqb, ltb}
 use lib.ListN.{length}
 use Rattle.octets.specs.Lists.{concatMap, if_then_else_}
 use Rattle.octets.specs.Octets.{overwrite}
-use Rattle.answer.specs.Answers.{Answer, Check, Outcome, WrittenCounts, _when_, onAnswer, unless}
+use Rattle.answer.specs.Answers.{Answer, Check, Outcome, PlayedCounts, WrittenCounts, _when_, onAnswer, unless}
+use Rattle.answer.specs.Reports.{playedOf}
+use Rattle.answer.specs.declared.Played.{Played}
 use Rattle.edit.specs.Edits.{emptyBook}
 use Rattle.ledger.specs.History.{Buffers, call}
 use Rattle.ledger.specs.Ledger.{Edit}
@@ -62,14 +64,9 @@ told cs b = concatMap answerBytes (benchAnswers cs b)
 abbrev pub startBench : List ℕ → List ℕ → Bench
 startBench a b = bench (emptyBook a .dest) b false
 
--- what a run gives: how many calls there were, and whether the second buffer holds the book
-pub record Played : Type 0 where
-  pub count : ℕ
-  pub turned : Bool
-
--- what it gives, and every lent byte afterwards
+-- what a run answers, and every lent byte afterwards
 pub record Finish : Type 0 where
-  pub answer : Answer Played
+  pub answer : Answer PlayedCounts
   pub first : List ℕ
   pub second : List ℕ
   pub out : List ℕ
@@ -86,10 +83,15 @@ unfoldable pub runOf : List ℕ → List ℕ → List ℕ → List ℕ → Finis
 runOf script a b out =
     let cs = callsOf (calls script) in
     let end = benchAfter cs (startBench a b) in
-    let o : Answer Played = unless (runChecks script a b out) (record { count = length cs; turned = end .turned }) in
+    let counts : PlayedCounts = record { calls = length cs; turned = end .turned } in
+    let o = unless (runChecks script a b out) counts in
     record {
       answer = o;
       first = onAnswer o a (end .first);
       second = onAnswer o b (end .second);
       out = onAnswer o out (overwrite out (told cs (startBench a b)));
     }
+
+-- the call that runs it returned r and left these bytes
+abbrev pub finishOf : Played → List ℕ → List ℕ → List ℕ → Finish
+finishOf r a b out = record { answer = playedOf r; first = a; second = b; out = out }

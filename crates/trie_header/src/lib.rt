@@ -60,12 +60,12 @@ fn code_of(size: usize) -> u8
     size as u8
 }
 
-// The last-sibling mark in its place.
+// The last-sibling mark: 1 for the last of a group, else 0.
 fn mark_of(last: bool) -> u8
-    ensures { λ r. ⌜ r ≡ (if last then 8 else 0) ⌝ }
+    ensures { λ r. ⌜ r ≡ (if last then 1 else 0) ⌝ }
 {
     if last {
-        return 1 << MARK_SHIFT;
+        return 1;
     }
     0
 }
@@ -78,7 +78,8 @@ pub fn header(score: usize, child: usize, last: bool, label: usize) -> u8
     let high = code_of(score);
     let low = code_of(child);
     let mark = mark_of(last);
-    (high << SCORE_SHIFT) | ((low << CHILD_SHIFT) | (mark | label as u8))
+    let len = label as u8;
+    (high << SCORE_SHIFT) | ((low << CHILD_SHIFT) | ((mark << MARK_SHIFT) | (len & LABEL_MASK)))
 }
 
 // Size codes 0, 1, 2, 3 mean 0, 1, 2, 4 bytes.

@@ -2,7 +2,7 @@
 -- No loop, so no invariant. Assumes nothing.
 use native.Mathlib.Omega.{arith}
 use borrow.Author.Needs.{needs}
-use Rattle.script_call.proofs.Calling.{wrote-small}
+use Rattle.script_step.proofs.Calling.{wrote-small}
 use Rattle.program_step.proofs.Editing.{printed-refused, printed-wrote}
 use Rattle.program_step.proofs.print_edit.Statement.{statement}
 use Rattle.program_step.proofs.print_edit.Tie as tie

@@ -14,8 +14,8 @@ code-of-requires-2 c κs = search needs
 mark-of-requires : tie.Need-mark-of-requires
 mark-of-requires c κs = search needs
 
-cast-result : tie.Need-cast-result
-cast-result c = search needs
+cast-len : tie.Need-cast-len
+cast-len c = search needs
 
 returns : tie.Need-returns
 returns c =
@@ -25,4 +25,4 @@ returns c =
 
 pub header-spec : {M : Type 1} → statement M
 header-spec =
-    tie.close (tie.spec code-of-requires code-of-requires-2 mark-of-requires cast-result returns)
+    tie.close (tie.spec code-of-requires code-of-requires-2 mark-of-requires cast-len returns)
