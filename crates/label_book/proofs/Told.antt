@@ -41,6 +41,6 @@ rows-left a t = record { told = rw (← a .answer) t; leaves = a .leaves }
 
 -- the run of a history
 pub run-left :
-    {f : Finish} {w : Played} {a b out : List ℕ} {r n t : ℕ}
+    {f : Finish} (w : Played) {a b out : List ℕ} {r n t : ℕ}
     → finishOf w a b out ≡ f → PlayedTold (playedOf w) r n t → RunLeft f r n t a b out
-run-left e t = rw (← e) (record { told = t; leaves = (refl, refl, refl) })
+run-left w e t = rw (← e) (record { told = t; leaves = (refl, refl, refl) })

@@ -286,9 +286,5 @@ pub extern "C" fn label_book_run(
         (now (out .entry))) r (now (calls .exit)) (now (turned .exit)) (now (first .exit)) (now (second .exit))
         (now (out .exit)) ⌝ }
 {
-    abi_values::tell_played(
-        script_calls::run(script, first, second, out),
-        calls,
-        turned,
-    )
+    abi_values::tell_played(script_calls::run(script, first, second, out), calls, turned)
 }
