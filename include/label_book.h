@@ -10,7 +10,7 @@
  * keeps no pointer and allocates nothing.
  *
  * Every call returns 0 or the number of its refusal, the smallest that applies:
- *   1  a book, sheet or trie that is not laid out as such, or is cut off by its buffer
+ *   1  a book, sheet, trie or script that is not laid out as such, or is cut off by its buffer
  *   2  a name or prefix that is not allowed; a panel whose length is over 48, or that holds a byte within it that is
  *      not allowed
  *   3  a completion of 0 or more than 16 entries
@@ -53,6 +53,10 @@ uint8_t label_book_withdraw(const uint8_t *book, size_t book_len, const uint8_t 
  * entries in it and its bytes. Refusals 1 of either book, 5, 7. */
 uint8_t label_book_merge(const uint8_t *first, size_t first_len, const uint8_t *second, size_t second_len,
                          uint8_t *dst, size_t dst_len, size_t *entries, size_t *bytes);
+
+/* Checks a book, as every call that reads one does: tells the entries in it and its bytes, which are those to save. A
+ * refusal says that the buffer holds none. Refusal 1. */
+uint8_t label_book_check(const uint8_t *book, size_t book_len, size_t *entries, size_t *bytes);
 
 /* Tells whether the book holds the name, 1 or 0, and its position and score, both 0 if not. Refusals 1, 2. */
 uint8_t label_book_find(const uint8_t *book, size_t book_len, const uint8_t *name, size_t name_len,
@@ -117,6 +121,17 @@ struct label_book_panel {
  * name, 00 only counts again; tells the rows, at most 5. Refusals 1, 2, 8, 9. */
 uint8_t label_book_press(const uint8_t *book, size_t book_len, struct label_book_panel *panel,
                          uint8_t key, size_t *rows);
+
+/* Runs a history: "empty" into the first buffer, then every call of a script, each from the buffer that holds the book
+ * into the other. A call of the script is a kind byte, 0 a set and 1 a withdraw; 4 bytes of score, of no account in a
+ * withdraw; 2 bytes of length; as many bytes of name. Numbers are big-endian. An answer is kept in 7 bytes of out: its
+ * number in 1, the entries in 2, the bytes in 4; a call that is refused changes nothing, and the script goes on. Tells
+ * the calls, and 1 if the second buffer holds the book at the end, else 0.
+ * Refusals of the whole run: 1, a script that is not laid out so; 7, a first buffer of less than 7 bytes, a second one
+ * of another length, or less than 7 bytes of out for each call. */
+uint8_t label_book_run(const uint8_t *script, size_t script_len, uint8_t *first, size_t first_len,
+                       uint8_t *second, size_t second_len, uint8_t *out, size_t out_len,
+                       size_t *calls, size_t *turned);
 
 #ifdef __cplusplus
 }
