@@ -1,6 +1,6 @@
 -- The first seven bytes of an image, and reading for any pair of a writer and its reader.
 use Prim.Native.Nat.{_+_, _<_, suc, ℕ}
-use mathlib.Core.Path.{_≡_, ap, refl}
+use mathlib.Core.Path.{_∙_, _≡_, ap, refl, sym}
 use mathlib.Core.Bool.{Bool, _&&_, false, true}
 use mathlib.Core.List.{List, [], _++_, _∷_, append-assoc}
 use mathlib.Core.Option.{Option, none, some}
@@ -12,7 +12,7 @@ use Rattle.octets.proofs.Coding.{fromBe-be, length-be}
 use Rattle.octets.proofs.Order.{begins-append, begins-at, begins-parts, begins-split}
 use Rattle.entries.specs.Entries.{Entry, at, valid}
 use Rattle.entries.proofs.Valid.{Valid, valid-of}
-use Rattle.frame.specs.Frame.{Exact, countOf, framed, readAs}
+use Rattle.frame.specs.Frame.{Exact, countOf, entriesOf, framed, readAs}
 
 -- the frame of an image
 pub framed-count : (v n : ℕ) (body rest : List ℕ) → n < 65536 → countOf (framed v n body ++ rest) ≡ n
@@ -106,3 +106,25 @@ pub read-of :
     (read : List ℕ → Option (List Entry)) (image : List Entry → List ℕ) → Exact read image
     → (es : List Entry) (rest : List ℕ) → valid es ≡ true → read (image es ++ rest) ≡ some es
 read-of read image x es rest h = x .complete es (image es ++ rest) h (begins-append (image es) rest)
+
+-- the entries of any buffer are valid: those that are read, or none
+pub entries-valid :
+    (read : List ℕ → Option (List Entry)) (image : List Entry → List ℕ) → Exact read image
+    → (buf : List ℕ) → valid (entriesOf (read buf)) ≡ true
+unfolding valid
+entries-valid read image x buf = go (read buf) refl
+  where
+    go : (o : Option (List Entry)) → read buf ≡ o → valid (entriesOf o) ≡ true
+    go none e = refl
+    go (some es) e = x .sound es buf e .0
+
+-- images have one reading: two that are exact for them agree on every buffer
+pub same-reading :
+    (image : List Entry → List ℕ) (r r′ : List ℕ → Option (List Entry)) → Exact r image → Exact r′ image
+    → (buf : List ℕ) → r buf ≡ r′ buf
+same-reading image r r′ x x′ buf = go (r buf) (r′ buf) refl refl
+  where
+    go : (o o′ : Option (List Entry)) → r buf ≡ o → r′ buf ≡ o′ → r buf ≡ r′ buf
+    go none none e e′ = e ∙ sym e′
+    go none (some es) e e′ = let s = x′ .sound es buf e′ in x .complete es buf (s .0) (s .1) ∙ sym e′
+    go (some es) o′ e e′ = let s = x .sound es buf e in e ∙ sym (x′ .complete es buf (s .0) (s .1))

@@ -1,0 +1,118 @@
+-- Every promise on one page: the three demands and request a, in the order of documents 01 and 02. The value `promises`
+-- in proofs/ proves them all.
+use Prim.Native.Nat.{_≤_, ℕ}
+use mathlib.Core.Path.{_≡_}
+use mathlib.Core.Bool.{true}
+use mathlib.Core.List.{List, [], _∷_}
+use mathlib.Core.Option.{Option, none, some}
+use lib.ListN.{drop, length}
+use Rattle.octets.specs.Lists.{_∈_}
+use Rattle.entries.specs.Completion.{BestList, completion}
+use Rattle.entries.specs.Entries.{Entry, valid}
+use Rattle.frame.specs.Frame.{Exact}
+use Rattle.answer.specs.Answers.{Answer, OfferedCounts, Outcome, WrittenCounts, counts, given, noneOffered, noneSpan}
+use Rattle.answer.specs.Answers.{noneWritten, refused}
+use Rattle.book.specs.Book.{bookImage, readBook}
+use Rattle.lookup.specs.Lookups.{HeadPart, checkBook, find, headLength, nameAt, nameOf, prefixRange}
+use Rattle.edit.specs.Edits.{emptyBook, setEntry, withdrawEntry}
+use Rattle.completion.specs.Complete.{completeBook}
+use Rattle.completion.specs.Machine.{MachineOffers}
+use Rattle.trie.specs.Calls.{completeTrie, writeTrie}
+use Rattle.trie.specs.Reading.{readTrie}
+use Rattle.trie.specs.Trie.{trieImage}
+use Rattle.sheet.specs.Sheet.{RoundTrips, buildBook, listBook, readSheet, sheetImage}
+use Rattle.panel.specs.declared.Panel.{Panel}
+use Rattle.panel.specs.Panel.{press}
+use Rattle.ledger.specs.Demand.{Demand3·all, OffersBest}
+use Rattle.script.specs.Theorem.{RefusedStays, RunLedgers}
+use Rattle.program.specs.Theorem.{CutAlike, InParts, InputSays, LinesSay, NeverSeven}
+use Rattle.merge.specs.Joined.{mergeBooks}
+use Rattle.merge.specs.Merged.{Merged·all}
+
+-- An answer that is a refusal has one of these numbers, with all counts zero.
+abbrev pub Refuses : {A : Type 0} → A → List ℕ → Answer A → Type 0
+Refuses zeros numbers a = (n : ℕ) → a ≡ refused n → (n ∈ numbers) × (counts zeros a ≡ zeros)
+
+-- A call that writes, as a function of its destination; `bytes` is what it reports to have written.
+pub record Leaves {A : Type 0} (zeros : A) (bytes : A → ℕ) (numbers : List ℕ) (call : List ℕ → Outcome A) : Type 0
+  where
+    pub refuses : (dst : List ℕ) → Refuses zeros numbers (call dst .answer)
+    -- a refusal leaves the destination as it was
+    pub unchanged : (dst : List ℕ) (n : ℕ) → call dst .answer ≡ refused n → call dst .dest ≡ dst
+    -- an answer changes nothing behind the bytes that it reports, nor the destination's length
+    pub behind :
+        (dst : List ℕ) (a : A) → call dst .answer ≡ given a
+        → (drop (bytes a) (call dst .dest) ≡ drop (bytes a) dst) × (length (call dst .dest) ≡ length dst)
+
+-- a call that writes a book, a trie, a sheet or an entry, and one that completes, each with the numbers of its refusals
+abbrev pub Writes : List ℕ → (List ℕ → Outcome WrittenCounts) → Type 0
+Writes numbers call = Leaves noneWritten (λ a. a .bytes) numbers call
+
+abbrev pub Offers : List ℕ → (List ℕ → Outcome OfferedCounts) → Type 0
+Offers numbers call = Leaves noneOffered (λ a. a .bytes) numbers call
+
+pub record Promises : Type 0 where
+  -- DEMAND 1. Any image, text, count, key or buffer gets an answer or a numbered refusal from every public call, which
+  -- always ends: that is each call's contract, which asks nothing and says that the call gives what is named here. A
+  -- refusal returns a number that 01's table gives that call, with all counts zero, and changes no lent byte; what is
+  -- lent to be read only cannot change.
+  pub emptying : Writes (7 ∷ []) emptyBook
+  pub setting : (book w : List ℕ) (s : ℕ) → Writes (1 ∷ 2 ∷ 5 ∷ 7 ∷ []) (setEntry book w s)
+  pub withdrawing : (book w : List ℕ) → Writes (1 ∷ 2 ∷ 4 ∷ 7 ∷ []) (withdrawEntry book w)
+  pub completing :
+      (book p : List ℕ) (k ranges : ℕ) → Offers (1 ∷ 2 ∷ 3 ∷ 7 ∷ []) (λ dst. completeBook book p k dst ranges)
+  pub writingTrie : (book : List ℕ) → Writes (1 ∷ 7 ∷ []) (writeTrie book)
+  pub completingFromTrie : (trie p : List ℕ) (k : ℕ) → Offers (1 ∷ 2 ∷ 3 ∷ 7 ∷ []) (completeTrie trie p k)
+  pub building : (sheet : List ℕ) → Writes (1 ∷ 7 ∷ []) (buildBook sheet)
+  pub listing : (book : List ℕ) → Writes (1 ∷ 7 ∷ []) (listBook book)
+  pub checking : (book : List ℕ) → Refuses 0 (1 ∷ []) (checkBook book)
+  pub finding : (book w : List ℕ) → Refuses none (1 ∷ 2 ∷ []) (find book w)
+  pub entryAt : (book : List ℕ) (i : ℕ) → Writes (1 ∷ 6 ∷ 7 ∷ []) (nameAt book i)
+  pub entryOf : (book w : List ℕ) → Writes (1 ∷ 2 ∷ 4 ∷ 7 ∷ []) (nameOf book w)
+  pub prefixes : (book p : List ℕ) → Refuses noneSpan (1 ∷ 2 ∷ []) (prefixRange book p)
+  pub heads : (book : List ℕ) (j : ℕ) → Refuses 0 (1 ∷ 6 ∷ []) (headLength book j)
+  pub keys : (book : List ℕ) (p : Panel) (x : ℕ) → Refuses 0 (1 ∷ 2 ∷ 8 ∷ 9 ∷ []) (press book p x .answer)
+  pub panelStays :
+      (book : List ℕ) (p : Panel) (x n : ℕ) → press book p x .answer ≡ refused n → press book p x .panel ≡ p
+  pub merging : (first second : List ℕ) → Writes (1 ∷ 5 ∷ 7 ∷ []) (mergeBooks first second)
+  -- DEMAND 2. It is the best list: no other list of different entries that the prefix begins, at most k and in falling
+  -- score order, is longer or has a higher score at any place.
+  pub bestList :
+      (es : List Entry) (p : List ℕ) (k : ℕ) → valid es ≡ true → BestList es p k (completion es p k)
+  -- The range machine offers it, with at most 2 × k − 1 looks, as many as there are matches where these are at most k.
+  pub machineOffers : (es : List Entry) (p : List ℕ) (k : ℕ) → valid es ≡ true → MachineOffers es p k
+  -- Every buffer with a book of es offers it, and so does the trie written from that book.
+  pub offersBest : (es : List Entry) (book : List ℕ) → readBook book ≡ some es → OffersBest es book
+  -- Sheets, books and tries are read exactly when they are written as 01 lays them out, whatever stands behind them.
+  pub bookRead : Exact readBook bookImage
+  pub trieRead : Exact readTrie trieImage
+  pub sheetRead : Exact readSheet sheetImage
+  -- This says all of a reading: no other agrees with the images. So nothing of how a buffer is read has to be believed.
+  pub oneReading :
+      (image : List Entry → List ℕ) (r r′ : List ℕ → Option (List Entry)) → Exact r image → Exact r′ image
+      → (buf : List ℕ) → r buf ≡ r′ buf
+  -- A book never exceeds 55,559 bytes.
+  pub bookLength : (es : List Entry) → valid es ≡ true → length (bookImage es) ≤ 55559
+  -- The head name is empty exactly where its companion refuses, else as long as that says.
+  pub headPart : (book : List ℕ) (j : ℕ) → HeadPart book j
+  -- Sheet to book to sheet, and book to sheet to book, give the same bytes.
+  pub roundTrips : RoundTrips
+  -- DEMAND 3. For every list of sets and withdrawals, refused ones included, the book holds byte for byte the image of
+  -- the ledger's entries, every answer is the ledger's, and what the book and the trie written from it offer is the
+  -- best list.
+  pub history : Demand3·all
+  -- A run of a history in code answers and leaves what the ledger says, and a refused call of it changes nothing.
+  pub run : RunLedgers
+  pub refusedStays : RefusedStays
+  -- THE PROGRAM prints, for any input, what the ledger says of its lines, and leaves the ledger's book;
+  pub input : InputSays
+  -- so it does for any list of lines;
+  pub lines : LinesSay
+  -- its buffers are long enough for every book, so that no line is answered `no 7`;
+  pub neverSeven : NeverSeven
+  -- a line may be cut after 64 bytes, and the input may come in parts, cut anywhere.
+  pub cutAlike : CutAlike
+  pub inParts : InParts
+  -- REQUEST A. Two books merged into a third buffer: every name of either once, the first book's score where both have
+  -- it; completion from the merged book is best among the entries so chosen, as after edits.
+  pub merged : Merged·all
