@@ -11,6 +11,7 @@ use Rattle.entries.specs.Completion.{matches, rangeStart}
 use Rattle.entries.specs.Entries.{at}
 use Rattle.entries.specs.Names.{isName, isPrefix, longestName}
 use Rattle.entries.proofs.BestList.{best-list}
+use Rattle.entries.proofs.TopK.{top-k, top-k-only}
 use Rattle.entries.proofs.Valid.{valid-of}
 use Rattle.frame.specs.Frame.{entriesOf, isRead}
 use Rattle.frame.proofs.Frame.{entries-valid, same-reading}
@@ -93,6 +94,8 @@ promises =
           (afterKey book p x .rows);
       panelStays = press-refused;
       merging = λ first second. writes _ _ _;
+      topK = λ es p k ok. top-k es p k (valid-of es ok .order);
+      noOther = λ es p k l ok. top-k-only es p k (valid-of es ok .order) l;
       bestList = λ es p k ok. best-list es p k (valid-of es ok .order);
       machineOffers = λ es p k ok. machine-promise es p k (valid-of es ok .order);
       offersBest = λ es book r. offers-best es book r (book-exact .sound es book r .0);

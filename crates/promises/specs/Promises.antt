@@ -7,7 +7,7 @@ use mathlib.Core.List.{List, [], _∷_}
 use mathlib.Core.Option.{Option, none, some}
 use lib.ListN.{drop, length}
 use Rattle.octets.specs.Lists.{_∈_}
-use Rattle.entries.specs.Completion.{BestList, completion}
+use Rattle.entries.specs.Completion.{BestList, TopK, completion}
 use Rattle.entries.specs.Entries.{Entry, valid}
 use Rattle.frame.specs.Frame.{Exact}
 use Rattle.answer.specs.Answers.{Answer, OfferedCounts, Outcome, WrittenCounts, counts, given, noneOffered, noneSpan}
@@ -75,8 +75,14 @@ pub record Promises : Type 0 where
   pub panelStays :
       (book : List ℕ) (p : Panel) (x n : ℕ) → press book p x .answer ≡ refused n → press book p x .panel ≡ p
   pub merging : (first second : List ℕ) → Writes (1 ∷ 5 ∷ 7 ∷ []) (mergeBooks first second)
-  -- DEMAND 2. It is the best list: no other list of different entries that the prefix begins, at most k and in falling
-  -- score order, is longer or has a higher score at any place.
+  -- DEMAND 2. A completion is the answer of the published top-k problem (source document 001, problem 1.2), ties
+  -- settled by rank, and the problem has no other answer.
+  pub topK : (es : List Entry) (p : List ℕ) (k : ℕ) → valid es ≡ true → TopK es p k (completion es p k)
+  pub noOther :
+      (es : List Entry) (p : List ℕ) (k : ℕ) (l : List Entry) → valid es ≡ true → TopK es p k l
+      → l ≡ completion es p k
+  -- It is the best list: no other of different entries that the prefix begins, at most k, in falling score order, is
+  -- longer or has a higher score at any place.
   pub bestList :
       (es : List Entry) (p : List ℕ) (k : ℕ) → valid es ≡ true → BestList es p k (completion es p k)
   -- The range machine offers it, with at most 2 × k − 1 looks, as many as there are matches where these are at most k.
