@@ -36,6 +36,7 @@ use Rattle.sheet.proofs.RoundTrip.{round-trips}
 use Rattle.panel.specs.declared.Panel.{Panel}
 use Rattle.panel.specs.Panel.{acts, appends, isListed, isTyped, lowered, panelOf, press, typingIn}
 use Rattle.panel.proofs.Refused.{press-refused}
+use Rattle.ledger.specs.Marked.{marked}
 use Rattle.ledger.proofs.Demand.{demand3, offers-best}
 use Rattle.script.proofs.Theorem.{refused-bench, run-ledgers}
 use Rattle.program.proofs.Cutting.{cut-alike}
@@ -99,6 +100,7 @@ promises =
       bestList = λ es p k ok. best-list es p k (valid-of es ok .order);
       machineOffers = λ es p k ok. machine-promise es p k (valid-of es ok .order);
       offersBest = λ es book r. offers-best es book r (book-exact .sound es book r .0);
+      shownOnTheBench = marked;
       bookRead = book-exact;
       trieRead = trie-exact;
       sheetRead = sheet-exact;

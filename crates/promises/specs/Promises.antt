@@ -1,5 +1,5 @@
--- Every promise on one page: the three demands and request a, in the order of documents 01 and 02. The value `promises`
--- in proofs/ proves them all.
+-- Every promise on one page: the three demands and request a, in the order and words of documents 01 and 02. One value
+-- proves them all, `promises` in proofs/Promises.antt.
 use Prim.Native.Nat.{_≤_, ℕ}
 use mathlib.Core.Path.{_≡_}
 use mathlib.Core.Bool.{true}
@@ -7,6 +7,7 @@ use mathlib.Core.List.{List, [], _∷_}
 use mathlib.Core.Option.{Option, none, some}
 use lib.ListN.{drop, length}
 use Rattle.octets.specs.Lists.{_∈_}
+use Rattle.octets.specs.Table.{failing}
 use Rattle.entries.specs.Completion.{BestList, TopK, completion}
 use Rattle.entries.specs.Entries.{Entry, valid}
 use Rattle.frame.specs.Frame.{Exact}
@@ -24,16 +25,17 @@ use Rattle.sheet.specs.Sheet.{RoundTrips, buildBook, listBook, readSheet, sheet
 use Rattle.panel.specs.declared.Panel.{Panel}
 use Rattle.panel.specs.Panel.{press}
 use Rattle.ledger.specs.Demand.{Demand3·all, OffersBest}
+use Rattle.ledger.specs.Marked.{table}
 use Rattle.script.specs.Theorem.{RefusedStays, RunLedgers}
 use Rattle.program.specs.Theorem.{CutAlike, InParts, InputSays, LinesSay, NeverSeven}
 use Rattle.merge.specs.Joined.{mergeBooks}
 use Rattle.merge.specs.Merged.{Merged·all}
 
--- An answer that is a refusal has one of these numbers, with all counts zero.
+-- A refusal returns one of these numbers, with all counts zero.
 abbrev pub Refuses : {A : Type 0} → A → List ℕ → Answer A → Type 0
 Refuses zeros numbers a = (n : ℕ) → a ≡ refused n → (n ∈ numbers) × (counts zeros a ≡ zeros)
 
--- A call that writes, as a function of its destination; `bytes` is what it reports to have written.
+-- A call that writes, as a function of its destination. `bytes` are those that it reports.
 pub record Leaves {A : Type 0} (zeros : A) (bytes : A → ℕ) (numbers : List ℕ) (call : List ℕ → Outcome A) : Type 0
   where
     pub refuses : (dst : List ℕ) → Refuses zeros numbers (call dst .answer)
@@ -44,7 +46,7 @@ pub record Leaves {A : Type 0} (zeros : A) (bytes : A → ℕ) (numbers : List �
         (dst : List ℕ) (a : A) → call dst .answer ≡ given a
         → (drop (bytes a) (call dst .dest) ≡ drop (bytes a) dst) × (length (call dst .dest) ≡ length dst)
 
--- a call that writes a book, a trie, a sheet or an entry, and one that completes, each with the numbers of its refusals
+-- a call that writes a book, a trie, a sheet or an entry, and one that completes, with the numbers of its refusals
 abbrev pub Writes : List ℕ → (List ℕ → Outcome WrittenCounts) → Type 0
 Writes numbers call = Leaves noneWritten (λ a. a .bytes) numbers call
 
@@ -53,9 +55,10 @@ Offers numbers call = Leaves noneOffered (λ a. a .bytes) numbers call
 
 pub record Promises : Type 0 where
   -- DEMAND 1. Any image, text, count, key or buffer gets an answer or a numbered refusal from every public call, which
-  -- always ends: that is each call's contract, which asks nothing and says that the call gives what is named here. A
-  -- refusal returns a number that 01's table gives that call, with all counts zero, and changes no lent byte; what is
-  -- lent to be read only cannot change.
+  -- always ends: that is each call's contract (docs/CONTRACTS.txt), which asks nothing of the arguments and says that
+  -- the call answers and leaves what the definition named here says.
+  -- A refusal returns a number that 01's table ("When a call declines") gives that call, with all counts zero, and
+  -- changes no lent byte. What is not lent to be written cannot change.
   pub emptying : Writes (7 ∷ []) emptyBook
   pub setting : (book w : List ℕ) (s : ℕ) → Writes (1 ∷ 2 ∷ 5 ∷ 7 ∷ []) (setEntry book w s)
   pub withdrawing : (book w : List ℕ) → Writes (1 ∷ 2 ∷ 4 ∷ 7 ∷ []) (withdrawEntry book w)
@@ -75,39 +78,41 @@ pub record Promises : Type 0 where
   pub panelStays :
       (book : List ℕ) (p : Panel) (x n : ℕ) → press book p x .answer ≡ refused n → press book p x .panel ≡ p
   pub merging : (first second : List ℕ) → Writes (1 ∷ 5 ∷ 7 ∷ []) (mergeBooks first second)
-  -- DEMAND 2. A completion is the answer of the published top-k problem (source document 001, problem 1.2), ties
-  -- settled by rank, and the problem has no other answer.
+  -- DEMAND 2. Completions are those of the published top-k problem (source document 001, problem 1.2), ties settled by
+  -- rank; the problem so settled has no other answer.
   pub topK : (es : List Entry) (p : List ℕ) (k : ℕ) → valid es ≡ true → TopK es p k (completion es p k)
   pub noOther :
       (es : List Entry) (p : List ℕ) (k : ℕ) (l : List Entry) → valid es ≡ true → TopK es p k l
       → l ≡ completion es p k
-  -- It is the best list: no other of different entries that the prefix begins, at most k, in falling score order, is
+  -- Each is the best list: no other of different entries that the prefix begins, at most k, in falling score order, is
   -- longer or has a higher score at any place.
   pub bestList :
       (es : List Entry) (p : List ℕ) (k : ℕ) → valid es ≡ true → BestList es p k (completion es p k)
-  -- The range machine offers it, with at most 2 × k − 1 looks, as many as there are matches where these are at most k.
+  -- The range machine offers it with at most 2 × k − 1 looks, which equal the matches where these are at most k.
   pub machineOffers : (es : List Entry) (p : List ℕ) (k : ℕ) → valid es ≡ true → MachineOffers es p k
-  -- Every buffer with a book of es offers it, and so does the trie written from that book.
+  -- Every buffer with the book of es at its front offers it, and so does the trie written from that book.
   pub offersBest : (es : List Entry) (book : List ℕ) → readBook book ≡ some es → OffersBest es book
-  -- Sheets, books and tries are read exactly when they are written as 01 lays them out, whatever stands behind them.
+  -- Sheets, books and tries are written as 01 lays them out (P1 to P10 and the line behind them, "Shown on the bench"),
+  pub shownOnTheBench : failing 0 table ≡ []
+  -- and read exactly when so written, whatever stands behind them.
   pub bookRead : Exact readBook bookImage
   pub trieRead : Exact readTrie trieImage
   pub sheetRead : Exact readSheet sheetImage
-  -- This says all of a reading: no other agrees with the images. So nothing of how a buffer is read has to be believed.
+  -- Images have one such reading. So nothing of how the three are defined has to be believed.
   pub oneReading :
       (image : List Entry → List ℕ) (r r′ : List ℕ → Option (List Entry)) → Exact r image → Exact r′ image
       → (buf : List ℕ) → r buf ≡ r′ buf
   -- A book never exceeds 55,559 bytes.
   pub bookLength : (es : List Entry) → valid es ≡ true → length (bookImage es) ≤ 55559
-  -- The head name is empty exactly where its companion refuses, else as long as that says.
+  -- A bucket's head name is empty exactly where the companion call refuses; else that call gives its length.
   pub headPart : (book : List ℕ) (j : ℕ) → HeadPart book j
-  -- Sheet to book to sheet, and book to sheet to book, give the same bytes.
+  -- Sheet → book → sheet and book → sheet → book give the same bytes.
   pub roundTrips : RoundTrips
-  -- DEMAND 3. For every list of sets and withdrawals, refused ones included, the book holds byte for byte the image of
-  -- the ledger's entries, every answer is the ledger's, and what the book and the trie written from it offer is the
-  -- best list.
+  -- DEMAND 3. For every list of set and withdraw calls, refused ones included, the book holds byte for byte the image
+  -- of the ledger's entries, every answer is the ledger's, refusals come exactly where 01's table says, and what the
+  -- book and the trie written from it offer is the best list. One theorem about whole histories.
   pub history : Demand3·all
-  -- A run of a history in code answers and leaves what the ledger says, and a refused call of it changes nothing.
+  -- A script of calls run on two lent buffers is such a history, and a refused call of it changes nothing.
   pub run : RunLedgers
   pub refusedStays : RefusedStays
   -- THE PROGRAM prints, for any input, what the ledger says of its lines, and leaves the ledger's book;
