@@ -12,7 +12,9 @@ use Rattle.answer.specs.Answers.{Answer, Check, given, refused, unless, 
 -- a refusal's number is that of one of the checks
 pub refused-number : {A : Type 0} (cs : List Check) (a : A) (n : ℕ) → unless cs a ≡ refused n
     → n ∈ map (λ c. c .number) cs
-refused-number {A} [] a n h = let z : _≡_ {A = Answer A} (given a) (refused n) = h in let y : _≡_ {A = ℕ} 0 1 = cc in
+refused-number {A} [] a n h =
+    let z : _≡_ {A = Answer A} (given a) (refused n) = h in
+    let y : _≡_ {A = ℕ} 0 1 = cc in
     absurd (omega arith)
 refused-number {A} (c ∷ cs) a n h =
     by-test (c .applies)

@@ -51,8 +51,8 @@ rank-strict (e ∷ f ∷ es) h =
 strict-rank : (es : List Entry) → strict es → inRank es ≡ true
 strict-rank [] s = refl
 strict-rank (e ∷ []) s = refl
-strict-rank (e ∷ f ∷ es) s = and-intro (outranks e f) (inRank (f ∷ es)) (s .0 f (inl refl)) (strict-rank (f
-    ∷ es) (s .1))
+strict-rank (e ∷ f ∷ es) s =
+    and-intro (outranks e f) (inRank (f ∷ es)) (s .0 f (inl refl)) (strict-rank (f ∷ es) (s .1))
 
 -- none of those taken is outranked by one that is left
 take-highest :

@@ -67,9 +67,8 @@ promises =
           (λ dst h. or-false (ltb (length dst) (entryRoom * k)) (ltb ranges k) h .0);
       writingTrie = λ book. writes _ _ _;
       completingFromTrie = λ trie p k.
-          offers (not (isRead (readTrie trie))) (λ dst. ltb (length dst) (entryRoom * k)) (entriesOf (readTrie trie)) p
-          k
-          0
+          offers (not (isRead (readTrie trie))) (λ dst. ltb (length dst) (entryRoom * k))
+          (entriesOf (readTrie trie)) p k 0
           (entries-valid readTrie trieImage trie-exact trie)
           (λ dst h. h);
       building = λ sheet. writes _ _ _;

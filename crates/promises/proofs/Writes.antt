@@ -24,7 +24,8 @@ use Rattle.answer.proofs.Entries.{completion-fits}
 use Rattle.completion.specs.Complete.{badCount, entryRoom, offeredAs}
 use Rattle.promises.specs.Promises.{Leaves, Offers, Refuses, Writes}
 
-abbrev pub numbersOf : List Check → List ℕ
+-- the numbers of checks
+abbrev numbersOf : List Check → List ℕ
 numbersOf cs = map (λ c. c .number) cs
 
 -- a refusal has the number of one of the checks
@@ -32,7 +33,7 @@ pub refuses : {A : Type 0} (zeros : A) (cs : List Check) (a : A) → Refuses zer
 refuses zeros cs a n h = (refused-number cs a n h, rw h)
 
 -- a call that writes bytes behind its checks, which see to it that they fit
-pub leaves :
+leaves :
     {A : Type 0} (zeros : A) (bytes : A → ℕ) (numbers : List ℕ) (cs : List ℕ → List Check) (a : A) (image : List ℕ)
     → bytes a ≡ length image → ((dst : List ℕ) → numbersOf (cs dst) ≡ numbers)
     → ((dst : List ℕ) → ((c : Check) → c ∈ cs dst → c .applies ≡ false) → length image ≤ length dst)
@@ -66,6 +67,7 @@ writes cs es image =
     (ok (7 when tooShort dst image)
     (in-append-right (7 when tooShort dst image) cs (7 when tooShort dst image ∷ []) (inl refl))))
 
+-- the checks of a completion
 abbrev offerChecks : Bool → List ℕ → ℕ → Bool → List Check
 offerChecks unread p k short =
     1 when unread ∷ 2 when not (isPrefix p) ∷ 3 when badCount k ∷ 7 when short ∷ []
