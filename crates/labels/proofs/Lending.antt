@@ -1,10 +1,14 @@
--- Between two lines, and between two reads: the lent buffers keep their lengths, and there is room for a line.
+-- Between two lines, and between two reads: the lent buffers keep their lengths, there is room for a line, and the
+-- console that they hold is the one that the bytes used lead to.
 use Prim.Native.Nat.{_+_, _≤_, ℕ}
-use mathlib.Core.Path.{_∙_, _≡_, refl}
+use mathlib.Core.Path.{_∙_, _≡_, ap, refl, subst, sym}
+use mathlib.Core.Bool.{Bool}
 use mathlib.Core.List.{List}
-use lib.ListN.{drop, length, length-drop}
+use lib.ListN.{drop, length, length-drop, take, take-append-drop}
+use lib.Seq.{drop-drop, drop-length, length-take-le}
 use native.Mathlib.Omega.{arith}
-use Rattle.program.specs.Console.{Console, keptBytes}
+use Rattle.program.specs.Console.{BytesFed, Console, consoleAfter, consoleIn, keptBytes}
+use Rattle.program.proofs.Input.{in-parts}
 use Rattle.program_run.specs.Feed.{FeedDone, FeedRoom}
 use Rattle.program_run.specs.declared.Fed.{Fed}
 
@@ -34,8 +38,42 @@ ready-on k f a b c e =
       outSize = e ∙ k .outSize;
     }
 
--- what a feed of what is left of a part uses lies within it
-pub fed-within :
-    (part : List ℕ) (used : ℕ) → used ≤ length part → {s : Console} {out : List ℕ} {r : Fed} {l one two left : List ℕ}
-    → FeedDone (drop used part) s out r l one two left → used + r .used ≤ length part
-fed-within part used h d = omega (arith, d .within, length-drop used part)
+-- Within a part: what is left of it, fed to the console t, leads where all of it leads from the console s.
+pub record Feeding (part : List ℕ) (s : Console) (used : ℕ) (t : Console) : Type 0 where
+  pub within : used ≤ length part
+  pub leads : consoleAfter (drop used part) t ≡ consoleAfter part s
+
+pub feeding-start : (part : List ℕ) (s : Console) → Feeding part s 0 s
+feeding-start part s = record { within = omega arith; leads = refl }
+
+module _ {part : List ℕ} {s : Console} {used : ℕ} {t : Console} (f : Feeding part s used t) where
+  pub feeding-on :
+      {out : List ℕ} {r : Fed} {line one two left : List ℕ} → FeedDone (drop used part) t out r line one two left
+      → Feeding part s (used + r .used) (consoleIn (r .kept) (r .turned) line one two)
+  feeding-on {r = r} d =
+      let rest = drop used part in
+      let n = r .used in
+      record {
+        within = omega (arith, d .within, f .within, length-drop used part);
+        leads =
+            ap (consoleAfter (drop (used + n) part)) (d .state)
+            ∙ ap (λ l. consoleAfter l (consoleAfter (take n rest) t)) (sym (drop-drop n used part))
+            ∙ sym (in-parts (take n rest) (drop n rest) t .0)
+            ∙ ap (λ l. consoleAfter l t) (take-append-drop n rest)
+            ∙ f .leads;
+      }
+
+  pub feeding-end : length part ≤ used → t ≡ consoleAfter part s
+  feeding-end h =
+      let e : used ≡ length part = omega (arith, f .within) in
+      ap (λ l. consoleAfter l t) (sym (drop-length part) ∙ ap (λ n. drop n part) (sym e)) ∙ f .leads
+
+-- the first n bytes of the input were fed, and got of them are told
+pub fed-read :
+    (input : List ℕ) {n got : ℕ} → n ≤ length input → got ≡ length (take n input)
+    → {s : Console} {kept : ℕ} {turned : Bool} {line one two : List ℕ}
+    → BytesFed (take n input) s kept turned line one two
+    → BytesFed (take got input) s kept turned line one two × (got ≤ length input)
+fed-read input {n} {got} h e {s} {kept} {turned} {line} {one} {two} d =
+    let z : got ≡ n = e ∙ length-take-le n input h in
+    (subst (λ k. BytesFed (take k input) s kept turned line one two) (sym z) d, omega arith)

@@ -4,22 +4,25 @@
 use limits::BUFFER_LENGTH;
 use limits::KEPT_BYTES;
 use limits::LINE_ROOM;
+ghost use mathlib.Core.Path.{_≡_};
+ghost use mathlib.Core.Bool.{false};
 ghost use Prim.Native.Nat.{_≤_};
+ghost use lib.ListN.{length, take};
 ghost use Rattle.program_run.specs.Feed.{FeedRoom};
-ghost use Rattle.program.specs.Console.{keptBytes};
+ghost use Rattle.program.specs.Console.{BytesFed, SomeFed, consoleIn};
 
 // The bytes that are read at a time.
 const INPUT_ROOM: usize = 65536;
 
-// Between two reads: the bytes kept of the line begun, whether the second buffer holds the book, and whether the input
-// goes on.
+// Between two reads: the bytes kept of the line begun, whether the second buffer holds the book, and the bytes that the
+// last read gave, none at the input's end.
 struct State {
     kept: usize,
     turned: bool,
-    open: bool,
+    got: usize,
 }
 
-// Feeds a part of the input, and writes what it prints.
+// Feeds a part of the input, all of it, and writes what it prints.
 fn answer_part(
     part: &[u8],
     s: State,
@@ -29,7 +32,10 @@ fn answer_part(
     out: &mut [u8],
 ) -> State
     requires { ⌜ FeedRoom (s .kept) (now line) (now out) ⌝ }
-    ensures { λ r. ⌜ r .kept ≤ keptBytes ⌝ }
+    ensures is { λ r. ⌜ BytesFed (now (part .entry))
+        (consoleIn (s .kept) (s .turned) (now (line .entry)) (now (first .entry)) (now (second .entry)))
+        (r .kept) (r .turned) (now (line .exit)) (now (first .exit)) (now (second .exit)) ⌝ }
+    ensures got { λ r. ⌜ r .got ≡ length (now (part .entry)) ⌝ }
 {
     let mut used = 0;
     let mut kept = s.kept;
@@ -45,11 +51,11 @@ fn answer_part(
     State {
         kept: kept,
         turned: turned,
-        open: true,
+        got: part.len(),
     }
 }
 
-// Reads once, and answers what was read.
+// Reads once, and answers what was read: the bytes that stand at the front of `input` afterwards.
 fn read_part(
     input: &mut [u8],
     s: State,
@@ -59,22 +65,19 @@ fn read_part(
     out: &mut [u8],
 ) -> State
     requires { ⌜ FeedRoom (s .kept) (now line) (now out) ⌝ }
-    ensures { λ r. ⌜ r .kept ≤ keptBytes ⌝ }
+    ensures is { λ r. ⌜ BytesFed (take (r .got) (now (input .exit)))
+        (consoleIn (s .kept) (s .turned) (now (line .entry)) (now (first .entry)) (now (second .entry)))
+        (r .kept) (r .turned) (now (line .exit)) (now (first .exit)) (now (second .exit)) ⌝ }
+    ensures got { λ r. ⌜ r .got ≤ length (now (input .exit)) ⌝ }
 {
     let got = libc::read(0, input);
     let n = io::count(got, input);
-    if n == 0 {
-        return State {
-            kept: s.kept,
-            turned: s.turned,
-            open: false,
-        };
-    }
     answer_part(&input[..n], s, line, first, second, out)
 }
 
 // Reads to the end of the input. A proved loop has to end, so it counts its reads down from a number that no run uses
-// up.
+// up. The contract only says that there are bytes, all that was read, one read behind the other: each read overwrites
+// `input`, so no buffer holds them all in the end.
 fn read_all(
     input: &mut [u8],
     line: &mut [u8],
@@ -83,15 +86,16 @@ fn read_all(
     out: &mut [u8],
 ) -> State
     requires { ⌜ FeedRoom 0 (now line) (now out) ⌝ }
-    ensures { λ r. ⌜ r .kept ≤ keptBytes ⌝ }
+    ensures { λ r. ⌜ SomeFed (consoleIn 0 false (now (line .entry)) (now (first .entry)) (now (second .entry)))
+        (r .kept) (r .turned) (now (line .exit)) (now (first .exit)) (now (second .exit)) ⌝ }
 {
     let mut reads = u64::MAX;
     let mut s = State {
         kept: 0,
         turned: false,
-        open: true,
+        got: input.len(),
     };
-    while reads > 0 && s.open {
+    while reads > 0 && s.got > 0 {
         s = read_part(input, s, line, first, second, out);
         reads -= 1;
     }

@@ -1,7 +1,7 @@
 -- The program on a whole input, byte by byte: the lines of the input, and the one begun.
-use Prim.Native.Nat.{_+_, _-_, ℕ}
+use Prim.Native.Nat.{_+_, _-_, _≤_, ℕ}
 use mathlib.Core.Path.{_∙_, _≡_, ap, refl, subst, sym}
-use mathlib.Core.Bool.{false, true}
+use mathlib.Core.Bool.{Bool, false, true}
 use mathlib.Core.List.{List, [], _++_, _∷_, append-assoc, append-nil}
 use lib.Dec.{eqb, eqb·suc-zero}
 use lib.ListN.{length, take}
@@ -14,7 +14,7 @@ use Rattle.ledger.proofs.History.{Holds}
 use Rattle.script.specs.Run.{Bench, buffersOf, startBench}
 use Rattle.program.specs.Program.{bufferLength, commandOf, heldAfter, lines, outputOf, printed, program}
 use Rattle.program.specs.Console.{Console, benchLast, console, consoleAfter, fedBy, inLine, keptBytes, leftBy}
-use Rattle.program.specs.Console.{saidAt, saidFor, saidLast, shownBy}
+use Rattle.program.specs.Console.{BytesFed, SomeFed, consoleIn, saidAt, saidFor, saidLast, shownBy}
 use Rattle.program.specs.Theorem.{InParts, InputSays, heldFor, startConsole}
 use Rattle.program.proofs.Cutting.{after-append, cut-alike, said-append, take-twice}
 use Rattle.program.proofs.Theorem.{holds-stands, line-goes, start-bench}
@@ -137,3 +137,22 @@ input-says input a b p q =
 -- input fed in two parts is as fed at once
 pub in-parts : InParts
 in-parts xs ys s = (after-append xs ys s, said-append xs ys s)
+
+-- no byte fed, and bytes fed behind others
+pub fed-none : (kept : ℕ) (turned : Bool) (line one two : List ℕ) → kept ≤ keptBytes
+    → SomeFed (consoleIn kept turned line one two) kept turned line one two
+fed-none kept turned line one two f = record { bytes = []; fed = record { few = f; state = refl } }
+
+pub fed-more :
+    {s : Console} {kept : ℕ} {turned : Bool} {line one two : List ℕ} → SomeFed s kept turned line one two
+    → {xs : List ℕ} {k : ℕ} {t : Bool} {l a b : List ℕ} → BytesFed xs (consoleIn kept turned line one two) k t l a b
+    → SomeFed s k t l a b
+fed-more {s = s} d {xs} e =
+    record {
+      bytes = d .bytes ++ xs;
+      fed =
+          record {
+            few = e .few;
+            state = e .state ∙ ap (consoleAfter xs) (d .fed .state) ∙ sym (after-append (d .bytes) xs s);
+          };
+    }

@@ -1,6 +1,7 @@
 -- The program as it runs: what one command prints and leaves on two buffers, and input fed byte by byte, of whose lines
 -- 64 bytes are kept.
-use Prim.Native.Nat.{_+_, ℕ}
+use Prim.Native.Nat.{_+_, _≤_, ℕ}
+use mathlib.Core.Path.{_≡_}
 use mathlib.Core.Bool.{Bool, not}
 use mathlib.Core.List.{List, [], _++_, _∷_}
 use lib.Dec.{eqb}
@@ -65,6 +66,21 @@ consoleAfter (x ∷ xs) s = consoleAfter xs (fedBy x s)
 abbrev pub saidFor : List ℕ → Console → List ℕ
 saidFor [] s = []
 saidFor (x ∷ xs) s = saidAt x s ++ saidFor xs (fedBy x s)
+
+-- the console that lent buffers hold: `kept` bytes of the line begun stand in `line`, and `turned` says that the book
+-- is in the second of the other two
+abbrev pub consoleIn : ℕ → Bool → List ℕ → List ℕ → List ℕ → Console
+consoleIn kept turned line one two = console (take kept line) (bench one two turned)
+
+-- the bytes xs were fed to the console s: the lent buffers hold the console after them
+pub record BytesFed (xs : List ℕ) (s : Console) (kept : ℕ) (turned : Bool) (line one two : List ℕ) : Type 0 where
+  pub few : kept ≤ keptBytes
+  pub state : consoleIn kept turned line one two ≡ consoleAfter xs s
+
+-- there are bytes of which this is so
+pub record SomeFed (s : Console) (kept : ℕ) (turned : Bool) (line one two : List ℕ) : Type 0 where
+  pub bytes : List ℕ
+  pub fed : BytesFed bytes s kept turned line one two
 
 -- the end of the input: a line begun is carried out
 abbrev pub saidLast : Console → List ℕ

@@ -1,21 +1,23 @@
--- `labels::answer_part` is safe, ends, and keeps at most 64 bytes of a line. The loop's invariant: the buffers keep
--- their lengths, and there is room for a line. The measure is what is left of the part. Assumes nothing.
+-- `labels::answer_part` meets its contract. The loop's invariant: what is left of the part, fed to the console that the
+-- buffers hold, leads where all of it leads from the start; the buffers keep their lengths, and there is room for a
+-- line. The measure is what is left of the part. Assumes nothing.
 use Prim.Native.Nat.{_+_, _-_, _≤_}
-use mathlib.Core.Path.{sym}
+use mathlib.Core.Path.{refl, sym}
 use lib.ListN.{drop, length, length-drop, take}
 use lib.Seq.{length-take-le}
 use native.Mathlib.Omega.{arith}
 use Rattle.octets.proofs.Stores.{to-end}
 use Rattle.script.specs.Run.{bench}
 use Rattle.program_run.specs.Feed.{FeedDone}
-use Rattle.program.specs.Console.{console}
-use Rattle.labels.proofs.Lending.{Ready, fed-within, ready-on, ready-start}
+use Rattle.program.specs.Console.{consoleIn}
+use Rattle.labels.proofs.Lending.{Feeding, Ready, feeding-end, feeding-on, feeding-start, ready-on, ready-start}
 use Rattle.labels.proofs.answer_part.Statement.{statement}
 use Rattle.labels.proofs.answer_part.Tie as tie
 
 abbrev Inv-loop : tie.InvT-loop
 Inv-loop part line₀ first₀ second₀ out₀ used₀ kept₀ turned₀ line first second out used kept turned =
-    (used ≤ length part) × Ready line₀ first₀ second₀ out₀ line first second out kept
+    Feeding part (consoleIn kept₀ turned₀ line₀ first₀ second₀) used (consoleIn kept turned line first second)
+    × Ready line₀ first₀ second₀ out₀ line first second out kept
 
 abbrev μ-loop : tie.MeasureT-loop
 μ-loop part line₀ first₀ second₀ out₀ used₀ kept₀ turned₀ line first second out used kept turned =
@@ -52,7 +54,7 @@ did :
     → let l = turn f .before in
     let k = f .feed .last .1 .1 .1 in
     FeedDone (drop (l .loop .used) (begin-of-at-loop l .args .part .now))
-    (console (take (l .loop .kept) (l .loop .line)) (bench (l .loop .first) (l .loop .second) (l .loop .turned)))
+    (consoleIn (l .loop .kept) (l .loop .turned) (l .loop .line) (l .loop .first) (l .loop .second))
     (l .loop .out) (f .feed .result)
     (k .0) (k .1 .0) (k .1 .1 .0) (k .1 .1 .1 .0)
 did f =
@@ -60,19 +62,21 @@ did f =
     rw (to-end (begin-of-at-loop l .args .part .now) (l .loop .used)) at
     (f .feed .ensures)
 
-used-within :
+-- the console after it
+gone :
     (f : tie.After-feed Inv-loop μ-loop)
     → let l = turn f .before in
-    l .loop .used + f .feed .result .used ≤ length (begin-of-at-loop l .args .part .now)
-used-within f =
-    let l = turn f .before in
-    fed-within (begin-of-at-loop l .args .part .now) (l .loop .used) (l .loop .inv .0)
-    (did f)
+    let k = f .feed .last .1 .1 .1 in
+    let s = begin-of-at-loop l .args in
+    Feeding (s .part .now) (consoleIn (s .s .kept) (s .s .turned) (s .line .now) (s .first .now) (s .second .now))
+    (l .loop .used + f .feed .result .used)
+    (consoleIn (f .feed .result .kept) (f .feed .result .turned) (k .0) (k .1 .0) (k .1 .1 .0))
+gone f = feeding-on (turn f .before .loop .inv .0) (did f)
 
 loop-holds : tie.Need-loop-holds Inv-loop μ-loop
 loop-holds c =
     let s = begin c in
-    (omega arith, ready-start (s .args .first .now) (s .args .second .now) (s .pre))
+    (feeding-start _ _, ready-start (s .args .first .now) (s .args .second .now) (s .pre))
 
 sub-feed : tie.Need-sub-feed Inv-loop μ-loop
 sub-feed c = omega arith
@@ -104,7 +108,7 @@ write-all-requires c κs = tt
 add-used : tie.Need-add-used Inv-loop μ-loop
 add-used c =
     let f = after-feed-of-struct-known c in
-    omega (arith, used-within f, part-known (turn f .before))
+    omega (arith, gone f .within, part-known (turn f .before))
 
 loop-less : tie.Need-loop-less Inv-loop μ-loop
 loop-less c =
@@ -114,13 +118,13 @@ loop-less c =
     let part = begin-of-at-loop l .args .part .now in
     let h = i .loop-test .taken in
     let a = did f .ahead (omega (arith, length-drop (l .loop .used) part)) in
-    omega (arith, used-within f)
+    omega (arith, gone f .within)
 
 loop-again : tie.Need-loop-again Inv-loop μ-loop
 loop-again c =
     let f = after-feed-of-struct-known c in
     let k = f .feed .kept .1 .1 .1 in
-    (used-within f, ready-on (turn f .before .loop .inv .1) (did f .few) (k .0) (k .1 .0) (k .1 .1 .0) (k .1 .1 .1 .0))
+    (gone f, ready-on (turn f .before .loop .inv .1) (did f .few) (k .0) (k .1 .0) (k .1 .1 .0) (k .1 .1 .1 .0))
 
 same-length : tie.Need-same-length Inv-loop μ-loop
 same-length c = c .before .loop .inv .1 .lineSize
@@ -135,7 +139,9 @@ same-length-4 : tie.Need-same-length-4 Inv-loop μ-loop
 same-length-4 c = c .before .loop .inv .1 .outSize
 
 returns : tie.Need-returns Inv-loop μ-loop
-returns c = c .before .loop .inv .1 .room .few
+returns c =
+    let i = c .before .loop .inv in
+    (record { few = i .1 .room .few; state = feeding-end (i .0) (c .loop-test .left) }, refl)
 
 pub answer-part-spec : {M : Type 1} → statement M
 answer-part-spec =
