@@ -15,8 +15,8 @@ use Rattle.entries.proofs.TopK.{top-k, top-k-only}
 use Rattle.entries.proofs.Valid.{valid-of}
 use Rattle.frame.specs.Frame.{entriesOf, isRead}
 use Rattle.frame.proofs.Frame.{entries-valid, same-reading}
-use Rattle.answer.specs.Answers.{_when_, noneSpan}
-use Rattle.book.specs.Book.{bookImage, inBook, isBook, readBook}
+use Rattle.answer.specs.Answers.{_when_, nonePlayed, noneSpan, noneWritten}
+use Rattle.book.specs.Book.{bookImage, inBook, isBook, readBook, reported}
 use Rattle.book.specs.Records.{bucketSize}
 use Rattle.book.proofs.Reading.{book-exact}
 use Rattle.book.proofs.Size.{book-length}
@@ -38,7 +38,8 @@ use Rattle.panel.specs.Panel.{acts, appends, isListed, isTyped, lowered, panelO
 use Rattle.panel.proofs.Refused.{press-refused}
 use Rattle.ledger.specs.Marked.{marked}
 use Rattle.ledger.proofs.Demand.{demand3, offers-best}
-use Rattle.script.proofs.Theorem.{refused-bench, run-ledgers}
+use Rattle.script.specs.Run.{runChecks, runOf}
+use Rattle.script.proofs.Theorem.{refused-bench, run-ledgers, run-refused}
 use Rattle.program.proofs.Cutting.{cut-alike}
 use Rattle.program.proofs.Input.{in-parts, input-says}
 use Rattle.program.proofs.Theorem.{lines-say, never-seven}
@@ -54,7 +55,7 @@ afterKey book p x =
 
 pub promises : Promises
 unfolding emptyBook setEntry withdrawEntry completeBook writeTrie completeTrie buildBook listBook checkBook find nameAt
-    nameOf prefixRange headLength press mergeBooks
+    nameOf prefixRange headLength press mergeBooks runOf
 promises =
     record {
       emptying = writes _ _ _;
@@ -73,7 +74,7 @@ promises =
           (λ dst h. h);
       building = λ sheet. writes _ _ _;
       listing = λ book. writes _ _ _;
-      checking = λ book. refuses 0 (1 when not (isBook book) ∷ []) (length (inBook book));
+      checking = λ book. refuses noneWritten (1 when not (isBook book) ∷ []) (reported (inBook book));
       finding = λ book w. refuses none (1 when not (isBook book) ∷ 2 when not (isName w)
           ∷ []) (foundIn w (inBook book));
       entryAt = λ book i. writes _ _ _;
@@ -94,6 +95,8 @@ promises =
           (afterKey book p x .rows);
       panelStays = press-refused;
       merging = λ first second. writes _ _ _;
+      running = λ script a b out. refuses nonePlayed (runChecks script a b out) _;
+      runStays = λ script a b out n h. run-refused script a b out n h;
       topK = λ es p k ok. top-k es p k (valid-of es ok .order);
       noOther = λ es p k l ok. top-k-only es p k (valid-of es ok .order) l;
       bestList = λ es p k ok. best-list es p k (valid-of es ok .order);

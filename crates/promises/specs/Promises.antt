@@ -11,8 +11,8 @@ use Rattle.octets.specs.Table.{failing}
 use Rattle.entries.specs.Completion.{BestList, TopK, completion}
 use Rattle.entries.specs.Entries.{Entry, valid}
 use Rattle.frame.specs.Frame.{Exact}
-use Rattle.answer.specs.Answers.{Answer, OfferedCounts, Outcome, WrittenCounts, counts, given, noneOffered, noneSpan}
-use Rattle.answer.specs.Answers.{noneWritten, refused}
+use Rattle.answer.specs.Answers.{Answer, OfferedCounts, Outcome, WrittenCounts, counts, given, noneOffered, nonePlayed}
+use Rattle.answer.specs.Answers.{noneSpan, noneWritten, refused}
 use Rattle.book.specs.Book.{bookImage, readBook}
 use Rattle.lookup.specs.Lookups.{HeadPart, checkBook, find, headLength, nameAt, nameOf, prefixRange}
 use Rattle.edit.specs.Edits.{emptyBook, setEntry, withdrawEntry}
@@ -26,6 +26,7 @@ use Rattle.panel.specs.declared.Panel.{Panel}
 use Rattle.panel.specs.Panel.{press}
 use Rattle.ledger.specs.Demand.{Demand3·all, OffersBest}
 use Rattle.ledger.specs.Marked.{table}
+use Rattle.script.specs.Run.{runOf}
 use Rattle.script.specs.Theorem.{RefusedStays, RunLedgers}
 use Rattle.program.specs.Theorem.{CutAlike, InParts, InputSays, LinesSay, NeverSeven}
 use Rattle.merge.specs.Joined.{mergeBooks}
@@ -68,7 +69,7 @@ pub record Promises : Type 0 where
   pub completingFromTrie : (trie p : List ℕ) (k : ℕ) → Offers (1 ∷ 2 ∷ 3 ∷ 7 ∷ []) (completeTrie trie p k)
   pub building : (sheet : List ℕ) → Writes (1 ∷ 7 ∷ []) (buildBook sheet)
   pub listing : (book : List ℕ) → Writes (1 ∷ 7 ∷ []) (listBook book)
-  pub checking : (book : List ℕ) → Refuses 0 (1 ∷ []) (checkBook book)
+  pub checking : (book : List ℕ) → Refuses noneWritten (1 ∷ []) (checkBook book)
   pub finding : (book w : List ℕ) → Refuses none (1 ∷ 2 ∷ []) (find book w)
   pub entryAt : (book : List ℕ) (i : ℕ) → Writes (1 ∷ 6 ∷ 7 ∷ []) (nameAt book i)
   pub entryOf : (book w : List ℕ) → Writes (1 ∷ 2 ∷ 4 ∷ 7 ∷ []) (nameOf book w)
@@ -78,6 +79,10 @@ pub record Promises : Type 0 where
   pub panelStays :
       (book : List ℕ) (p : Panel) (x n : ℕ) → press book p x .answer ≡ refused n → press book p x .panel ≡ p
   pub merging : (first second : List ℕ) → Writes (1 ∷ 5 ∷ 7 ∷ []) (mergeBooks first second)
+  pub running : (script a b out : List ℕ) → Refuses nonePlayed (1 ∷ 7 ∷ []) (runOf script a b out .answer)
+  pub runStays :
+      (script a b out : List ℕ) (n : ℕ) → runOf script a b out .answer ≡ refused n
+      → (runOf script a b out .first ≡ a) × (runOf script a b out .second ≡ b) × (runOf script a b out .out ≡ out)
   -- DEMAND 2. Completions are those of the published top-k problem (source document 001, problem 1.2), ties settled by
   -- rank; the problem so settled has no other answer.
   pub topK : (es : List Entry) (p : List ℕ) (k : ℕ) → valid es ≡ true → TopK es p k (completion es p k)
@@ -112,7 +117,7 @@ pub record Promises : Type 0 where
   -- of the ledger's entries, every answer is the ledger's, refusals come exactly where 01's table says, and what the
   -- book and the trie written from it offer is the best list. One theorem about whole histories.
   pub history : Demand3·all
-  -- A script of calls run on two lent buffers is such a history, and a refused call of it changes nothing.
+  -- So it is of its run in code: a script of calls run on two lent buffers, of which a refused call changes nothing.
   pub run : RunLedgers
   pub refusedStays : RefusedStays
   -- THE PROGRAM prints, for any input, what the ledger says of its lines, and leaves the ledger's book;

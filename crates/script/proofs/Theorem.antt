@@ -160,3 +160,10 @@ module _ (script a b out : List ℕ) (p : PlayedCounts) (h : runOf script a b ou
 
 pub run-ledgers : RunLedgers
 run-ledgers script a b out p k h = ledgers script a b out p h k
+
+-- a refused run changes no lent byte
+pub run-refused :
+    (script a b out : List ℕ) (n : ℕ) → runOf script a b out .answer ≡ refused n
+    → (runOf script a b out .first ≡ a) × (runOf script a b out .second ≡ b) × (runOf script a b out .out ≡ out)
+unfolding runOf
+run-refused script a b out n h = (rw h, rw h, rw h)
