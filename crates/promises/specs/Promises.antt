@@ -59,7 +59,8 @@ pub record Promises : Type 0 where
   -- always ends: that is each call's contract (docs/CONTRACTS.txt), which asks nothing of the arguments and says that
   -- the call answers and leaves what the definition named here says.
   -- A refusal returns a number that 01's table ("When a call declines") gives that call, with all counts zero, and
-  -- changes no lent byte. What is not lent to be written cannot change.
+  -- changes no lent byte: what is not lent to be written cannot change, and the lent ranges stay by the contract of
+  -- `complete` (`Lent`).
   pub emptying : Writes (7 ∷ []) emptyBook
   pub setting : (book w : List ℕ) (s : ℕ) → Writes (1 ∷ 2 ∷ 5 ∷ 7 ∷ []) (setEntry book w s)
   pub withdrawing : (book w : List ℕ) → Writes (1 ∷ 2 ∷ 4 ∷ 7 ∷ []) (withdrawEntry book w)
