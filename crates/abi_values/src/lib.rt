@@ -38,11 +38,11 @@ pub fn tell_checked(w: Checked, entries: &mut usize, bytes: &mut usize) -> u8
     match w {
         Checked::Refused(n) => n,
         Checked::Holds {
-            entries: e,
-            bytes: b,
+            entries: held,
+            bytes: size,
         } => {
-            *entries = e;
-            *bytes = b;
+            *entries = held;
+            *bytes = size;
             0
         }
     }

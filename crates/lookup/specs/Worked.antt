@@ -14,7 +14,7 @@ use Rattle.answer.specs.Answers.{entryBytes, writing, writingImage}
 use Rattle.book.specs.Book.{bookImage, entriesIn, imageIn, offset, offsets, peak, peaks, readBook, readIn, recordsAt}
 use Rattle.book.specs.Book.{scores}
 use Rattle.frame.specs.Frame.{countOf, framed, readAs}
-use Rattle.lookup.specs.Lookups.{find, foundIn, headLength, headName, nameAt, nameOf, prefixRange}
+use Rattle.lookup.specs.Lookups.{checkBook, find, foundIn, headLength, headName, nameAt, nameOf, prefixRange}
 use Rattle.book.specs.Shown.{P1, P3, P4, answerEntry, changed, seventeenBook, shownFound, shownLength, shownSpan}
 use Rattle.book.specs.Shown.{shownWritten, spare}
 
@@ -96,11 +96,28 @@ heads =
     ∷ (headOf (take 43 P3) 1 gives (1 ∷ 0 ∷ []))
     ∷ []
 
+-- a check's answer as numbers: the refusal or 0, then entries and bytes
+abbrev checked : List ℕ → List ℕ
+checked book = shownWritten (record { answer = checkBook book; dest = [] })
+
+abbrev checks : List Row
+checks =
+    -- the bytes are the image's, whatever stands behind it
+    (checked P3 gives (0 ∷ 4 ∷ 44 ∷ []))
+    ∷ (checked (P3 ++ spare 3) gives (0 ∷ 4 ∷ 44 ∷ []))
+    ∷ (checked P1 gives (0 ∷ 0 ∷ 7 ∷ []))
+    -- cut off, an old peak, a trie, nothing
+    ∷ (checked (take 43 P3) gives (1 ∷ 0 ∷ 0 ∷ []))
+    ∷ (checked (changed P3 26 (1 ∷ [])) gives (1 ∷ 0 ∷ 0 ∷ []))
+    ∷ (checked P4 gives (1 ∷ 0 ∷ 0 ∷ []))
+    ∷ (checked [] gives (1 ∷ 0 ∷ 0 ∷ []))
+    ∷ []
+
 abbrev table : List Row
-table = finding ++ naming ++ ranges ++ heads
+table = finding ++ naming ++ ranges ++ heads ++ checks
 
 worked : failing 0 table ≡ []
 unfolding be fromBe allowedBytes isPrefix isName isScore valid rangeStart recordOf recordName recordLength framed
     countOf readAs scores peak peaks recordsAt offset offsets imageIn entriesIn readIn bookImage readBook writing
-    writingImage entryBytes find foundIn nameAt nameOf prefixRange headLength headName
+    writingImage entryBytes find foundIn nameAt nameOf prefixRange headLength headName checkBook
 worked = refl

@@ -3,7 +3,7 @@ use Prim.Native.Nat.{_*_, _≤_, suc, zero, ℕ}
 use mathlib.Core.Path.{_∙_, _≡_, ap, refl, sym}
 use mathlib.Core.Logic.{inl, inr}
 use mathlib.Core.Bool.{Bool, _||_, false, not, true}
-use mathlib.Core.List.{List, [], _++_, _∷_}
+use mathlib.Core.List.{List, [], _∷_}
 use mathlib.Core.Option.{Option, none, some}
 use lib.Dec.{eqb, ltb}
 use lib.ListN.{drop, getD, length}
@@ -13,7 +13,6 @@ use borrow.Author.Tests.{eqb-true, ltb-false, not-false}
 use Rattle.ledger.specs.History as history
 use Rattle.octets.specs.Lists.{all, concatMap, if_then_else_}
 use Rattle.octets.specs.Octets.{numberAt, overwrite}
-use Rattle.octets.proofs.Count.{count}
 use Rattle.octets.proofs.Numbers.{Bytes, bytes-drop, number-below}
 use Rattle.octets.proofs.Tests.{and-intro, by-test, or-false}
 use Rattle.answer.specs.Answers.{Answer, PlayedCounts, WrittenCounts, given, refused}

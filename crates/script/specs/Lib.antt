@@ -1,3 +1,4 @@
 pub mod Run
 pub mod Script
 pub mod Theorem
+pub mod Worked

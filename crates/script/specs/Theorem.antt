@@ -34,5 +34,6 @@ RefusedStays = (c : Edit) (b : Bench) (n : ℕ) → benchCall c b .answer ≡ re
 -- every script of bytes, every two buffers and every answers slice that the run does not refuse
 abbrev pub RunLedgers : Type 0
 RunLedgers =
-    (script a b out : List ℕ) (p : PlayedCounts) → ((i : ℕ) → getD script i 0 < 256) → runOf script a b out .answer ≡ given p
+    (script a b out : List ℕ) (p : PlayedCounts) → ((i : ℕ) → getD script i 0 < 256)
+    → runOf script a b out .answer ≡ given p
     → Ledgers (length a) (callsOf (calls script)) out p (runOf script a b out)

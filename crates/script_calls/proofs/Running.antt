@@ -45,7 +45,8 @@ module _ (script a b out : List ℕ) where
     pub run-short : length a < 7 → finishOf (played.Refused 7) a b out ≡ runOf script a b out
     run-short h = too-small (rw (lt-ltb (length a) 7 h))
 
-    pub run-uneven : 7 ≤ length a → (length b ≡ length a → ⊥) → finishOf (played.Refused 7) a b out ≡ runOf script a b out
+    pub run-uneven : 7 ≤ length a → (length b ≡ length a → ⊥)
+        → finishOf (played.Refused 7) a b out ≡ runOf script a b out
     run-uneven l h = too-small (rw (le-ltb (length a) 7 l, ne-eqb (length b) (length a) h))
 
     module _ (l : 7 ≤ length a) (s : length b ≡ length a) where

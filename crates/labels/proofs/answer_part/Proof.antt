@@ -1,13 +1,12 @@
 -- `labels::answer_part` meets its contract. The loop's invariant: what is left of the part, fed to the console that the
 -- buffers hold, leads where all of it leads from the start; the buffers keep their lengths, and there is room for a
 -- line. The measure is what is left of the part. Assumes nothing.
-use Prim.Native.Nat.{_+_, _-_, _≤_}
+use Prim.Native.Nat.{_+_, _-_}
 use mathlib.Core.Path.{refl, sym}
 use lib.ListN.{drop, length, length-drop, take}
 use lib.Seq.{length-take-le}
 use native.Mathlib.Omega.{arith}
 use Rattle.octets.proofs.Stores.{to-end}
-use Rattle.script.specs.Run.{bench}
 use Rattle.program_run.specs.Feed.{FeedDone}
 use Rattle.program.specs.Console.{consoleIn}
 use Rattle.labels.proofs.Lending.{Feeding, Ready, feeding-end, feeding-on, feeding-start, ready-on, ready-start}

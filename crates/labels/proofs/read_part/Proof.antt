@@ -1,7 +1,5 @@
 -- `labels::read_part` meets its contract: the bytes that the read gave are those of the part answered.
 -- No loop, so no invariant. Assumes nothing but what reading gives.
-use mathlib.Core.Path.{_∙_, _≡_, sym}
-use native.Mathlib.Omega.{arith}
 use borrow.Author.Needs.{needs}
 use Rattle.labels.proofs.Lending.{fed-read}
 use Rattle.labels.proofs.read_part.Statement.{statement}

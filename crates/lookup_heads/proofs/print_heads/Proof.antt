@@ -1,6 +1,5 @@
 -- `lookup_heads::print_heads` is safe and ends: it counts the buckets up. Assumes nothing but what writing gives.
 use Prim.Native.Nat.{_-_, _≤_}
-use native.Mathlib.Omega.{arith}
 use borrow.Author.Needs.{needs}
 use Rattle.lookup_heads.proofs.print_heads.Statement.{statement}
 use Rattle.lookup_heads.proofs.print_heads.Tie as tie

@@ -1,5 +1,5 @@
--- `script_calls::count_calls` meets its contract. The loop's invariant: the calls counted and those that are left are all
--- of them. The measure is what is left of the script. Assumes nothing.
+-- `script_calls::count_calls` meets its contract. The loop's invariant: the calls counted and those that are left are
+-- all of them. The measure is what is left of the script. Assumes nothing.
 use Prim.Native.Nat.{_+_, _-_}
 use mathlib.Core.Path.{_≡_}
 use lib.ListN.{drop, length}
