@@ -2,14 +2,20 @@
 -- console that they hold is the one that the bytes used lead to.
 use Prim.Native.Nat.{_+_, _≤_, ℕ}
 use mathlib.Core.Path.{_∙_, _≡_, ap, refl, subst, sym}
-use mathlib.Core.Bool.{Bool}
-use mathlib.Core.List.{List}
+use mathlib.Core.Bool.{Bool, false}
+use mathlib.Core.List.{List, [], _++_}
 use lib.ListN.{drop, length, length-drop, take, take-append-drop}
-use lib.Seq.{drop-drop, drop-length, length-take-le}
+use lib.Seq.{drop-drop, drop-length, length-take-le, sets}
 use native.Mathlib.Omega.{arith}
-use Rattle.program.specs.Console.{BytesFed, Console, consoleAfter, consoleIn, keptBytes}
-use Rattle.program.proofs.Input.{in-parts}
-use Rattle.program_run.specs.Feed.{FeedDone, FeedRoom}
+use Rattle.octets.proofs.Stores.{take-sets}
+use Rattle.script.specs.Run.{bench, startBench}
+use Rattle.program.specs.Program.{bufferLength, lines}
+use Rattle.program.specs.Console.{BytesFed, Console, SomeFed, benchLast, console, consoleAfter, consoleIn, keptBytes}
+use Rattle.program.specs.Console.{saidFor, saidLast}
+use Rattle.program.specs.Theorem.{BookStands, ProgramRan, heldFor, startConsole}
+use Rattle.program.proofs.Input.{in-parts, input-says}
+use Rattle.program_step.specs.declared.LineReport.{LineReport}
+use Rattle.program_run.specs.Feed.{FeedDone, FeedRoom, FinishDone}
 use Rattle.program_run.specs.declared.Fed.{Fed}
 
 pub record Ready (line₀ first₀ second₀ out₀ line first second out : List ℕ) (kept : ℕ) : Type 0 where
@@ -77,3 +83,32 @@ pub fed-read :
 fed-read input {n} {got} h e {s} {kept} {turned} {line} {one} {two} d =
     let z : got ≡ n = e ∙ length-take-le n input h in
     (subst (λ k. BytesFed (take k input) s kept turned line one two) (sym z) d, omega arith)
+
+-- bytes stored at the front stand there
+front-stored : (out vs : List ℕ) {n : ℕ} {left : List ℕ} → left ≡ sets out 0 vs → n ≡ 0 + length vs → n ≤ length out
+    → take n left ≡ vs
+front-stored out vs {left = left} s e i =
+    ap (λ k. take k left) e ∙ ap (take (0 + length vs)) s ∙ take-sets out 0 vs (omega arith)
+
+-- The end of the input, behind the bytes read: what is left is what the ledger says of them.
+module _ (a b : List ℕ) (p : length a ≡ bufferLength) (q : length b ≡ bufferLength) where
+  pub program-ran :
+      (line : List ℕ) {start : List ℕ} → start ≡ startBench a b .first
+      → {kept : ℕ} {turned : Bool} {l one two : List ℕ} → SomeFed (consoleIn 0 false line start b) kept turned l one two
+      → {out : List ℕ} {r : LineReport} {x y left : List ℕ}
+      → FinishDone (consoleIn kept turned l one two) out r x y left
+      → ProgramRan a b (r .bytes) (r .turned) x y left
+  program-ran line e {kept} {turned} {l} {one} {two} d {out} {r} {left = left} f =
+      let input = d .bytes in
+      let s = input-says input a b p q in
+      let c = consoleIn kept turned l one two in
+      let g : c ≡ consoleAfter input (startConsole a b) =
+      d .fed .state ∙ ap (λ k. consoleAfter input (console [] (bench k b false))) e
+      in
+      let z = front-stored out (saidLast c) (f .printed .stored) (f .printed .ends) (f .printed .inside) in
+      record {
+        input = input;
+        printed = ap (λ k. saidFor input (startConsole a b) ++ k) (z ∙ ap saidLast g)
+            ∙ s .printed;
+        stands = subst (BookStands (heldFor (lines input) [])) (sym (f .bench ∙ ap benchLast g)) (s .stands);
+      }

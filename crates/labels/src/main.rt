@@ -1,6 +1,8 @@
 // The program `labels`: command lines from standard input, and what they print to standard output.
-// It only reads and writes. What a line prints, and that any input prints what the ledger says, is crate
-// `program_run`'s.
+// It only reads and writes. What a line prints is crate `program_run`'s, and that any input prints what the ledger says
+// is `InputSays` in crate `program`. The contracts here promise the console that is kept from one read to the next, and
+// at the end the ledger's book. Of the bytes that reach standard output they promise nothing, since no contract of
+// `io` or `libc` says what a write does with its bytes.
 use limits::BUFFER_LENGTH;
 use limits::KEPT_BYTES;
 use limits::LINE_ROOM;
@@ -10,6 +12,8 @@ ghost use Prim.Native.Nat.{_≤_};
 ghost use lib.ListN.{length, take};
 ghost use Rattle.program_run.specs.Feed.{FeedRoom};
 ghost use Rattle.program.specs.Console.{BytesFed, SomeFed, consoleIn};
+ghost use Rattle.program.specs.Program.{bufferLength};
+ghost use Rattle.program.specs.Theorem.{ProgramRan};
 
 // The bytes that are read at a time.
 const INPUT_ROOM: usize = 65536;
@@ -55,7 +59,8 @@ fn answer_part(
     }
 }
 
-// Reads once, and answers what was read: the bytes that stand at the front of `input` afterwards.
+// Reads once, and answers what was read: the first bytes of `input` afterwards, as many as `got` says. That these are
+// the bytes of standard input is not said: the contract of `libc::read` does not speak of bytes.
 fn read_part(
     input: &mut [u8],
     s: State,
@@ -76,8 +81,9 @@ fn read_part(
 }
 
 // Reads to the end of the input. A proved loop has to end, so it counts its reads down from a number that no run uses
-// up. The contract only says that there are bytes, all that was read, one read behind the other: each read overwrites
-// `input`, so no buffer holds them all in the end.
+// up; the first is made as if one before it had filled `input`. The console afterwards is the one that some bytes lead
+// to. They are all that was read, one read behind the other, but the contract cannot name them: each read overwrites
+// `input`, so that no buffer holds them in the end.
 fn read_all(
     input: &mut [u8],
     line: &mut [u8],
@@ -102,15 +108,33 @@ fn read_all(
     s
 }
 
+// Runs to the end of the input: the book of no entries, the lines read, and the last one if no line feed ends it. As
+// `main` has no contract, this is what the program promises.
+fn run(
+    input: &mut [u8],
+    line: &mut [u8],
+    first: &mut [u8],
+    second: &mut [u8],
+    out: &mut [u8],
+) -> program_step::LineReport
+    requires { ⌜ FeedRoom 0 (now line) (now out) ⌝ }
+    requires { ⌜ (length (now first) ≡ bufferLength) × (length (now second) ≡ bufferLength) ⌝ }
+    ensures { λ r. ⌜ ProgramRan (now (first .entry)) (now (second .entry)) (r .bytes) (r .turned)
+        (now (first .exit)) (now (second .exit)) (now (out .exit)) ⌝ }
+{
+    edit_calls::empty(first);
+    let s = read_all(input, line, first, second, out);
+    let f = program_run::finish(s.kept, s.turned, line, first, second, out);
+    let n = f.bytes;
+    io::write_all(1, &out[..n]);
+    f
+}
+
 fn main() {
     let mut first = [0u8; BUFFER_LENGTH];
     let mut second = [0u8; BUFFER_LENGTH];
     let mut line = [0u8; KEPT_BYTES];
     let mut input = [0u8; INPUT_ROOM];
     let mut out = [0u8; LINE_ROOM];
-    edit_calls::empty(&mut first);
-    let s = read_all(&mut input, &mut line, &mut first, &mut second, &mut out);
-    let f = program_run::finish(s.kept, s.turned, &line, &mut first, &mut second, &mut out);
-    let n = f.bytes;
-    io::write_all(1, &out[..n]);
+    run(&mut input, &mut line, &mut first, &mut second, &mut out);
 }

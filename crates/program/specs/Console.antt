@@ -77,7 +77,7 @@ pub record BytesFed (xs : List ℕ) (s : Console) (kept : ℕ) (turned : Bool) (
   pub few : kept ≤ keptBytes
   pub state : consoleIn kept turned line one two ≡ consoleAfter xs s
 
--- there are bytes of which this is so
+-- some bytes were fed so
 pub record SomeFed (s : Console) (kept : ℕ) (turned : Bool) (line one two : List ℕ) : Type 0 where
   pub bytes : List ℕ
   pub fed : BytesFed bytes s kept turned line one two

@@ -1,7 +1,7 @@
 -- What command lines print on two buffers is what the ledger says of them.
 use Prim.Native.Nat.{_≤_, ℕ}
 use mathlib.Core.Path.{_≡_}
-use mathlib.Core.Bool.{true}
+use mathlib.Core.Bool.{Bool, true}
 use mathlib.Core.List.{List, [], _++_, _∷_}
 use lib.ListN.{length, take}
 use Rattle.program.specs.Program as commands
@@ -9,7 +9,7 @@ use Rattle.entries.specs.Entries.{Entry, valid}
 use Rattle.answer.specs.Answers.{refused}
 use Rattle.book.specs.Book.{bookImage}
 use Rattle.ledger.specs.Ledger.{Edit, ledgerAnswer, scoreFits}
-use Rattle.script.specs.Run.{Bench, bookOf, startBench}
+use Rattle.script.specs.Run.{Bench, bench, bookOf, startBench}
 use Rattle.program.specs.Program.{bufferLength, commandOf, heldAfter, lines, outputOf, printed, program}
 use Rattle.program.specs.Console.{Console, benchLast, console, consoleAfter, leftBy, saidFor, saidLast, shownBy}
 
@@ -73,3 +73,10 @@ pub record ProgramSays (input : List ℕ) (s : Console) : Type 0 where
 abbrev pub InputSays : Type 0
 InputSays = (input a b : List ℕ) → length a ≡ bufferLength → length b ≡ bufferLength
     → ProgramSays input (startConsole a b)
+
+-- The program has run to the end of some input, on buffers that held a and b: the ledger's book stands in one of them,
+-- as `turned` says, and the bytes at the front of `out`, written last, end what is printed for that input.
+pub record ProgramRan (a b : List ℕ) (bytes : ℕ) (turned : Bool) (one two out : List ℕ) : Type 0 where
+  pub input : List ℕ
+  pub printed : saidFor input (startConsole a b) ++ take bytes out ≡ program input
+  pub stands : BookStands (heldFor (lines input) []) (bench one two turned)

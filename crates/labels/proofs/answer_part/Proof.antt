@@ -140,7 +140,7 @@ same-length-4 c = c .before .loop .inv .1 .outSize
 returns : tie.Need-returns Inv-loop μ-loop
 returns c =
     let i = c .before .loop .inv in
-    (record { few = i .1 .room .few; state = feeding-end (i .0) (c .loop-test .left) }, refl)
+    (record { few = omega (arith, i .1 .room .few); state = feeding-end (i .0) (c .loop-test .left) }, refl)
 
 pub answer-part-spec : {M : Type 1} → statement M
 answer-part-spec =
