@@ -1,8 +1,9 @@
 // The program `labels`: command lines from standard input, and what they print to standard output.
 // It only reads and writes. What a line prints is crate `program_run`'s, and that any input prints what the ledger says
 // is `InputSays` in crate `program`. The contracts here promise the console that is kept from one read to the next, and
-// at the end the ledger's book. Of the bytes that reach standard output they promise nothing, since no contract of
-// `io` or `libc` says what a write does with its bytes.
+// at the end the ledger's book. Of standard input and output themselves they promise nothing, since no contract of `io`
+// or `libc` says which bytes a read gives or what a write does with its own: a program that read nothing would keep
+// them too.
 use limits::BUFFER_LENGTH;
 use limits::KEPT_BYTES;
 use limits::LINE_ROOM;
