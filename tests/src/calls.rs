@@ -12,6 +12,7 @@ mod c {
         pub fn label_book_set(book: *const u8, book_len: usize, name: *const u8, name_len: usize, score: u32, dst: *mut u8, dst_len: usize, entries: *mut usize, bytes: *mut usize) -> u8;
         pub fn label_book_withdraw(book: *const u8, book_len: usize, name: *const u8, name_len: usize, dst: *mut u8, dst_len: usize, entries: *mut usize, bytes: *mut usize) -> u8;
         pub fn label_book_merge(first: *const u8, first_len: usize, second: *const u8, second_len: usize, dst: *mut u8, dst_len: usize, entries: *mut usize, bytes: *mut usize) -> u8;
+        pub fn label_book_check(book: *const u8, book_len: usize, entries: *mut usize, bytes: *mut usize) -> u8;
         pub fn label_book_find(book: *const u8, book_len: usize, name: *const u8, name_len: usize, found: *mut usize, position: *mut usize, score: *mut u32) -> u8;
         pub fn label_book_name_at(book: *const u8, book_len: usize, position: usize, dst: *mut u8, dst_len: usize, entries: *mut usize, bytes: *mut usize) -> u8;
         pub fn label_book_name_of(book: *const u8, book_len: usize, name: *const u8, name_len: usize, dst: *mut u8, dst_len: usize, entries: *mut usize, bytes: *mut usize) -> u8;
@@ -19,6 +20,7 @@ mod c {
         pub fn label_book_head(book: *const u8, book_len: usize, bucket: usize, start: *mut usize, length: *mut usize) -> u8;
         pub fn label_book_build(sheet: *const u8, sheet_len: usize, dst: *mut u8, dst_len: usize, entries: *mut usize, bytes: *mut usize) -> u8;
         pub fn label_book_list(book: *const u8, book_len: usize, dst: *mut u8, dst_len: usize, entries: *mut usize, bytes: *mut usize) -> u8;
+        pub fn label_book_run(script: *const u8, script_len: usize, first: *mut u8, first_len: usize, second: *mut u8, second_len: usize, out: *mut u8, out_len: usize, calls: *mut usize, turned: *mut usize) -> u8;
         #[cfg(feature = "complete")]
         pub fn label_book_complete(book: *const u8, book_len: usize, prefix: *const u8, prefix_len: usize, k: usize, dst: *mut u8, dst_len: usize, ranges: *mut super::Range, ranges_len: usize, offered: *mut usize, bytes: *mut usize, looks: *mut usize) -> u8;
         #[cfg(feature = "write_trie")]
@@ -79,6 +81,10 @@ pub fn merge(first: &[u8], second: &[u8], dst: &mut [u8]) -> Told {
     })
 }
 
+pub fn check(book: &[u8]) -> Told {
+    two(|a, b| unsafe { c::label_book_check(book.as_ptr(), book.len(), a, b) })
+}
+
 pub fn find(book: &[u8], name: &[u8]) -> Told {
     let mut score = BEFORE_SCORE;
     let (number, mut told) = two(|found, position| unsafe {
@@ -112,6 +118,23 @@ pub fn build(sheet: &[u8], dst: &mut [u8]) -> Told {
 
 pub fn list(book: &[u8], dst: &mut [u8]) -> Told {
     two(|a, b| unsafe { c::label_book_list(book.as_ptr(), book.len(), dst.as_mut_ptr(), dst.len(), a, b) })
+}
+
+pub fn run(script: &[u8], first: &mut [u8], second: &mut [u8], out: &mut [u8]) -> Told {
+    two(|calls, turned| unsafe {
+        c::label_book_run(
+            script.as_ptr(),
+            script.len(),
+            first.as_mut_ptr(),
+            first.len(),
+            second.as_mut_ptr(),
+            second.len(),
+            out.as_mut_ptr(),
+            out.len(),
+            calls,
+            turned,
+        )
+    })
 }
 
 #[cfg(feature = "complete")]

@@ -2,21 +2,27 @@
 use crate::calls::{self, Told};
 use crate::fence::Fence;
 use crate::reference::calls::{self as reference, Offered, Written};
+use crate::reference::script;
 use std::collections::BTreeMap;
 
-/// How many cases of each call agreed, by the number returned.
+/// How many cases agreed, by the number returned.
+type ByNumber = BTreeMap<u8, u64>;
+
+/// The cases of each call that agreed, and the answers that runs kept, which agreed with them.
 pub struct Compare {
-    agreed: BTreeMap<&'static str, BTreeMap<u8, u64>>,
+    agreed: BTreeMap<&'static str, ByNumber>,
+    kept: ByNumber,
     sources: [Fence; 2],
-    destination: Fence,
+    destinations: [Fence; 3],
 }
 
-/// Room for every image.
-const PAGES: usize = 20;
+/// Room for every image, and for scripts of tens of thousands of calls and their answers.
+const PAGES: usize = 1024;
 
 impl Default for Compare {
     fn default() -> Compare {
-        Compare { agreed: BTreeMap::new(), sources: [Fence::new(PAGES), Fence::new(PAGES)], destination: Fence::new(PAGES) }
+        let new = |_| Fence::new(PAGES);
+        Compare { agreed: BTreeMap::new(), kept: ByNumber::new(), sources: [0, 1].map(new), destinations: [0, 1, 2].map(new) }
     }
 }
 
@@ -24,7 +30,7 @@ fn hex(bytes: &[u8]) -> String {
     bytes.iter().map(|b| format!("{b:02X}")).collect::<Vec<_>>().join(" ")
 }
 
-fn told_written(answer: Written) -> Told {
+pub fn told_written(answer: Written) -> Told {
     match answer {
         Ok((entries, bytes)) => (0, [entries as u64, bytes as u64, 0]),
         Err(number) => (number, [0; 3]),
@@ -48,7 +54,7 @@ fn told_found(answer: Result<Option<(usize, u32)>, u8>) -> Told {
 
 /// Counts one case, or reports the difference and ends.
 fn count(
-    agreed: &mut BTreeMap<&'static str, BTreeMap<u8, u64>>,
+    agreed: &mut BTreeMap<&'static str, ByNumber>,
     call: &'static str,
     agrees: bool,
     number: u8,
@@ -61,7 +67,43 @@ fn count(
 }
 
 impl Compare {
-    /// A call on sources and a destination, each lent with its end at a fence. `ours` is given them, `other` the destination.
+    /// A call on sources and destinations, each lent with its end at a fence. `ours` is given them, `other` the destinations.
+    fn lends<const N: usize>(
+        &mut self,
+        call: &'static str,
+        sources: [&[u8]; 2],
+        numbers: &[usize],
+        dsts: [&[u8]; N],
+        ours: impl FnOnce([&[u8]; 2], [&mut [u8]; N]) -> Told,
+        other: impl FnOnce([&mut [u8]; N]) -> Told,
+    ) -> (Told, [Vec<u8>; N]) {
+        let [first, second] = &mut self.sources;
+        let mut fences = self.destinations.iter_mut();
+        let lent = dsts.map(|dst| fences.next().unwrap().lend(dst));
+        let told = ours([first.lend(sources[0]), second.lend(sources[1])], lent);
+        let mut wanted = dsts.map(<[u8]>::to_vec);
+        let expected = other(wanted.each_mut().map(Vec::as_mut_slice));
+        let mut fences = self.destinations.iter();
+        let left = dsts.map(|dst| fences.next().unwrap().lent(dst.len()));
+        let agrees = told == expected
+            && left == wanted.each_ref().map(Vec::as_slice)
+            && dsts.iter().zip(&self.destinations).all(|(dst, fence)| fence.front_holds(dst.len()))
+            && first.lent(sources[0].len()) == sources[0]
+            && second.lent(sources[1].len()) == sources[1];
+        let difference = || {
+            let [a, b] = sources.map(hex);
+            let lines = (0..N).map(|i| {
+                let [lent, left, wanted] = [dsts[i], left[i], &wanted[i]].map(hex);
+                format!("\ndestination {lent}\nours   {left}\nsecond {wanted}")
+            });
+            let lines: String = lines.collect();
+            format!("sources\n{a}\n{b}\nnumbers {numbers:?}{lines}\nours   {told:?}\nsecond {expected:?}")
+        };
+        count(&mut self.agreed, call, agrees, told.0, difference);
+        (told, wanted)
+    }
+
+    /// A call that has one destination.
     fn writes(
         &mut self,
         call: &'static str,
@@ -71,23 +113,8 @@ impl Compare {
         ours: impl FnOnce([&[u8]; 2], &mut [u8]) -> Told,
         other: impl FnOnce(&mut [u8]) -> Told,
     ) -> (Told, Vec<u8>) {
-        let [first, second] = &mut self.sources;
-        let told = ours([first.lend(sources[0]), second.lend(sources[1])], self.destination.lend(dst));
-        let mut wanted = dst.to_vec();
-        let expected = other(&mut wanted);
-        let left = self.destination.lent(dst.len());
-        let agrees = told == expected
-            && left == wanted
-            && self.destination.front_holds(dst.len())
-            && first.lent(sources[0].len()) == sources[0]
-            && second.lent(sources[1].len()) == sources[1];
-        let difference = || {
-            let (a, b) = (hex(sources[0]), hex(sources[1]));
-            let (lent, left, wanted) = (hex(dst), hex(left), hex(&wanted));
-            format!("sources\n{a}\n{b}\nnumbers {numbers:?}\ndestination {lent}\nours   {told:?} {left}\nsecond {expected:?} {wanted}")
-        };
-        count(&mut self.agreed, call, agrees, told.0, difference);
-        (told, wanted)
+        let (told, [left]) = self.lends(call, sources, numbers, [dst], |sources, [d]| ours(sources, d), |[d]| other(d));
+        (told, left)
     }
 
     /// A call that has no destination.
@@ -99,7 +126,7 @@ impl Compare {
         ours: impl FnOnce([&[u8]; 2]) -> Told,
         other: Told,
     ) {
-        self.writes(call, sources, numbers, &[], |sources, _| ours(sources), |_| other);
+        self.lends(call, sources, numbers, [], |sources, []| ours(sources), |[]| other);
     }
 
     pub fn empty(&mut self, dst: &[u8]) -> (Told, Vec<u8>) {
@@ -142,6 +169,10 @@ impl Compare {
         self.writes("list", [book, &[]], &[], dst, |[book, _], d| calls::list(book, d), other)
     }
 
+    pub fn check(&mut self, book: &[u8]) {
+        self.reads("check", [book, &[]], &[], |[book, _]| calls::check(book), told_written(reference::check(book)));
+    }
+
     pub fn find(&mut self, book: &[u8], name: &[u8]) {
         let other = told_found(reference::find(book, name));
         self.reads("find", [book, name], &[], |[book, name]| calls::find(book, name), other);
@@ -155,6 +186,26 @@ impl Compare {
     pub fn head(&mut self, book: &[u8], bucket: usize) {
         let other = told_written(reference::head(book, bucket));
         self.reads("head", [book, &[]], &[bucket], |[book, _]| calls::head(book, bucket), other);
+    }
+
+    /// A history's run: the first buffer, the second and the kept answers are lent.
+    pub fn run(&mut self, script: &[u8], lent: [&[u8]; 3]) -> (Told, [Vec<u8>; 3]) {
+        self.run_as(script, lent, |[first, second, out]| told_written(script::run(script, first, second, out)))
+    }
+
+    /// The same, compared with a run that is given.
+    pub fn run_as(
+        &mut self,
+        script: &[u8],
+        lent: [&[u8]; 3],
+        other: impl FnOnce([&mut [u8]; 3]) -> Told,
+    ) -> (Told, [Vec<u8>; 3]) {
+        let ours = |[script, _]: [&[u8]; 2], [first, second, out]: [&mut [u8]; 3]| calls::run(script, first, second, out);
+        let (told, left) = self.lends("run", [script, &[]], &[], lent, ours, other);
+        for answer in left[2].chunks(script::ANSWER).take(told.1[0] as usize) {
+            *self.kept.entry(answer[0]).or_default() += 1;
+        }
+        (told, left)
     }
 
     /// Completion from a book; the lent ranges are free after an answer and unchanged after a refusal.
@@ -229,10 +280,12 @@ impl Compare {
     }
 
     pub fn report(&self) {
-        for (call, by_number) in &self.agreed {
+        let line = |call: &str, by_number: &ByNumber, what: &str| {
             let all: u64 = by_number.values().sum();
             let each: Vec<String> = by_number.iter().map(|(number, cases)| format!("{number}: {cases}")).collect();
-            println!("{call:<14} {all:>9} cases ({})", each.join(", "));
-        }
+            println!("{call:<14} {all:>9} {what} ({})", each.join(", "));
+        };
+        self.agreed.iter().for_each(|(call, by_number)| line(call, by_number, "cases"));
+        line("calls in runs", &self.kept, "answers");
     }
 }

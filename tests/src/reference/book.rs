@@ -24,14 +24,15 @@ pub fn image(entries: &Entries) -> Vec<u8> {
         records.extend(&name[kept..]);
     }
     let mut rest = Vec::new();
-    for score in entries.values() {
+    let scores = scores(entries);
+    for score in &scores {
         rest.extend(score.to_be_bytes());
     }
     for offset in offsets {
         rest.extend((offset as u16).to_be_bytes());
     }
     for first in (0..n).step_by(BLOCK) {
-        let best = in_rank(entries, first..n.min(first + BLOCK))[0];
+        let best = in_rank(&scores, first..n.min(first + BLOCK))[0];
         rest.extend((best as u16).to_be_bytes());
     }
     rest.extend(records);

@@ -13,7 +13,7 @@ fn write(entries: usize, bytes: &[u8], dst: &mut [u8]) -> Written {
     Ok((entries, bytes.len()))
 }
 
-fn allow(allowed: bool, otherwise: u8) -> Result<(), u8> {
+pub(super) fn allow(allowed: bool, otherwise: u8) -> Result<(), u8> {
     if allowed {
         Ok(())
     } else {
@@ -50,6 +50,12 @@ pub fn merge(first: &[u8], second: &[u8], dst: &mut [u8]) -> Written {
     }
     allow(entries.len() <= MOST_ENTRIES, FULL)?;
     write(entries.len(), &book::image(&entries), dst)
+}
+
+/// The entries of a book and the length of its image.
+pub fn check(book: &[u8]) -> Written {
+    let entries = book::read(book).ok_or(IMAGE)?;
+    Ok((entries.len(), book::image(&entries).len()))
 }
 
 /// Position and score, or none.
@@ -102,7 +108,7 @@ pub fn head(book: &[u8], bucket: usize) -> Result<(usize, usize), u8> {
 
 /// The bytes of the entries that a prefix begins, in rank, the first k or all if fewer; and how many they are.
 pub fn completion(entries: &Entries, prefix: &[u8], k: usize) -> (usize, Vec<u8>) {
-    let offered: Vec<usize> = in_rank(entries, matching(entries, prefix)).into_iter().take(k).collect();
+    let offered: Vec<usize> = in_rank(&scores(entries), matching(entries, prefix)).into_iter().take(k).collect();
     let bytes = offered.iter().flat_map(|&i| {
         let (name, score) = super::name_at(entries, i);
         entry_bytes(name, score)
@@ -112,7 +118,8 @@ pub fn completion(entries: &Entries, prefix: &[u8], k: usize) -> (usize, Vec<u8>
 
 /// The looks of the range machine.
 fn looks(entries: &Entries, prefix: &[u8], k: usize) -> usize {
-    let rank = in_rank(entries, 0..entries.len());
+    let scores = scores(entries);
+    let rank = in_rank(&scores, 0..entries.len());
     let mut open: Vec<std::ops::Range<usize>> = Vec::new();
     let mut looks = 0;
     let mut put = |open: &mut Vec<std::ops::Range<usize>>, range: std::ops::Range<usize>| {
@@ -123,7 +130,7 @@ fn looks(entries: &Entries, prefix: &[u8], k: usize) -> usize {
     };
     put(&mut open, matching(entries, prefix));
     for turn in 1..=k {
-        let bests = open.iter().map(|range| in_rank(entries, range.clone())[0]);
+        let bests = open.iter().map(|range| in_rank(&scores, range.clone())[0]);
         let Some(best) = bests.min_by_key(|best| rank.iter().position(|i| i == best)) else {
             break;
         };
@@ -178,6 +185,6 @@ pub fn write_trie(book: &[u8], dst: &mut [u8]) -> Written {
 
 /// The names that a panel shows below a text.
 pub fn rows(entries: &Entries, text: &[u8], k: usize) -> Vec<Vec<u8>> {
-    let offered = in_rank(entries, matching(entries, text)).into_iter().take(k);
+    let offered = in_rank(&scores(entries), matching(entries, text)).into_iter().take(k);
     offered.map(|i| super::name_at(entries, i).0.to_vec()).collect()
 }

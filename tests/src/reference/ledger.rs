@@ -1,5 +1,6 @@
 //! The ledger: fed which call it is and its arguments, and nothing else.
 use super::calls::Written;
+use super::script::{Call, Kind};
 use super::*;
 
 pub struct Ledger {
@@ -23,6 +24,13 @@ impl Ledger {
         let mut result = self.held.clone();
         let absent = result.remove(name).is_none();
         self.answer(name, absent.then_some(NOT_HELD), result)
+    }
+
+    pub fn call(&mut self, call: &Call) -> Written {
+        match call.kind {
+            Kind::Set => self.set(&call.name, call.score),
+            Kind::Withdraw => self.withdraw(&call.name),
+        }
     }
 
     fn answer(&mut self, name: &[u8], refusal: Option<u8>, result: Entries) -> Written {

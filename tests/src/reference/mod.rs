@@ -5,6 +5,7 @@ pub mod calls;
 pub mod ledger;
 pub mod panel;
 pub mod program;
+pub mod script;
 pub mod sheet;
 pub mod trie;
 
@@ -50,9 +51,13 @@ pub fn is_valid(entries: &Entries) -> bool {
     entries.len() <= MOST_ENTRIES && entries.keys().all(|name| is_name(name))
 }
 
+/// The scores, in name order.
+pub fn scores(entries: &Entries) -> Vec<u32> {
+    entries.values().copied().collect()
+}
+
 /// Positions in rank: higher score first, at equal scores the earlier name.
-pub fn in_rank(entries: &Entries, positions: std::ops::Range<usize>) -> Vec<usize> {
-    let scores: Vec<u32> = entries.values().copied().collect();
+pub fn in_rank(scores: &[u32], positions: std::ops::Range<usize>) -> Vec<usize> {
     let mut ranked: Vec<usize> = positions.collect();
     ranked.sort_by_key(|&i| (std::cmp::Reverse(scores[i]), i));
     ranked

@@ -1,6 +1,7 @@
 //! The cases that the document works out.
 use super::calls::*;
 use super::panel::{press, Panel};
+use super::script::{Call, Kind};
 use super::*;
 
 fn bytes(hex: &str) -> Vec<u8> {
@@ -125,6 +126,26 @@ fn merges_refused() {
     assert_eq!(merge(&low, &higher, &mut dst), Err(FULL));
     assert_eq!(merge(&low, &higher[1..], &mut dst), Err(IMAGE));
     assert_eq!(dst, [0xEE; 24]);
+}
+
+#[test]
+fn p9_p10_run() {
+    // The ten names in buffers of 130 bytes, from which "1" is not withdrawn.
+    let names = (b'1'..=b'8').map(|digit| vec![digit]).chain([vec![b'x'; 47], vec![b'x'; 48]]);
+    let mut calls: Vec<Call> = names.map(|name| Call { kind: Kind::Set, score: 0, name }).collect();
+    calls.push(Call { kind: Kind::Withdraw, score: 9, name: vec![b'1'] });
+    assert_eq!(calls[10].bytes(), bytes("01 00 00 00 09 00 01 31"));
+    let (script, mut first, mut second, mut out) = (script::bytes(&calls), [0xEE; 130], [0; 130], [0xEE; 78]);
+    assert_eq!(script::run(&script, &mut first, &mut second, &mut out), Ok((11, 0)));
+    assert_eq!(out[63..], bytes("00 00 0A 00 00 00 7F 07 00 00 00 00 00 00 EE"));
+    assert_eq!((check(&first), first[127]), (Ok((10, 127)), 0xEE));
+    // Room for the answers of ten calls, two lengths, buffers that are too short; the script is said first.
+    assert_eq!(script::run(&script, &mut first, &mut second, &mut out[..76]), Err(TOO_SHORT));
+    assert_eq!(script::run(&script, &mut first, &mut second[1..], &mut out), Err(TOO_SHORT));
+    assert_eq!(script::run(&[], &mut [0; 6], &mut [0; 6], &mut []), Err(TOO_SHORT));
+    assert_eq!(script::run(&script[1..], &mut [], &mut [], &mut []), Err(IMAGE));
+    assert_eq!(script::run(&[], &mut [0; 7], &mut [0; 7], &mut []), Ok((0, 0)));
+    assert_eq!(check(&first[1..]), Err(IMAGE));
 }
 
 #[test]
