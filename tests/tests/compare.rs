@@ -5,8 +5,13 @@ use label_book_tests::compare::Compare;
 use label_book_tests::make::{self, Names, Scores, NAMES, PLACES, SCORES};
 use label_book_tests::random::Random;
 use label_book_tests::reference::panel::Panel;
-use label_book_tests::reference::{book, calls, ledger::Ledger, sheet, trie, Entries, MOST_ENTRIES};
+use label_book_tests::reference::{book, calls, sheet, trie, Entries, MOST_ENTRIES};
 use std::collections::BTreeSet;
+
+#[path = "compare/histories.rs"]
+mod histories;
+#[path = "compare/scripts.rs"]
+mod scripts;
 
 /// Longer than every image.
 const LONG_BUFFER: usize = 70_000;
@@ -36,6 +41,7 @@ fn ask(compare: &mut Compare, random: &mut Random, buffer: &[u8], held: &Entries
     compare.set(buffer, &name, score, &dst);
     let dst = destination(random, needed(|d| calls::withdraw(buffer, &name, d)));
     compare.withdraw(buffer, &name, &dst);
+    compare.check(buffer);
     compare.find(buffer, &name);
     compare.prefix_range(buffer, &name);
     let dst = destination(random, name.len() + 5);
@@ -126,10 +132,11 @@ fn every_place(compare: &mut Compare, random: &mut Random, values: usize) {
     }
 }
 
-/// One of the calls on a buffer that may hold an image of any kind.
+/// The check and one of the other calls on a buffer that may hold an image of any kind.
 fn any_image(compare: &mut Compare, random: &mut Random, buffer: &[u8], held: &Entries) {
     let name = make::some_name(random, held);
     let dst = vec![0x33; 2000];
+    compare.check(buffer);
     match buffer.first() {
         Some(0x11) => {
             compare.build(buffer, &dst);
@@ -202,39 +209,6 @@ fn noise(compare: &mut Compare, random: &mut Random, rounds: usize) {
         }
         any_image(compare, random, &bytes, &Entries::new());
     }
-}
-
-/// A history on two buffers of the same length, against the ledger; refusals included.
-fn history(compare: &mut Compare, random: &mut Random, buffer: usize, steps: usize, names: Names) {
-    let (told, mut current) = compare.empty(&random.bytes(buffer));
-    assert_eq!(told.0 == 7, buffer < 7);
-    if buffer < 7 {
-        return;
-    }
-    let scores = random.pick(&SCORES);
-    let mut ledger = Ledger::new(buffer);
-    let mut other = random.bytes(buffer);
-    for _ in 0..steps {
-        let held = &ledger.held;
-        let name = if random.chance(2) { make::name(random, names, held) } else { make::asked(random, held) };
-        let score = make::score(random, scores);
-        let withdrawn = random.chance(3);
-        let (answer, (told, left)) = if withdrawn {
-            (ledger.withdraw(&name), compare.withdraw(&current, &name, &other))
-        } else {
-            (ledger.set(&name, score), compare.set(&current, &name, score, &other))
-        };
-        other = left;
-        match answer {
-            Ok((entries, bytes)) => {
-                assert_eq!(told, (0, [entries as u64, bytes as u64, 0]), "the ledger's answer");
-                std::mem::swap(&mut current, &mut other);
-            }
-            Err(number) => assert_eq!(told, (number, [0; 3]), "the ledger's refusal"),
-        }
-        assert!(current.starts_with(&book::image(&ledger.held)), "the ledger's image");
-    }
-    lists(compare, random, &current, &ledger.held);
 }
 
 /// The lists that a book and its trie offer are the same, the best of the entries held.
@@ -407,25 +381,48 @@ fn worked_merges(compare: &mut Compare) {
     assert_eq!((ours::merge(&two, &two, &mut dst), &dst[..]), ((0, [2, 25, 0]), &two[..]));
 }
 
+/// A history's run by bytes, refusals included, on buffers of 30 bytes each.
+fn worked_run(compare: &mut Compare) {
+    let script = "00 00 00 00 09 00 02 72 63  00 00 00 00 0C 00 02 72 6C  01 FF FF FF FF 00 02 7A 7A  00 00 00 00 00 00 00 \
+                  00 00 00 00 01 00 07 72 63 20 73 74 65 70  01 00 00 00 00 00 02 72 6C";
+    let answers = "00 00 01 00 00 00 12  00 00 02 00 00 00 19  04 00 00 00 00 00 00  02 00 00 00 00 00 00 \
+                   07 00 00 00 00 00 00  00 00 01 00 00 00 12";
+    let both = "21 00 00 00 19 00 02 00 00 00 09 00 00 00 0C 00 13 00 01 02 72 63 01 01 6C EE EE EE EE EE";
+    let one = "21 00 00 00 12 00 01 00 00 00 09 00 0F 00 00 02 72 63 EE EE EE EE EE EE EE EE EE EE EE EE";
+    let (told, left) = compare.run(&bytes(script), [&[0xEE; 30], &[0xEE; 30], &[0; 42]]);
+    assert_eq!((told, left), ((0, [6, 1, 0]), [both, one, answers].map(bytes)));
+    assert_eq!((ours::check(&bytes(both)), ours::check(&bytes(one)[1..])), ((0, [2, 25, 0]), (1, [0; 3])));
+}
+
 /// One round of everything.
 fn round(compare: &mut Compare, seed: u64) {
     let mut random = Random::new(seed);
     worked(compare);
     worked_merges(compare);
+    worked_run(compare);
     sizes(compare, &mut random, 40);
     every_place(compare, &mut random, 6);
     damage(compare, &mut random, 600);
     noise(compare, &mut random, 40_000);
     for buffer in 0..12 {
-        history(compare, &mut random, buffer, 20, Names::Short);
+        histories::history(compare, &mut random, buffer, 20, Names::Short);
     }
     for _ in 0..120 {
         let (buffer, names) = (random.between(7, 900), random.pick(&NAMES));
-        history(compare, &mut random, buffer, 150, names);
+        histories::history(compare, &mut random, buffer, 150, names);
     }
     for names in [Names::Mixed, Names::Any] {
-        history(compare, &mut random, 57_344, 1800, names);
+        histories::history(compare, &mut random, 57_344, 1800, names);
     }
+    histories::long_history(compare, &mut random, 57_344, 20_000, Names::Mixed);
+    for length in [7, 18, 25, 130, 300, 900, 3000] {
+        let names = random.pick(&NAMES);
+        histories::long_history(compare, &mut random, length, 20_000, names);
+    }
+    scripts::hostile_scripts(compare, &mut random, 40);
+    scripts::hostile_calls(compare, &mut random);
+    scripts::hostile_buffers(compare, &mut random);
+    scripts::noise(compare, &mut random, 20_000);
     panels(compare, &mut random, 150);
     merges(compare, &mut random);
     damaged_merges(compare, &mut random, 300);
