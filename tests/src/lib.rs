@@ -4,5 +4,6 @@ pub mod compare;
 pub mod fence;
 pub mod make;
 pub mod plain;
+pub mod programs;
 pub mod random;
 pub mod reference;

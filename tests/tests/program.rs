@@ -1,23 +1,8 @@
 //! The program on random and hostile input, compared with the second implementation: every byte that it prints. Seeded and bounded.
 use label_book_tests::make::{self, Names, NAMES};
+use label_book_tests::programs::printed;
 use label_book_tests::random::Random;
 use label_book_tests::reference::{program, Entries};
-use std::io::Write;
-use std::process::{Command, Stdio};
-
-/// What the program prints.
-fn printed(input: &[u8]) -> Vec<u8> {
-    let path = concat!(env!("CARGO_MANIFEST_DIR"), "/../target/bin/labels");
-    let mut child = Command::new(path).stdin(Stdio::piped()).stdout(Stdio::piped()).spawn().expect("target/bin/labels runs");
-    let mut stdin = child.stdin.take().unwrap();
-    let lent = input.to_vec();
-    // The pipes are small: the input goes in while the output comes out. A program that ends early leaves some of it.
-    let writer = std::thread::spawn(move || stdin.write_all(&lent).ok());
-    let output = child.wait_with_output().expect("the program ends");
-    writer.join().unwrap();
-    assert!(output.status.success());
-    output.stdout
-}
 
 fn number(random: &mut Random) -> Vec<u8> {
     let value = match random.below(6) {
@@ -86,7 +71,7 @@ fn main() {
     }
     let mut lines = 0;
     for input in &inputs {
-        let (ours, second) = (printed(input), program::run(input));
+        let (ours, second) = (printed("labels", input), program::run(input));
         if ours != second {
             let (input, ours, second) = (input.escape_ascii(), ours.escape_ascii(), second.escape_ascii());
             panic!("labels: a difference\ninput  {input}\nours   {ours}\nsecond {second}");
