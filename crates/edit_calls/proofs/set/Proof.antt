@@ -94,7 +94,7 @@ write-edit-requires c κs =
     let l = p .before .before in
     let e = l .before in
     new-asked _ _ [] (held (e .before .before .before)) (allowed e) (sym (p .place2 .given .1)
-    ∙ l .look-up .ensures) _ (q .if2 .left) (fits e)
+    ∙ l .look-up .ensures) _ (search needs) (fits e)
 
 same-length : tie.Need-same-length
 same-length c = c .before .before .write-score .kept .1 .1 .1 .1 .0

@@ -25,7 +25,7 @@ write-requires : tie.Need-write-requires
 write-requires c κs =
     let e = c .before in
     let m = e .before in
-    (begin m .pre, m .measure .ensures, e .if1 .left)
+    (begin m .pre, m .measure .ensures, omega (arith, e .if1 .left))
 
 count-after-requires : tie.Need-count-after-requires
 count-after-requires c κs =

@@ -28,7 +28,7 @@ rescore-requires c κs =
     let e = c .before in
     let m = e .before in
     let h = m .before .before .before .pre in
-    (h .0, h .1, m .image-length .ensures, e .if1 .left)
+    (h .0, h .1, m .image-length .ensures, omega (arith, e .if1 .left))
 
 same-length : tie.Need-same-length
 same-length c = c .before .before .rescore .kept .1 .1 .1 .1 .1 .0

@@ -53,7 +53,7 @@ returns-2 c =
     record { answer = rw (h .isIt, ← h .count, t); left = rw (h .isIt, ← h .count, t) }
 
 cursor-at-requires : tie.Need-cursor-at-requires
-cursor-at-requires c κs = (held (c .before .before), c .if1 .left)
+cursor-at-requires c κs = (held (c .before .before), omega (arith, c .if1 .left))
 
 array-share-prefix-name : tie.Need-array-share-prefix-name
 array-share-prefix-name c = omega (arith, long (c .before), c .before .cursor-at .ensures .1)

@@ -30,7 +30,7 @@ returns-2 c =
     number-long (d .before .before .args .s .now) (d .count-digits .ensures) (c .before .if1 .left) (c .if2 .taken)
 
 value-of-requires : tie.Need-value-of-requires
-value-of-requires c κs = (c .before .before .count-digits .ensures, c .if2 .left)
+value-of-requires c κs = (c .before .before .count-digits .ensures, omega (arith, c .if2 .left))
 
 returns-3 : tie.Need-returns-3
 returns-3 c =

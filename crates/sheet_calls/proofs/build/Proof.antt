@@ -45,7 +45,7 @@ returns-2 c =
 fill-book-requires : tie.Need-fill-book-requires
 fill-book-requires c κs =
     let e = c .before in
-    (held (e .before .before .before), e .before .book-size .ensures, e .if1 .left)
+    (held (e .before .before .before), e .before .book-size .ensures, omega (arith, e .if1 .left))
 
 same-length : tie.Need-same-length
 same-length c = c .before .before .fill-book .kept .1 .1 .1 .0

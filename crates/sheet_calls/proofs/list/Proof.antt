@@ -44,7 +44,7 @@ returns-2 c =
 fill-sheet-requires : tie.Need-fill-sheet-requires
 fill-sheet-requires c κs =
     let e = c .before in
-    (held (e .before .before .before), e .before .sheet-size .ensures, e .if1 .left)
+    (held (e .before .before .before), e .before .sheet-size .ensures, omega (arith, e .if1 .left))
 
 same-length : tie.Need-same-length
 same-length c = c .before .before .fill-sheet .kept .1 .1 .1 .0

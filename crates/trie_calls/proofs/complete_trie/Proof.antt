@@ -86,8 +86,8 @@ complete-requires c κs =
     let g = c .before .before in (
       trie-there (checked (allowed g)),
       omega (arith, g .before .if2 .left),
-      g .if3 .left,
-      c .before .if4 .left,
+      omega (arith, g .if3 .left),
+      omega (arith, c .before .if4 .left),
     )
 
 same-length : tie.Need-same-length
