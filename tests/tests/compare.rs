@@ -414,10 +414,11 @@ fn round(compare: &mut Compare, seed: u64) {
     for names in [Names::Mixed, Names::Any] {
         histories::history(compare, &mut random, 57_344, 1800, names);
     }
-    histories::long_history(compare, &mut random, 57_344, 20_000, Names::Mixed);
-    for length in [7, 18, 25, 130, 300, 900, 3000] {
-        let names = random.pick(&NAMES);
+    for (length, names) in [(57_344, Names::Mixed), (57_344, Names::Any), (20_000, Names::Any)] {
         histories::long_history(compare, &mut random, length, 20_000, names);
+    }
+    for (length, names) in [7, 18, 25, 130, 300, 900, 3000].into_iter().flat_map(|length| NAMES.map(|names| (length, names))) {
+        histories::long_history(compare, &mut random, length, 10_000, names);
     }
     scripts::hostile_scripts(compare, &mut random, 40);
     scripts::hostile_calls(compare, &mut random);

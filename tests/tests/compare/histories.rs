@@ -53,7 +53,7 @@ impl Played {
 /// A set or withdraw to try. While the book shall shrink, most are withdrawals of names held.
 fn any_call(random: &mut Random, names: Names, scores: Scores, held: &Entries, shrinks: bool) -> Call {
     let score = make::score(random, scores);
-    if shrinks && !random.chance(4) {
+    if shrinks && !held.is_empty() && !random.chance(4) {
         return Call { kind: Kind::Withdraw, score, name: make::some_name(random, held) };
     }
     let name = if random.chance(2) { make::name(random, names, held) } else { make::asked(random, held) };
