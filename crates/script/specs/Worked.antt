@@ -2,7 +2,7 @@
 use Prim.Native.Nat.{ℕ}
 use mathlib.Core.Path.{_≡_, refl}
 use mathlib.Core.List.{List, [], _++_, _∷_}
-use lib.ListN.{length, replicate, take}
+use lib.ListN.{replicate, take}
 use Rattle.octets.specs.Lists.{if_then_else_}
 use Rattle.octets.specs.Octets.{be, fromBe, numberAt}
 use Rattle.octets.specs.Table.{Row, _gives_, failing}
