@@ -1,6 +1,6 @@
 -- Answers and refusals (document 01, "When a call declines"), and the bytes of one answer entry.
 use Prim.Native.Nat.{ℕ}
-use mathlib.Core.Bool.{Bool, false, not}
+use mathlib.Core.Bool.{Bool, _&&_, false, not, true}
 use mathlib.Core.List.{List, [], _++_, _∷_}
 use mathlib.Core.Option.{Option}
 use lib.Dec.{ltb}
@@ -81,6 +81,12 @@ n when b = record { number = n; applies = b }
 abbrev pub unless : {A : Type 0} → List Check → A → Answer A
 unless [] a = given a
 unless (c ∷ cs) a = if c .applies then refused (c .number) else unless cs a
+
+-- checks in the order of their numbers
+abbrev pub inOrder : List Check → Bool
+inOrder [] = true
+inOrder (c ∷ []) = true
+inOrder (c ∷ d ∷ cs) = ltb (c .number) (d .number) && inOrder (d ∷ cs)
 
 -- the first where the answer is a refusal, else the second
 abbrev pub onAnswer : {A B : Type 0} → Answer A → B → B → B

@@ -16,6 +16,7 @@ use Rattle.entries.proofs.Valid.{valid-of}
 use Rattle.frame.specs.Frame.{entriesOf, isRead}
 use Rattle.frame.proofs.Frame.{entries-valid, same-reading}
 use Rattle.answer.specs.Answers.{_when_, nonePlayed, noneSpan, noneWritten}
+use Rattle.answer.proofs.Calls.{smallest-given}
 use Rattle.book.specs.Book.{bookImage, inBook, isBook, readBook, reported}
 use Rattle.book.specs.Records.{bucketSize}
 use Rattle.book.proofs.Reading.{book-exact}
@@ -97,6 +98,7 @@ promises =
       merging = λ first second. writes _ _ _;
       running = λ script a b out. refuses nonePlayed (runChecks script a b out) _;
       runStays = λ script a b out n h. run-refused script a b out n h;
+      smallest = smallest-given;
       topK = λ es p k ok. top-k es p k (valid-of es ok .order);
       noOther = λ es p k l ok. top-k-only es p k (valid-of es ok .order) l;
       bestList = λ es p k ok. best-list es p k (valid-of es ok .order);

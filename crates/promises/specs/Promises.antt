@@ -11,8 +11,8 @@ use Rattle.octets.specs.Table.{failing}
 use Rattle.entries.specs.Completion.{BestList, TopK, completion}
 use Rattle.entries.specs.Entries.{Entry, valid}
 use Rattle.frame.specs.Frame.{Exact}
-use Rattle.answer.specs.Answers.{Answer, OfferedCounts, Outcome, WrittenCounts, counts, given, noneOffered, nonePlayed}
-use Rattle.answer.specs.Answers.{noneSpan, noneWritten, refused}
+use Rattle.answer.specs.Answers.{Answer, Check, OfferedCounts, Outcome, WrittenCounts, counts, given, inOrder}
+use Rattle.answer.specs.Answers.{noneOffered, nonePlayed, noneSpan, noneWritten, refused, unless}
 use Rattle.book.specs.Book.{bookImage, readBook}
 use Rattle.lookup.specs.Lookups.{HeadPart, checkBook, find, headLength, nameAt, nameOf, prefixRange}
 use Rattle.edit.specs.Edits.{emptyBook, setEntry, withdrawEntry}
@@ -54,7 +54,7 @@ Writes numbers call = Leaves noneWritten (λ a. a .bytes) numbers call
 abbrev pub Offers : List ℕ → (List ℕ → Outcome OfferedCounts) → Type 0
 Offers numbers call = Leaves noneOffered (λ a. a .bytes) numbers call
 
-pub record Promises : Type 0 where
+pub record Promises : Type 1 where
   -- DEMAND 1. Any image, text, count, key or buffer gets an answer or a numbered refusal from every public call, which
   -- always ends: that is each call's contract (docs/CONTRACTS.txt), which asks nothing of the arguments and says that
   -- the call answers and leaves what the definition named here says.
@@ -84,6 +84,11 @@ pub record Promises : Type 0 where
   pub runStays :
       (script a b out : List ℕ) (n : ℕ) → runOf script a b out .answer ≡ refused n
       → (runOf script a b out .first ≡ a) × (runOf script a b out .second ≡ b) × (runOf script a b out .out ≡ out)
+  -- The smallest number that applies is given, and no other: each definition gives the first of its checks that applies
+  -- (`unless`), and has them in the order of their numbers.
+  pub smallest :
+      {A : Type 0} (cs : List Check) (a : A) (n : ℕ) → inOrder cs ≡ true → unless cs a ≡ refused n → (c : Check)
+      → c ∈ cs → c .applies ≡ true → n ≤ c .number
   -- DEMAND 2. Completions are those of the published top-k problem (source document 001, problem 1.2), ties settled by
   -- rank; the problem so settled has no other answer.
   pub topK : (es : List Entry) (p : List ℕ) (k : ℕ) → valid es ≡ true → TopK es p k (completion es p k)
