@@ -17,14 +17,16 @@
  *   4  withdraw, name_of: a name that the book does not hold
  *   5  set: a new name where 1,024 are held; merge: more than 1,024 names in all
  *   6  a position or bucket that the book does not have
- *   7  a destination that is shorter than the bytes needed, or fewer ranges than entries asked for
+ *   7  a destination that is shorter than the bytes needed, fewer ranges than entries asked for, or the buffers of a
+ *      run of two lengths
  *   8  a key that the panel does not have
  *   9  a key that appends, at 48 bytes
  * With a refusal every out value is 0 and no lent byte has changed. With 0 the out values are as said at each call, and
- * a destination has changed only where the answer was written, at its front.
+ * a destination has changed only where the answer was written, at its front (but for the two buffers of a run).
  *
  * The numbers, out values and bytes said here are proved of the functions in crates/label_book/src/c_names.rt. That
- * this file declares those functions as they are is not proved; the tests call them by the same declarations.
+ * this file declares those functions as they are is not proved. The tests call all of them by declarations in Rust, the
+ * example in C some of them by these.
  */
 #ifndef LABEL_BOOK_H
 #define LABEL_BOOK_H
@@ -123,10 +125,12 @@ uint8_t label_book_press(const uint8_t *book, size_t book_len, struct label_book
                          uint8_t key, size_t *rows);
 
 /* Runs a history: "empty" into the first buffer, then every call of a script, each from the buffer that holds the book
- * into the other. A call of the script is a kind byte, 0 a set and 1 a withdraw; 4 bytes of score, of no account in a
- * withdraw; 2 bytes of length; as many bytes of name. Numbers are big-endian. An answer is kept in 7 bytes of out: its
- * number in 1, the entries in 2, the bytes in 4; a call that is refused changes nothing, and the script goes on. Tells
- * the calls, and 1 if the second buffer holds the book at the end, else 0.
+ * into the other. A script is calls one behind the other, or none, and ends with the last. A call of it is a kind byte,
+ * 0 a set and 1 a withdraw; 4 bytes of score, of no account in a withdraw; 2 bytes of length; as many bytes of name.
+ * Numbers are big-endian. The answers are kept at the front of out, one behind the other, each in 7 bytes: its number in
+ * 1, the entries in 2, the bytes in 4; a call that is refused changes nothing, and the script goes on. Tells the number
+ * of calls, refused ones included, and 1 if the second buffer holds the book at the end, else 0. Behind the book, and in
+ * the other buffer, stands what the calls left there.
  * Refusals of the whole run: 1, a script that is not laid out so; 7, a first buffer of less than 7 bytes, a second one
  * of another length, or less than 7 bytes of out for each call. */
 uint8_t label_book_run(const uint8_t *script, size_t script_len, uint8_t *first, size_t first_len,

@@ -265,7 +265,8 @@ impl Compare {
                 Ok(rows) => (0, [rows as u64, 0, 0]),
                 Err(number) => (number, [0; 3]),
             };
-            count(&mut self.agreed, "press", told == expected && lent == *panel, told.0, || {
+            let agrees = told == expected && lent == *panel && self.sources[0].lent(book.len()) == book;
+            count(&mut self.agreed, "press", agrees, told.0, || {
                 format!(
                     "book {}\npanel {before:?}\nkey {key:02X}\nours   {told:?} {lent:?}\nsecond {expected:?} {panel:?}",
                     hex(book)

@@ -1,11 +1,11 @@
 -- Answers and refusals (document 01, "When a call declines"), and the bytes of one answer entry.
 use Prim.Native.Nat.{ℕ}
-use mathlib.Core.Bool.{Bool, _&&_, false, not, true}
-use mathlib.Core.List.{List, [], _++_, _∷_}
+use mathlib.Core.Bool.{Bool, false, not}
+use mathlib.Core.List.{List, [], _++_, _∷_, map}
 use mathlib.Core.Option.{Option}
 use lib.Dec.{ltb}
 use lib.ListN.{length}
-use Rattle.octets.specs.Lists.{concatMap, if_then_else_}
+use Rattle.octets.specs.Lists.{concatMap, if_then_else_, keep}
 use Rattle.octets.specs.Octets.{be, overwrite}
 use Rattle.entries.specs.Entries.{Entry}
 use Rattle.frame.specs.Frame.{entriesOf, isRead}
@@ -82,11 +82,9 @@ abbrev pub unless : {A : Type 0} → List Check → A → Answer A
 unless [] a = given a
 unless (c ∷ cs) a = if c .applies then refused (c .number) else unless cs a
 
--- checks in the order of their numbers
-abbrev pub inOrder : List Check → Bool
-inOrder [] = true
-inOrder (c ∷ []) = true
-inOrder (c ∷ d ∷ cs) = ltb (c .number) (d .number) && inOrder (d ∷ cs)
+-- the numbers of those that apply
+abbrev pub applying : List Check → List ℕ
+applying cs = map (λ c. c .number) (keep (λ c. c .applies) cs)
 
 -- the first where the answer is a refusal, else the second
 abbrev pub onAnswer : {A B : Type 0} → Answer A → B → B → B

@@ -48,7 +48,8 @@ completes book es r p k dst ranges hp lo hi long enough =
       le-ltb ranges k enough,
     )
 
-trie-completes :
+-- completion from a buffer that is read as the trie of es
+pub trie-completes :
     (trie : List ℕ) (es : List Entry) → readTrie trie ≡ some es → (p : List ℕ) (k : ℕ) (dst : List ℕ)
     → isPrefix p ≡ true → 1 ≤ k → k ≤ maxCount → entryRoom * k ≤ length dst
     → completeTrie trie p k dst ≡ offersOf es p k 0 dst

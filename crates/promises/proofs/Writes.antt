@@ -1,9 +1,9 @@
--- Calls that write leave what they do not report to have written; every call's refusals are those of its checks.
+-- Calls decline by their checks, and calls that write leave what they do not report to have written.
 use Prim.Native.Nat.{_*_, _≤_, ℕ}
 use mathlib.Core.Path.{_∙_, _≡_, ap, refl, sym}
 use mathlib.Core.Logic.{inl, inr}
 use mathlib.Core.Bool.{Bool, false, not, true}
-use mathlib.Core.List.{List, [], _++_, _∷_, map, map-append}
+use mathlib.Core.List.{List, [], _++_, _∷_}
 use lib.Dec.{ltb}
 use lib.ListN.{drop, length}
 use lib.Seq.{drop-at}
@@ -14,34 +14,32 @@ use Rattle.octets.proofs.Coding.{overwrite-length}
 use Rattle.octets.proofs.Lists.{in-append-right}
 use Rattle.entries.specs.Completion.{completion}
 use Rattle.entries.specs.Entries.{Entry, valid}
-use Rattle.entries.specs.Names.{isPrefix}
 use Rattle.entries.proofs.Valid.{valid-of}
-use Rattle.answer.specs.Answers.{Check, _when_, entriesBytes, noneOffered, noneWritten, tooShort, unless, writing}
-use Rattle.answer.specs.Answers.{writingImage}
+use Rattle.answer.specs.Answers.{Check, _when_, entriesBytes, unless, writing, writingImage}
 use Rattle.answer.proofs.Answers.{clear, given-is, refused-same}
-use Rattle.answer.proofs.Calls.{given-writes, refused-number}
+use Rattle.answer.proofs.Calls.{given-clear, given-writes, inOrder, refused-applies, smallest-given}
 use Rattle.answer.proofs.Entries.{completion-fits}
-use Rattle.completion.specs.Complete.{badCount, entryRoom, offeredAs}
-use Rattle.promises.specs.Promises.{Leaves, Offers, Refuses, Writes}
+use Rattle.completion.specs.Complete.{entryRoom, offeredAs}
+use Rattle.promises.specs.Refusals.{Declines, Leaves, Offers, Writes, badK, badPrefix, noRoom}
 
--- the numbers of checks
-abbrev numbersOf : List Check → List ℕ
-numbersOf cs = map (λ c. c .number) cs
-
--- a refusal has the number of one of the checks
-pub refuses : {A : Type 0} (zeros : A) (cs : List Check) (a : A) → Refuses zeros (numbersOf cs) (unless cs a)
-refuses zeros cs a n h = (refused-number cs a n h, rw h)
+-- a call that gives the first of its checks that applies, which stand in the order of their numbers
+pub declines : {A : Type 0} (cs : List Check) (a : A) → inOrder cs ≡ true → Declines cs (unless cs a)
+declines cs a o =
+    record {
+      smallest = λ n h. (refused-applies cs a n h, smallest-given cs a n o h);
+      clear = λ x h. given-clear cs a x h;
+    }
 
 -- a call that writes bytes behind its checks, which see to it that they fit
 leaves :
-    {A : Type 0} (zeros : A) (bytes : A → ℕ) (numbers : List ℕ) (cs : List ℕ → List Check) (a : A) (image : List ℕ)
-    → bytes a ≡ length image → ((dst : List ℕ) → numbersOf (cs dst) ≡ numbers)
+    {A : Type 0} (bytes : A → ℕ) (cs : List ℕ → List Check) (a : A) (image : List ℕ) → bytes a ≡ length image
+    → ((dst : List ℕ) → inOrder (cs dst) ≡ true)
     → ((dst : List ℕ) → ((c : Check) → c ∈ cs dst → c .applies ≡ false) → length image ≤ length dst)
-    → Leaves zeros bytes numbers (λ dst. writing (cs dst) a image dst)
+    → Leaves bytes cs (λ dst. writing (cs dst) a image dst)
 unfolding writing
-leaves zeros bytes numbers cs a image e ns fits =
+leaves bytes cs a image e o fits =
     record {
-      refuses = λ dst n h. (rw (← ns dst) (refused-number (cs dst) a n h), rw h);
+      declines = λ dst. declines (cs dst) a (o dst);
       unchanged = λ dst n h. refused-same (cs dst) a image dst n h;
       behind = λ dst x h.
           let w = given-writes (cs dst) a x image dst h in
@@ -53,34 +51,30 @@ leaves zeros bytes numbers cs a image e ns fits =
     }
 
 -- a call that writes an image, behind its own checks and that of room
-pub writes : (cs : List Check) (es : List Entry) (image : List ℕ)
-    → Writes (numbersOf cs ++ (7 ∷ [])) (writingImage cs es image)
+pub writes :
+    (cs : List Check) (es : List Entry) (image : List ℕ)
+    → ((dst : List ℕ) → inOrder (cs ++ (noRoom dst image ∷ [])) ≡ true)
+    → Writes (λ dst. cs ++ (noRoom dst image ∷ [])) (writingImage cs es image)
 unfolding writingImage
-writes cs es image =
-    leaves noneWritten (λ a. a .bytes) (numbersOf cs ++ (7 ∷ [])) (λ dst. cs ++ (7 when tooShort dst image ∷ []))
+writes cs es image o =
+    leaves (λ a. a .bytes) (λ dst. cs ++ (noRoom dst image ∷ []))
     (record { entries = length es; bytes = length image })
     image
     refl
-    (λ dst. map-append (λ c. c .number) cs (7 when tooShort dst image ∷ []))
+    o
     (λ dst ok.
     ltb-false (length dst) (length image)
-    (ok (7 when tooShort dst image)
-    (in-append-right (7 when tooShort dst image) cs (7 when tooShort dst image ∷ []) (inl refl))))
-
--- the checks of a completion
-abbrev offerChecks : Bool → List ℕ → ℕ → Bool → List Check
-offerChecks unread p k short =
-    1 when unread ∷ 2 when not (isPrefix p) ∷ 3 when badCount k ∷ 7 when short ∷ []
+    (ok (noRoom dst image) (in-append-right (noRoom dst image) cs (noRoom dst image ∷ []) (inl refl))))
 
 -- a call that completes, from an image that is read or not; `short` says that a buffer is too short
 pub offers :
     (unread : Bool) (short : List ℕ → Bool) (es : List Entry) (p : List ℕ) (k looks : ℕ) → valid es ≡ true
     → ((dst : List ℕ) → short dst ≡ false → ltb (length dst) (entryRoom * k) ≡ false)
-    → Offers (1 ∷ 2 ∷ 3 ∷ 7 ∷ [])
-    (λ dst. writing (offerChecks unread p k (short dst)) (offeredAs (completion es p k) looks)
-    (entriesBytes (completion es p k)) dst)
+    → let cs : List ℕ → List Check = λ dst. 1 when unread ∷ badPrefix p ∷ badK k ∷ 7 when short dst ∷ [] in
+    Offers cs
+    (λ dst. writing (cs dst) (offeredAs (completion es p k) looks) (entriesBytes (completion es p k)) dst)
 offers unread short es p k looks ok room =
-    leaves noneOffered (λ a. a .bytes) (1 ∷ 2 ∷ 3 ∷ 7 ∷ []) (λ dst. offerChecks unread p k (short dst))
+    leaves (λ a. a .bytes) (λ dst. 1 when unread ∷ badPrefix p ∷ badK k ∷ 7 when short dst ∷ [])
     (offeredAs (completion es p k) looks)
     (entriesBytes (completion es p k))
     refl
