@@ -39,9 +39,9 @@ pub record Promises : Type 0 where
   -- always ends: that is each call's contract (docs/CONTRACTS.txt), which asks nothing of the arguments and says that
   -- the call answers and leaves what the definition named here says.
   -- A call declines by the causes of 01's table ("When a call declines"): the smallest number that applies is given,
-  -- and no other. A refusal changes no lent byte: what is not lent to be written cannot change, and the lent ranges stay
-  -- by the contract of `complete` (`Lent`). Its counts are zero by the contracts of the C names (`WrittenTold` and so
-  -- on); in Rattle a refusal has none.
+  -- and no other. A refusal changes no lent byte: what is not lent to be written cannot change, and the lent ranges
+  -- stay by the contract of `complete` (`Lent`). Its counts are zero by the contracts of the C names (`WrittenTold` and
+  -- so on); in Rattle a refusal has none.
   pub emptying : Writes (λ dst. noRoom dst (bookImage []) ∷ []) emptyBook
   pub setting :
       (book w : List ℕ) (s : ℕ)
