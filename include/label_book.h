@@ -129,8 +129,8 @@ uint8_t label_book_press(const uint8_t *book, size_t book_len, struct label_book
  * 0 a set and 1 a withdraw; 4 bytes of score, of no account in a withdraw; 2 bytes of length; as many bytes of name.
  * Numbers are big-endian. The answers are kept at the front of out, one behind the other, each in 7 bytes: its number
  * in 1, the entries in 2, the bytes in 4; a call that is refused changes nothing, and the script goes on. Tells the
- * number of calls, refused ones included, and 1 if the second buffer holds the book at the end, else 0. Behind the book,
- * and in the other buffer, stands what the calls left there.
+ * number of calls, refused ones included, and 1 if the second buffer holds the book at the end, else 0. Behind the
+ * book, and in the other buffer, stands what the calls left there.
  * Refusals of the whole run: 1, a script that is not laid out so; 7, a first buffer of less than 7 bytes, a second one
  * of another length, or less than 7 bytes of out for each call. */
 uint8_t label_book_run(const uint8_t *script, size_t script_len, uint8_t *first, size_t first_len,
