@@ -88,8 +88,7 @@ impl Compare {
         let agrees = told == expected
             && left == wanted.each_ref().map(Vec::as_slice)
             && dsts.iter().zip(&self.destinations).all(|(dst, fence)| fence.front_holds(dst.len()))
-            && first.lent(sources[0].len()) == sources[0]
-            && second.lent(sources[1].len()) == sources[1];
+            && [(&*first, sources[0]), (&*second, sources[1])].iter().all(|(fence, source)| fence.holds(source));
         let difference = || {
             let [a, b] = sources.map(hex);
             let lines = (0..N).map(|i| {
@@ -265,7 +264,7 @@ impl Compare {
                 Ok(rows) => (0, [rows as u64, 0, 0]),
                 Err(number) => (number, [0; 3]),
             };
-            let agrees = told == expected && lent == *panel && self.sources[0].lent(book.len()) == book;
+            let agrees = told == expected && lent == *panel && self.sources[0].holds(book);
             count(&mut self.agreed, "press", agrees, told.0, || {
                 format!(
                     "book {}\npanel {before:?}\nkey {key:02X}\nours   {told:?} {lent:?}\nsecond {expected:?} {panel:?}",

@@ -45,6 +45,11 @@ impl Fence {
         &self.memory[self.memory.len() - length..]
     }
 
+    /// Whether the bytes that were lent, and those in front of them, are as they were.
+    pub fn holds(&self, bytes: &[u8]) -> bool {
+        self.lent(bytes.len()) == bytes && self.front_holds(bytes.len())
+    }
+
     /// Whether the bytes in front of a buffer of this length are as they were.
     pub fn front_holds(&self, length: usize) -> bool {
         let start = self.memory.len() - length;

@@ -41,7 +41,7 @@ pub record Promises : Type 0 where
   -- A call declines by the causes of 01's table ("When a call declines"): the smallest number that applies is given,
   -- and no other. A refusal changes no lent byte: what is not lent to be written cannot change, and the lent ranges
   -- stay by the contract of `complete` (`Lent`). Its counts are zero by the contracts of the C names (`WrittenTold` and
-  -- so on); in Rattle a refusal has none.
+  -- so on); in Rattle a refusal has none. The causes of `run` are this project's own (`runChecks`).
   pub emptying : Writes (λ dst. noRoom dst (bookImage []) ∷ []) emptyBook
   pub setting :
       (book w : List ℕ) (s : ℕ)
