@@ -57,13 +57,32 @@ mod label_book {
 
     pub fn set(book: &[u8], name: &[u8], score: u32, dst: &mut [u8]) -> Counts {
         counts(|a, b| unsafe {
-            c::label_book_set(book.as_ptr(), book.len(), name.as_ptr(), name.len(), score, dst.as_mut_ptr(), dst.len(), a, b)
+            c::label_book_set(
+                book.as_ptr(),
+                book.len(),
+                name.as_ptr(),
+                name.len(),
+                score,
+                dst.as_mut_ptr(),
+                dst.len(),
+                a,
+                b,
+            )
         })
     }
 
     pub fn withdraw(book: &[u8], name: &[u8], dst: &mut [u8]) -> Counts {
         counts(|a, b| unsafe {
-            c::label_book_withdraw(book.as_ptr(), book.len(), name.as_ptr(), name.len(), dst.as_mut_ptr(), dst.len(), a, b)
+            c::label_book_withdraw(
+                book.as_ptr(),
+                book.len(),
+                name.as_ptr(),
+                name.len(),
+                dst.as_mut_ptr(),
+                dst.len(),
+                a,
+                b,
+            )
         })
     }
 
@@ -71,7 +90,15 @@ mod label_book {
     pub fn find(book: &[u8], name: &[u8]) -> Result<Option<(usize, u32)>, u8> {
         let (mut found, mut position, mut score) = (0, 0, 0);
         let number = unsafe {
-            c::label_book_find(book.as_ptr(), book.len(), name.as_ptr(), name.len(), &mut found, &mut position, &mut score)
+            c::label_book_find(
+                book.as_ptr(),
+                book.len(),
+                name.as_ptr(),
+                name.len(),
+                &mut found,
+                &mut position,
+                &mut score,
+            )
         };
         match number {
             0 => Ok((found != 0).then_some((position, score))),
@@ -80,7 +107,13 @@ mod label_book {
     }
 
     /// The number offered, which stand at the front of the destination.
-    pub fn complete(book: &[u8], prefix: &[u8], k: usize, dst: &mut [u8], ranges: &mut [c::Range]) -> Result<usize, u8> {
+    pub fn complete(
+        book: &[u8],
+        prefix: &[u8],
+        k: usize,
+        dst: &mut [u8],
+        ranges: &mut [c::Range],
+    ) -> Result<usize, u8> {
         let mut looks = 0;
         let told = counts(|a, b| unsafe {
             c::label_book_complete(
@@ -111,11 +144,15 @@ mod label_book {
     }
 
     pub fn build(sheet: &[u8], dst: &mut [u8]) -> Counts {
-        counts(|a, b| unsafe { c::label_book_build(sheet.as_ptr(), sheet.len(), dst.as_mut_ptr(), dst.len(), a, b) })
+        counts(|a, b| unsafe {
+            c::label_book_build(sheet.as_ptr(), sheet.len(), dst.as_mut_ptr(), dst.len(), a, b)
+        })
     }
 
     pub fn list(book: &[u8], dst: &mut [u8]) -> Counts {
-        counts(|a, b| unsafe { c::label_book_list(book.as_ptr(), book.len(), dst.as_mut_ptr(), dst.len(), a, b) })
+        counts(|a, b| unsafe {
+            c::label_book_list(book.as_ptr(), book.len(), dst.as_mut_ptr(), dst.len(), a, b)
+        })
     }
 }
 
@@ -195,7 +232,10 @@ impl Bench {
     fn show_rows(&self, panel: &c::Panel) {
         let (mut answer, mut ranges) = ([0; ROWS * ENTRY], [c::Range::default(); ROWS]);
         let typed = &panel.text[..panel.len];
-        let offered = must(label_book::complete(&self.book, typed, ROWS, &mut answer, &mut ranges), "complete");
+        let offered = must(
+            label_book::complete(&self.book, typed, ROWS, &mut answer, &mut ranges),
+            "complete",
+        );
         let mut entries = &answer[..];
         for row in 0..offered {
             print!("  {} ", if row == panel.highlight { '>' } else { ' ' });

@@ -1,46 +1,12 @@
-//! The calls of the static library, each behind a safe function. What a call tells is its number and its out values in order, with
-//! zeros up to three; they are other numbers before the call, so that one that is not told shows.
+//! The calls of the static library, each behind a safe function. What a call tells is its number
+//! and its out values in order, with zeros up to three; they are other numbers before the call, so
+//! that one that is not told shows.
+use label_book::{c, Panel, Range};
+
 pub type Told = (u8, [u64; 3]);
 
 const BEFORE: usize = 0x5A5A_5A5A_5A5A_5A5A;
 const BEFORE_SCORE: u32 = 0x5A5A_5A5A;
-
-#[rustfmt::skip]
-mod c {
-    extern "C" {
-        pub fn label_book_empty(dst: *mut u8, dst_len: usize, entries: *mut usize, bytes: *mut usize) -> u8;
-        pub fn label_book_set(book: *const u8, book_len: usize, name: *const u8, name_len: usize, score: u32, dst: *mut u8, dst_len: usize, entries: *mut usize, bytes: *mut usize) -> u8;
-        pub fn label_book_withdraw(book: *const u8, book_len: usize, name: *const u8, name_len: usize, dst: *mut u8, dst_len: usize, entries: *mut usize, bytes: *mut usize) -> u8;
-        pub fn label_book_merge(first: *const u8, first_len: usize, second: *const u8, second_len: usize, dst: *mut u8, dst_len: usize, entries: *mut usize, bytes: *mut usize) -> u8;
-        pub fn label_book_check(book: *const u8, book_len: usize, entries: *mut usize, bytes: *mut usize) -> u8;
-        pub fn label_book_find(book: *const u8, book_len: usize, name: *const u8, name_len: usize, found: *mut usize, position: *mut usize, score: *mut u32) -> u8;
-        pub fn label_book_name_at(book: *const u8, book_len: usize, position: usize, dst: *mut u8, dst_len: usize, entries: *mut usize, bytes: *mut usize) -> u8;
-        pub fn label_book_name_of(book: *const u8, book_len: usize, name: *const u8, name_len: usize, dst: *mut u8, dst_len: usize, entries: *mut usize, bytes: *mut usize) -> u8;
-        pub fn label_book_prefix_range(book: *const u8, book_len: usize, prefix: *const u8, prefix_len: usize, first: *mut usize, count: *mut usize) -> u8;
-        pub fn label_book_head(book: *const u8, book_len: usize, bucket: usize, start: *mut usize, length: *mut usize) -> u8;
-        pub fn label_book_build(sheet: *const u8, sheet_len: usize, dst: *mut u8, dst_len: usize, entries: *mut usize, bytes: *mut usize) -> u8;
-        pub fn label_book_list(book: *const u8, book_len: usize, dst: *mut u8, dst_len: usize, entries: *mut usize, bytes: *mut usize) -> u8;
-        pub fn label_book_run(script: *const u8, script_len: usize, first: *mut u8, first_len: usize, second: *mut u8, second_len: usize, out: *mut u8, out_len: usize, calls: *mut usize, turned: *mut usize) -> u8;
-        #[cfg(feature = "complete")]
-        pub fn label_book_complete(book: *const u8, book_len: usize, prefix: *const u8, prefix_len: usize, k: usize, dst: *mut u8, dst_len: usize, ranges: *mut super::Range, ranges_len: usize, offered: *mut usize, bytes: *mut usize, looks: *mut usize) -> u8;
-        #[cfg(feature = "write_trie")]
-        pub fn label_book_write_trie(book: *const u8, book_len: usize, dst: *mut u8, dst_len: usize, entries: *mut usize, bytes: *mut usize) -> u8;
-        #[cfg(feature = "complete_trie")]
-        pub fn label_book_complete_trie(trie: *const u8, trie_len: usize, prefix: *const u8, prefix_len: usize, k: usize, dst: *mut u8, dst_len: usize, offered: *mut usize, bytes: *mut usize, looks: *mut usize) -> u8;
-        #[cfg(feature = "press")]
-        pub fn label_book_press(book: *const u8, book_len: usize, panel: *mut crate::reference::panel::Panel, key: u8, rows: *mut usize) -> u8;
-    }
-}
-
-/// An open range that completion lends.
-#[repr(C)]
-#[derive(Clone, Copy, Debug, PartialEq, Eq)]
-pub struct Range {
-    pub first: usize,
-    pub best: usize,
-    pub score: u32,
-    pub last: usize,
-}
 
 /// The number, and two counts through pointers.
 fn two(call: impl FnOnce(*mut usize, *mut usize) -> u8) -> Told {
@@ -50,7 +16,6 @@ fn two(call: impl FnOnce(*mut usize, *mut usize) -> u8) -> Told {
 }
 
 /// The number, and three counts through pointers.
-#[cfg(any(feature = "complete", feature = "complete_trie"))]
 fn three(call: impl FnOnce(*mut usize, *mut usize, *mut usize) -> u8) -> Told {
     let (mut a, mut b, mut c) = (BEFORE, BEFORE, BEFORE);
     let number = call(&mut a, &mut b, &mut c);
@@ -65,19 +30,47 @@ pub fn empty(dst: &mut [u8]) -> Told {
 
 pub fn set(book: &[u8], name: &[u8], score: u32, dst: &mut [u8]) -> Told {
     two(|a, b| unsafe {
-        c::label_book_set(book.as_ptr(), book.len(), name.as_ptr(), name.len(), score, dst.as_mut_ptr(), dst.len(), a, b)
+        c::label_book_set(
+            book.as_ptr(),
+            book.len(),
+            name.as_ptr(),
+            name.len(),
+            score,
+            dst.as_mut_ptr(),
+            dst.len(),
+            a,
+            b,
+        )
     })
 }
 
 pub fn withdraw(book: &[u8], name: &[u8], dst: &mut [u8]) -> Told {
     two(|a, b| unsafe {
-        c::label_book_withdraw(book.as_ptr(), book.len(), name.as_ptr(), name.len(), dst.as_mut_ptr(), dst.len(), a, b)
+        c::label_book_withdraw(
+            book.as_ptr(),
+            book.len(),
+            name.as_ptr(),
+            name.len(),
+            dst.as_mut_ptr(),
+            dst.len(),
+            a,
+            b,
+        )
     })
 }
 
 pub fn merge(first: &[u8], second: &[u8], dst: &mut [u8]) -> Told {
     two(|a, b| unsafe {
-        c::label_book_merge(first.as_ptr(), first.len(), second.as_ptr(), second.len(), dst.as_mut_ptr(), dst.len(), a, b)
+        c::label_book_merge(
+            first.as_ptr(),
+            first.len(),
+            second.as_ptr(),
+            second.len(),
+            dst.as_mut_ptr(),
+            dst.len(),
+            a,
+            b,
+        )
     })
 }
 
@@ -88,24 +81,53 @@ pub fn check(book: &[u8]) -> Told {
 pub fn find(book: &[u8], name: &[u8]) -> Told {
     let mut score = BEFORE_SCORE;
     let (number, mut told) = two(|found, position| unsafe {
-        c::label_book_find(book.as_ptr(), book.len(), name.as_ptr(), name.len(), found, position, &mut score)
+        c::label_book_find(
+            book.as_ptr(),
+            book.len(),
+            name.as_ptr(),
+            name.len(),
+            found,
+            position,
+            &mut score,
+        )
     });
     told[2] = score as u64;
     (number, told)
 }
 
 pub fn name_at(book: &[u8], position: usize, dst: &mut [u8]) -> Told {
-    two(|a, b| unsafe { c::label_book_name_at(book.as_ptr(), book.len(), position, dst.as_mut_ptr(), dst.len(), a, b) })
+    two(|a, b| unsafe {
+        c::label_book_name_at(
+            book.as_ptr(),
+            book.len(),
+            position,
+            dst.as_mut_ptr(),
+            dst.len(),
+            a,
+            b,
+        )
+    })
 }
 
 pub fn name_of(book: &[u8], name: &[u8], dst: &mut [u8]) -> Told {
     two(|a, b| unsafe {
-        c::label_book_name_of(book.as_ptr(), book.len(), name.as_ptr(), name.len(), dst.as_mut_ptr(), dst.len(), a, b)
+        c::label_book_name_of(
+            book.as_ptr(),
+            book.len(),
+            name.as_ptr(),
+            name.len(),
+            dst.as_mut_ptr(),
+            dst.len(),
+            a,
+            b,
+        )
     })
 }
 
 pub fn prefix_range(book: &[u8], prefix: &[u8]) -> Told {
-    two(|a, b| unsafe { c::label_book_prefix_range(book.as_ptr(), book.len(), prefix.as_ptr(), prefix.len(), a, b) })
+    two(|a, b| unsafe {
+        c::label_book_prefix_range(book.as_ptr(), book.len(), prefix.as_ptr(), prefix.len(), a, b)
+    })
 }
 
 pub fn head(book: &[u8], bucket: usize) -> Told {
@@ -113,11 +135,15 @@ pub fn head(book: &[u8], bucket: usize) -> Told {
 }
 
 pub fn build(sheet: &[u8], dst: &mut [u8]) -> Told {
-    two(|a, b| unsafe { c::label_book_build(sheet.as_ptr(), sheet.len(), dst.as_mut_ptr(), dst.len(), a, b) })
+    two(|a, b| unsafe {
+        c::label_book_build(sheet.as_ptr(), sheet.len(), dst.as_mut_ptr(), dst.len(), a, b)
+    })
 }
 
 pub fn list(book: &[u8], dst: &mut [u8]) -> Told {
-    two(|a, b| unsafe { c::label_book_list(book.as_ptr(), book.len(), dst.as_mut_ptr(), dst.len(), a, b) })
+    two(|a, b| unsafe {
+        c::label_book_list(book.as_ptr(), book.len(), dst.as_mut_ptr(), dst.len(), a, b)
+    })
 }
 
 pub fn run(script: &[u8], first: &mut [u8], second: &mut [u8], out: &mut [u8]) -> Told {
@@ -137,8 +163,13 @@ pub fn run(script: &[u8], first: &mut [u8], second: &mut [u8], out: &mut [u8]) -
     })
 }
 
-#[cfg(feature = "complete")]
-pub fn complete(book: &[u8], prefix: &[u8], k: usize, dst: &mut [u8], ranges: &mut [Range]) -> Told {
+pub fn complete(
+    book: &[u8],
+    prefix: &[u8],
+    k: usize,
+    dst: &mut [u8],
+    ranges: &mut [Range],
+) -> Told {
     three(|a, b, l| unsafe {
         c::label_book_complete(
             book.as_ptr(),
@@ -157,12 +188,12 @@ pub fn complete(book: &[u8], prefix: &[u8], k: usize, dst: &mut [u8], ranges: &m
     })
 }
 
-#[cfg(feature = "write_trie")]
 pub fn write_trie(book: &[u8], dst: &mut [u8]) -> Told {
-    two(|a, b| unsafe { c::label_book_write_trie(book.as_ptr(), book.len(), dst.as_mut_ptr(), dst.len(), a, b) })
+    two(|a, b| unsafe {
+        c::label_book_write_trie(book.as_ptr(), book.len(), dst.as_mut_ptr(), dst.len(), a, b)
+    })
 }
 
-#[cfg(feature = "complete_trie")]
 pub fn complete_trie(trie: &[u8], prefix: &[u8], k: usize, dst: &mut [u8]) -> Told {
     three(|a, b, l| unsafe {
         c::label_book_complete_trie(
@@ -180,8 +211,7 @@ pub fn complete_trie(trie: &[u8], prefix: &[u8], k: usize, dst: &mut [u8]) -> To
     })
 }
 
-#[cfg(feature = "press")]
-pub fn press(book: &[u8], panel: &mut crate::reference::panel::Panel, key: u8) -> Told {
+pub fn press(book: &[u8], panel: &mut Panel, key: u8) -> Told {
     let mut rows = BEFORE;
     let number = unsafe { c::label_book_press(book.as_ptr(), book.len(), panel, key, &mut rows) };
     (number, [rows as u64, 0, 0])

@@ -1,8 +1,10 @@
-//! A call of the static library and the same call of the second implementation: number, out values and every lent byte must agree.
+//! A call of the static library and the same call of the second implementation: number, out values
+//! and every lent byte must agree.
 use crate::calls::{self, Told};
 use crate::fence::Fence;
 use crate::reference::calls::{self as reference, Offered, Written};
 use crate::reference::script;
+use label_book::{Panel, Range};
 use std::collections::BTreeMap;
 
 /// How many cases agreed, by the number returned.
@@ -22,7 +24,12 @@ const PAGES: usize = 1024;
 impl Default for Compare {
     fn default() -> Compare {
         let new = |_| Fence::new(PAGES);
-        Compare { agreed: BTreeMap::new(), kept: ByNumber::new(), sources: [0, 1].map(new), destinations: [0, 1, 2].map(new) }
+        Compare {
+            agreed: BTreeMap::new(),
+            kept: ByNumber::new(),
+            sources: [0, 1].map(new),
+            destinations: [0, 1, 2].map(new),
+        }
     }
 }
 
@@ -67,7 +74,8 @@ fn count(
 }
 
 impl Compare {
-    /// A call on sources and destinations, each lent with its end at a fence. `ours` is given them, `other` the destinations.
+    /// A call on sources and destinations, each lent with its end at a fence. `ours` is given them,
+    /// `other` the destinations.
     fn lends<const N: usize>(
         &mut self,
         call: &'static str,
@@ -88,7 +96,9 @@ impl Compare {
         let agrees = told == expected
             && left == wanted.each_ref().map(Vec::as_slice)
             && dsts.iter().zip(&self.destinations).all(|(dst, fence)| fence.front_holds(dst.len()))
-            && [(&*first, sources[0]), (&*second, sources[1])].iter().all(|(fence, source)| fence.holds(source));
+            && [(&*first, sources[0]), (&*second, sources[1])]
+                .iter()
+                .all(|(fence, source)| fence.holds(source));
         let difference = || {
             let [a, b] = sources.map(hex);
             let lines = (0..N).map(|i| {
@@ -112,7 +122,14 @@ impl Compare {
         ours: impl FnOnce([&[u8]; 2], &mut [u8]) -> Told,
         other: impl FnOnce(&mut [u8]) -> Told,
     ) -> (Told, Vec<u8>) {
-        let (told, [left]) = self.lends(call, sources, numbers, [dst], |sources, [d]| ours(sources, d), |[d]| other(d));
+        let (told, [left]) = self.lends(
+            call,
+            sources,
+            numbers,
+            [dst],
+            |sources, [d]| ours(sources, d),
+            |[d]| other(d),
+        );
         (told, left)
     }
 
@@ -129,7 +146,14 @@ impl Compare {
     }
 
     pub fn empty(&mut self, dst: &[u8]) -> (Told, Vec<u8>) {
-        self.writes("empty", [&[], &[]], &[], dst, |_, d| calls::empty(d), |d| told_written(reference::empty(d)))
+        self.writes(
+            "empty",
+            [&[], &[]],
+            &[],
+            dst,
+            |_, d| calls::empty(d),
+            |d| told_written(reference::empty(d)),
+        )
     }
 
     pub fn set(&mut self, book: &[u8], name: &[u8], score: u32, dst: &[u8]) -> (Told, Vec<u8>) {
@@ -140,22 +164,50 @@ impl Compare {
 
     pub fn withdraw(&mut self, book: &[u8], name: &[u8], dst: &[u8]) -> (Told, Vec<u8>) {
         let other = |d: &mut [u8]| told_written(reference::withdraw(book, name, d));
-        self.writes("withdraw", [book, name], &[], dst, |[book, name], d| calls::withdraw(book, name, d), other)
+        self.writes(
+            "withdraw",
+            [book, name],
+            &[],
+            dst,
+            |[book, name], d| calls::withdraw(book, name, d),
+            other,
+        )
     }
 
     pub fn merge(&mut self, first: &[u8], second: &[u8], dst: &[u8]) -> (Told, Vec<u8>) {
         let other = |d: &mut [u8]| told_written(reference::merge(first, second, d));
-        self.writes("merge", [first, second], &[], dst, |[first, second], d| calls::merge(first, second, d), other)
+        self.writes(
+            "merge",
+            [first, second],
+            &[],
+            dst,
+            |[first, second], d| calls::merge(first, second, d),
+            other,
+        )
     }
 
     pub fn name_at(&mut self, book: &[u8], position: usize, dst: &[u8]) {
         let other = |d: &mut [u8]| told_written(reference::name_at(book, position, d));
-        self.writes("name_at", [book, &[]], &[position], dst, |[book, _], d| calls::name_at(book, position, d), other);
+        self.writes(
+            "name_at",
+            [book, &[]],
+            &[position],
+            dst,
+            |[book, _], d| calls::name_at(book, position, d),
+            other,
+        );
     }
 
     pub fn name_of(&mut self, book: &[u8], name: &[u8], dst: &[u8]) {
         let other = |d: &mut [u8]| told_written(reference::name_of(book, name, d));
-        self.writes("name_of", [book, name], &[], dst, |[book, name], d| calls::name_of(book, name, d), other);
+        self.writes(
+            "name_of",
+            [book, name],
+            &[],
+            dst,
+            |[book, name], d| calls::name_of(book, name, d),
+            other,
+        );
     }
 
     pub fn build(&mut self, sheet: &[u8], dst: &[u8]) -> (Told, Vec<u8>) {
@@ -169,7 +221,13 @@ impl Compare {
     }
 
     pub fn check(&mut self, book: &[u8]) {
-        self.reads("check", [book, &[]], &[], |[book, _]| calls::check(book), told_written(reference::check(book)));
+        self.reads(
+            "check",
+            [book, &[]],
+            &[],
+            |[book, _]| calls::check(book),
+            told_written(reference::check(book)),
+        );
     }
 
     pub fn find(&mut self, book: &[u8], name: &[u8]) {
@@ -179,7 +237,13 @@ impl Compare {
 
     pub fn prefix_range(&mut self, book: &[u8], prefix: &[u8]) {
         let other = told_written(reference::prefix_range(book, prefix));
-        self.reads("prefix_range", [book, prefix], &[], |[book, prefix]| calls::prefix_range(book, prefix), other);
+        self.reads(
+            "prefix_range",
+            [book, prefix],
+            &[],
+            |[book, prefix]| calls::prefix_range(book, prefix),
+            other,
+        );
     }
 
     pub fn head(&mut self, book: &[u8], bucket: usize) {
@@ -189,7 +253,9 @@ impl Compare {
 
     /// A history's run: the first buffer, the second and the kept answers are lent.
     pub fn run(&mut self, script: &[u8], lent: [&[u8]; 3]) -> (Told, [Vec<u8>; 3]) {
-        self.run_as(script, lent, |[first, second, out]| told_written(script::run(script, first, second, out)))
+        self.run_as(script, lent, |[first, second, out]| {
+            told_written(script::run(script, first, second, out))
+        })
     }
 
     /// The same, compared with a run that is given.
@@ -199,7 +265,9 @@ impl Compare {
         lent: [&[u8]; 3],
         other: impl FnOnce([&mut [u8]; 3]) -> Told,
     ) -> (Told, [Vec<u8>; 3]) {
-        let ours = |[script, _]: [&[u8]; 2], [first, second, out]: [&mut [u8]; 3]| calls::run(script, first, second, out);
+        let ours = |[script, _]: [&[u8]; 2], [first, second, out]: [&mut [u8]; 3]| {
+            calls::run(script, first, second, out)
+        };
         let (told, left) = self.lends("run", [script, &[]], &[], lent, ours, other);
         for answer in left[2].chunks(script::ANSWER).take(told.1[0] as usize) {
             *self.kept.entry(answer[0]).or_default() += 1;
@@ -207,71 +275,75 @@ impl Compare {
         (told, left)
     }
 
-    /// Completion from a book; the lent ranges are free after an answer and unchanged after a refusal.
-    #[cfg(feature = "complete")]
-    pub fn complete(&mut self, book: &[u8], prefix: &[u8], k: usize, dst: &[u8], ranges: usize) -> (Told, Vec<u8>) {
-        let before = calls::Range { first: 77, best: usize::MAX, score: 0x5A5A_5A5A, last: 3 };
+    /// Completion from a book; the lent ranges are free after an answer and unchanged after a
+    /// refusal.
+    pub fn complete(
+        &mut self,
+        book: &[u8],
+        prefix: &[u8],
+        k: usize,
+        dst: &[u8],
+        ranges: usize,
+    ) -> (Told, Vec<u8>) {
+        let before = Range { first: 77, best: usize::MAX, score: 0x5A5A_5A5A, last: 3 };
         let mut lent = vec![before; ranges + 2];
         let other = |d: &mut [u8]| told_offered(reference::complete(book, prefix, k, d, ranges));
-        let ours = |[book, prefix]: [&[u8]; 2], d: &mut [u8]| calls::complete(book, prefix, k, d, &mut lent[1..=ranges]);
+        let ours = |[book, prefix]: [&[u8]; 2], d: &mut [u8]| {
+            calls::complete(book, prefix, k, d, &mut lent[1..=ranges])
+        };
         let answer = self.writes("complete", [book, prefix], &[k, ranges], dst, ours, other);
-        let same = |range: &calls::Range| *range == before;
-        assert!(same(&lent[0]) && same(&lent[ranges + 1]), "complete: a range that was not lent changed");
+        let same = |range: &Range| *range == before;
+        assert!(
+            same(&lent[0]) && same(&lent[ranges + 1]),
+            "complete: a range that was not lent changed"
+        );
         assert!(answer.0 .0 == 0 || lent.iter().all(same), "complete: a refusal changed a range");
         answer
     }
 
-    #[cfg(not(feature = "complete"))]
-    pub fn complete(&mut self, book: &[u8], prefix: &[u8], k: usize, dst: &[u8], ranges: usize) -> (Told, Vec<u8>) {
-        let mut wanted = dst.to_vec();
-        (told_offered(reference::complete(book, prefix, k, &mut wanted, ranges)), wanted)
-    }
-
-    #[cfg(feature = "write_trie")]
     pub fn write_trie(&mut self, book: &[u8], dst: &[u8]) -> (Told, Vec<u8>) {
         let other = |d: &mut [u8]| told_written(reference::write_trie(book, d));
-        self.writes("write_trie", [book, &[]], &[], dst, |[book, _], d| calls::write_trie(book, d), other)
+        self.writes(
+            "write_trie",
+            [book, &[]],
+            &[],
+            dst,
+            |[book, _], d| calls::write_trie(book, d),
+            other,
+        )
     }
 
-    #[cfg(not(feature = "write_trie"))]
-    pub fn write_trie(&mut self, book: &[u8], dst: &[u8]) -> (Told, Vec<u8>) {
-        let mut wanted = dst.to_vec();
-        (told_written(reference::write_trie(book, &mut wanted)), wanted)
-    }
-
-    #[cfg(feature = "complete_trie")]
-    pub fn complete_trie(&mut self, trie: &[u8], prefix: &[u8], k: usize, dst: &[u8]) -> (Told, Vec<u8>) {
+    pub fn complete_trie(
+        &mut self,
+        trie: &[u8],
+        prefix: &[u8],
+        k: usize,
+        dst: &[u8],
+    ) -> (Told, Vec<u8>) {
         let other = |d: &mut [u8]| told_offered(reference::complete_trie(trie, prefix, k, d));
-        let ours = |[trie, prefix]: [&[u8]; 2], d: &mut [u8]| calls::complete_trie(trie, prefix, k, d);
+        let ours =
+            |[trie, prefix]: [&[u8]; 2], d: &mut [u8]| calls::complete_trie(trie, prefix, k, d);
         self.writes("complete_trie", [trie, prefix], &[k], dst, ours, other)
     }
 
-    #[cfg(not(feature = "complete_trie"))]
-    pub fn complete_trie(&mut self, trie: &[u8], prefix: &[u8], k: usize, dst: &[u8]) -> (Told, Vec<u8>) {
-        let mut wanted = dst.to_vec();
-        (told_offered(reference::complete_trie(trie, prefix, k, &mut wanted)), wanted)
-    }
-
     /// A key of the panel, which is then as the second implementation leaves it.
-    pub fn press(&mut self, book: &[u8], panel: &mut crate::reference::panel::Panel, key: u8) {
+    pub fn press(&mut self, book: &[u8], panel: &mut Panel, key: u8) {
         let before = panel.clone();
         let answer = crate::reference::panel::press(book, panel, key);
-        #[cfg(feature = "press")]
-        {
-            let mut lent = before.clone();
-            let told = calls::press(self.sources[0].lend(book), &mut lent, key);
-            let expected = match answer {
-                Ok(rows) => (0, [rows as u64, 0, 0]),
-                Err(number) => (number, [0; 3]),
-            };
-            let agrees = told == expected && lent == *panel && self.sources[0].holds(book);
-            count(&mut self.agreed, "press", agrees, told.0, || {
-                format!(
-                    "book {}\npanel {before:?}\nkey {key:02X}\nours   {told:?} {lent:?}\nsecond {expected:?} {panel:?}",
-                    hex(book)
-                )
-            });
-        }
+        let mut lent = before.clone();
+        let told = calls::press(self.sources[0].lend(book), &mut lent, key);
+        let expected = match answer {
+            Ok(rows) => (0, [rows as u64, 0, 0]),
+            Err(number) => (number, [0; 3]),
+        };
+        let agrees = told == expected && lent == *panel && self.sources[0].holds(book);
+        count(&mut self.agreed, "press", agrees, told.0, || {
+            let (ours, second) = (format!("{told:?} {lent:?}"), format!("{expected:?} {panel:?}"));
+            format!(
+                "book {}\npanel {before:?}\nkey {key:02X}\nours   {ours}\nsecond {second}",
+                hex(book)
+            )
+        });
         assert!(answer.is_ok() || *panel == before);
     }
 
@@ -282,7 +354,8 @@ impl Compare {
     pub fn report(&self) {
         let line = |call: &str, by_number: &ByNumber, what: &str| {
             let all: u64 = by_number.values().sum();
-            let each: Vec<String> = by_number.iter().map(|(number, cases)| format!("{number}: {cases}")).collect();
+            let each: Vec<String> =
+                by_number.iter().map(|(number, cases)| format!("{number}: {cases}")).collect();
             println!("{call:<14} {all:>9} {what} ({})", each.join(", "));
         };
         self.agreed.iter().for_each(|(call, by_number)| line(call, by_number, "cases"));

@@ -1,8 +1,16 @@
-//! Lent buffers that end where memory ends: a call that reads or writes past one ends the test. (Linux on x86-64, as the static library.)
+//! Lent buffers that end where memory ends: a call that reads or writes past one ends the test.
+//! (Linux on x86-64, as the static library.)
 use std::ffi::c_void;
 
 extern "C" {
-    fn mmap(at: *mut c_void, length: usize, protection: i32, flags: i32, file: i32, offset: i64) -> *mut c_void;
+    fn mmap(
+        at: *mut c_void,
+        length: usize,
+        protection: i32,
+        flags: i32,
+        file: i32,
+        offset: i64,
+    ) -> *mut c_void;
     fn mprotect(at: *mut c_void, length: usize, protection: i32) -> i32;
 }
 
@@ -18,11 +26,19 @@ pub struct Fence {
 }
 
 impl Fence {
-    /// Memory for buffers of up to so many pages less one, with a page behind it that cannot be touched.
+    /// Memory for buffers of up to so many pages less one, with a page behind it that cannot be
+    /// touched.
     pub fn new(pages: usize) -> Fence {
         let length = pages * PAGE;
         let memory = unsafe {
-            let start = mmap(std::ptr::null_mut(), length + PAGE, READ_AND_WRITE, PRIVATE_AND_ANONYMOUS, -1, 0);
+            let start = mmap(
+                std::ptr::null_mut(),
+                length + PAGE,
+                READ_AND_WRITE,
+                PRIVATE_AND_ANONYMOUS,
+                -1,
+                0,
+            );
             assert_ne!(start as isize, -1, "no memory");
             let start = start as *mut u8;
             assert_eq!(mprotect(start.add(length).cast(), PAGE, NO_ACCESS), 0);

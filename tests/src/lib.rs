@@ -1,4 +1,5 @@
-//! Tests of the label book through its C interface, against a second implementation of its document.
+//! Tests of the label book through its C interface, against a second implementation of its
+//! document.
 pub mod calls;
 pub mod compare;
 pub mod fence;

@@ -19,7 +19,8 @@ pub enum Names {
     Mixed,
 }
 
-pub const NAMES: [Names; 6] = [Names::Short, Names::LongPrefix, Names::Full, Names::Any, Names::Chain, Names::Mixed];
+pub const NAMES: [Names; 6] =
+    [Names::Short, Names::LongPrefix, Names::Full, Names::Any, Names::Chain, Names::Mixed];
 
 #[derive(Clone, Copy, Debug)]
 pub enum Scores {
@@ -108,16 +109,27 @@ pub fn entries(random: &mut Random, n: usize, names: Names, scores: Scores) -> E
     entries
 }
 
-/// The entries of two books of these sizes, of whose names so many are shared; a shared name has a score in each.
-pub fn pair(random: &mut Random, sizes: [usize; 2], shared: usize, places: Places, names: Names, scores: Scores) -> [Entries; 2] {
+/// The entries of two books of these sizes, of whose names so many are shared; a shared name has a
+/// score in each.
+pub fn pair(
+    random: &mut Random,
+    sizes: [usize; 2],
+    shared: usize,
+    places: Places,
+    names: Names,
+    scores: Scores,
+) -> [Entries; 2] {
     let [a, b] = sizes;
-    let mut order: Vec<Vec<u8>> = entries(random, a + b - shared, names, scores).into_keys().collect();
+    let mut order: Vec<Vec<u8>> =
+        entries(random, a + b - shared, names, scores).into_keys().collect();
     match places {
         Places::Mixed => order.sort_by_cached_key(|_| random.any()),
         Places::Before => {}
         Places::Behind => order.reverse(),
     }
-    let mut scored = |names: &[Vec<u8>]| names.iter().map(|name| (name.clone(), score(random, scores))).collect();
+    let mut scored = |names: &[Vec<u8>]| {
+        names.iter().map(|name| (name.clone(), score(random, scores))).collect()
+    };
     [scored(&order[..a]), scored(&order[a - shared..])]
 }
 
@@ -159,13 +171,38 @@ pub fn number(random: &mut Random, limit: usize) -> usize {
         1 => limit.saturating_sub(1),
         2 => limit,
         3 => limit + 1,
-        4 => random.pick(&[usize::MAX, usize::MAX / 8 + 1, 1 << 32, (1 << 32) + limit.saturating_sub(1), 65_536, 256]),
+        4 => random.pick(&[
+            usize::MAX,
+            usize::MAX / 8 + 1,
+            1 << 32,
+            (1 << 32) + limit.saturating_sub(1),
+            65_536,
+            256,
+        ]),
         _ => random.below(limit),
     }
 }
 
 pub fn count(random: &mut Random) -> usize {
-    random.pick(&[0, 1, 1, 2, 3, 5, 7, 8, 15, 16, 16, 17, 18, 257, 65_537, (1 << 32) + 1, usize::MAX])
+    random.pick(&[
+        0,
+        1,
+        1,
+        2,
+        3,
+        5,
+        7,
+        8,
+        15,
+        16,
+        16,
+        17,
+        18,
+        257,
+        65_537,
+        (1 << 32) + 1,
+        usize::MAX,
+    ])
 }
 
 /// The length of a buffer for so many bytes: short by one, exact, long by one, or any.
@@ -191,8 +228,15 @@ pub fn damaged(random: &mut Random, image: &[u8]) -> Vec<u8> {
         }
         2 => {
             let total = u32::from_be_bytes(bytes[1..5].try_into().unwrap());
-            let other =
-                random.pick(&[total.wrapping_sub(1), total.wrapping_add(1), 0, 6, u32::MAX, total ^ 65_536, total ^ (1 << 24)]);
+            let other = random.pick(&[
+                total.wrapping_sub(1),
+                total.wrapping_add(1),
+                0,
+                6,
+                u32::MAX,
+                total ^ 65_536,
+                total ^ (1 << 24),
+            ]);
             bytes[1..5].copy_from_slice(&other.to_be_bytes());
             if random.chance(2) {
                 let other = (other as usize).min(70_000);
@@ -201,7 +245,15 @@ pub fn damaged(random: &mut Random, image: &[u8]) -> Vec<u8> {
         }
         3 => {
             let n = u16::from_be_bytes(bytes[5..7].try_into().unwrap());
-            let other = random.pick(&[n.wrapping_sub(1), n.wrapping_add(1), 0, 1024, 1025, 65_535, n ^ 256]);
+            let other = random.pick(&[
+                n.wrapping_sub(1),
+                n.wrapping_add(1),
+                0,
+                1024,
+                1025,
+                65_535,
+                n ^ 256,
+            ]);
             bytes[5..7].copy_from_slice(&other.to_be_bytes());
         }
         4 => {

@@ -1,10 +1,11 @@
-//! Random and hostile inputs through the C interface, compared with the second implementation. Seeded and bounded: the same cases in
-//! every run. `LONG=1` runs many more rounds, each with another seed.
+//! Random and hostile inputs through the C interface, compared with the second implementation.
+//! Seeded and bounded: the same cases in every run. `LONG=1` runs many more rounds, each with
+//! another seed.
+use label_book::Panel;
 use label_book_tests::calls as ours;
 use label_book_tests::compare::Compare;
 use label_book_tests::make::{self, Names, Scores, NAMES, PLACES, SCORES};
 use label_book_tests::random::Random;
-use label_book_tests::reference::panel::Panel;
 use label_book_tests::reference::{book, calls, sheet, trie, Entries, MOST_ENTRIES};
 use std::collections::BTreeSet;
 
@@ -80,7 +81,8 @@ fn ask_trie(compare: &mut Compare, random: &mut Random, buffer: &[u8], held: &En
     compare.complete_trie(buffer, &prefix, k, &dst);
 }
 
-/// Books of every size, with names and scores of every kind: each call on them, with bytes behind the image and without.
+/// Books of every size, with names and scores of every kind: each call on them, with bytes behind
+/// the image and without.
 fn sizes(compare: &mut Compare, random: &mut Random, rounds: usize) {
     for n in SIZES {
         for names in NAMES {
@@ -228,17 +230,29 @@ fn lists(compare: &mut Compare, random: &mut Random, book: &[u8], held: &Entries
     }
 }
 
-/// How many names two books may share: none, half of the smaller book's, all of them, and what makes 1,024 and 1,025 names in all.
+/// How many names two books may share: none, half of the smaller book's, all of them, and what
+/// makes 1,024 and 1,025 names in all.
 fn shares([a, b]: [usize; 2]) -> BTreeSet<usize> {
     let fewer = a.min(b);
-    [0, fewer / 2, fewer, (a + b).saturating_sub(MOST_ENTRIES), (a + b).saturating_sub(MOST_ENTRIES + 1)].into()
+    [
+        0,
+        fewer / 2,
+        fewer,
+        (a + b).saturating_sub(MOST_ENTRIES),
+        (a + b).saturating_sub(MOST_ENTRIES + 1),
+    ]
+    .into()
 }
 
 /// Books of every two sizes merged, the small ones with names of every kind.
 fn merges(compare: &mut Compare, random: &mut Random) {
     for sizes in MERGED_SIZES.iter().flat_map(|&a| MERGED_SIZES.map(|b| [a, b])) {
         for shared in shares(sizes) {
-            let kinds = if sizes[0].max(sizes[1]) < 100 { NAMES.to_vec() } else { vec![random.pick(&NAMES)] };
+            let kinds = if sizes[0].max(sizes[1]) < 100 {
+                NAMES.to_vec()
+            } else {
+                vec![random.pick(&NAMES)]
+            };
             for names in kinds {
                 let (places, scores) = (random.pick(&PLACES), random.pick(&SCORES));
                 let pair = make::pair(random, sizes, shared, places, names, scores);
@@ -248,8 +262,8 @@ fn merges(compare: &mut Compare, random: &mut Random) {
     }
 }
 
-/// Two books merged into a destination that is one byte short, exact, and one byte long; and the lists that the merged book offers. Each book
-/// may have bytes behind it.
+/// Two books merged into a destination that is one byte short, exact, and one byte long; and the
+/// lists that the merged book offers. Each book may have bytes behind it.
 fn merge(compare: &mut Compare, random: &mut Random, [first, second]: &[Entries; 2]) {
     let mut joined = second.clone();
     joined.extend(first.clone());
@@ -279,8 +293,10 @@ fn damaged_merges(compare: &mut Compare, random: &mut Random, rounds: usize) {
         let most = if random.chance(40) { MOST_ENTRIES } else { 20 };
         let sizes = [random.below(most + 1), random.below(most + 1)];
         let shared = random.below(sizes[0].min(sizes[1]) + 1);
-        let (places, names, scores) = (random.pick(&PLACES), random.pick(&NAMES), random.pick(&SCORES));
-        let [a, b] = make::pair(random, sizes, shared, places, names, scores).map(|held| book::image(&held));
+        let (places, names, scores) =
+            (random.pick(&PLACES), random.pick(&NAMES), random.pick(&SCORES));
+        let [a, b] =
+            make::pair(random, sizes, shared, places, names, scores).map(|held| book::image(&held));
         let needed = needed(|d| calls::merge(&a, &b, d));
         for _ in 0..4 {
             let (c, d) = (make::damaged(random, &a), make::damaged(random, &b));
@@ -297,7 +313,12 @@ fn panels(compare: &mut Compare, random: &mut Random, rounds: usize) {
         let n = random.below(30);
         let (names, scores) = (random.pick(&NAMES), random.pick(&SCORES));
         let mut held = make::entries(random, n, names, scores);
-        let mut panel = Panel { text: random.bytes(48).try_into().unwrap(), len: 0, highlight: random.below(9), rows: 1 };
+        let mut panel = Panel {
+            text: random.bytes(48).try_into().unwrap(),
+            len: 0,
+            highlight: random.below(9),
+            rows: 1,
+        };
         for _ in 0..40 {
             match random.below(12) {
                 0 => {
@@ -347,7 +368,12 @@ fn worked(compare: &mut Compare) {
     assert_eq!(book[..44], bytes(p3));
     let (told, trie) = compare.write_trie(&book, &[0xEE; 28]);
     assert_eq!(told, (0, [4, 28, 0]));
-    assert_eq!(trie, bytes("31 00 00 00 1C 00 04 51 0C 08 72 4A 07 61 63 01 6C 59 03 06 63 00 0D 20 73 74 65 70"));
+    assert_eq!(
+        trie,
+        bytes(
+            "31 00 00 00 1C 00 04 51 0C 08 72 4A 07 61 63 01 6C 59 03 06 63 00 0D 20 73 74 65 70"
+        )
+    );
     for (prefix, k, offered, looks) in [("r", 2, 2, 2), ("rc", 5, 2, 2), ("q", 3, 0, 0)] {
         let (told, list) = compare.complete(&book, prefix.as_bytes(), k, &vec![0; 53 * k], k);
         assert_eq!((told.0, told.1[0], told.1[2]), (0, offered, looks));
@@ -367,7 +393,8 @@ fn worked(compare: &mut Compare) {
     assert_eq!(compare.set(&book, &[b'y'; 49], 1, &[0; 400]).0 .0, 2);
 }
 
-/// Two books merged, by bytes: a shared name has the first book's score, whichever book that is, and the peak goes by it.
+/// Two books merged, by bytes: a shared name has the first book's score, whichever book that is,
+/// and the peak goes by it.
 fn worked_merges(compare: &mut Compare) {
     let one = book::image(&[(b"rc".to_vec(), 9)].into());
     let two = book::image(&[(b"rc".to_vec(), 20), (b"rl".to_vec(), 12)].into());
@@ -385,13 +412,19 @@ fn worked_merges(compare: &mut Compare) {
 fn worked_run(compare: &mut Compare) {
     let script = "00 00 00 00 09 00 02 72 63  00 00 00 00 0C 00 02 72 6C  01 FF FF FF FF 00 02 7A 7A  00 00 00 00 00 00 00 \
                   00 00 00 00 01 00 07 72 63 20 73 74 65 70  01 00 00 00 00 00 02 72 6C";
-    let answers = "00 00 01 00 00 00 12  00 00 02 00 00 00 19  04 00 00 00 00 00 00  02 00 00 00 00 00 00 \
+    let answers =
+        "00 00 01 00 00 00 12  00 00 02 00 00 00 19  04 00 00 00 00 00 00  02 00 00 00 00 00 00 \
                    07 00 00 00 00 00 00  00 00 01 00 00 00 12";
-    let both = "21 00 00 00 19 00 02 00 00 00 09 00 00 00 0C 00 13 00 01 02 72 63 01 01 6C EE EE EE EE EE";
-    let one = "21 00 00 00 12 00 01 00 00 00 09 00 0F 00 00 02 72 63 EE EE EE EE EE EE EE EE EE EE EE EE";
+    let both =
+        "21 00 00 00 19 00 02 00 00 00 09 00 00 00 0C 00 13 00 01 02 72 63 01 01 6C EE EE EE EE EE";
+    let one =
+        "21 00 00 00 12 00 01 00 00 00 09 00 0F 00 00 02 72 63 EE EE EE EE EE EE EE EE EE EE EE EE";
     let (told, left) = compare.run(&bytes(script), [&[0xEE; 30], &[0xEE; 30], &[0; 42]]);
     assert_eq!((told, left), ((0, [6, 1, 0]), [both, one, answers].map(bytes)));
-    assert_eq!((ours::check(&bytes(both)), ours::check(&bytes(one)[1..])), ((0, [2, 25, 0]), (1, [0; 3])));
+    assert_eq!(
+        (ours::check(&bytes(both)), ours::check(&bytes(one)[1..])),
+        ((0, [2, 25, 0]), (1, [0; 3]))
+    );
 }
 
 /// One round of everything.
@@ -417,7 +450,10 @@ fn round(compare: &mut Compare, seed: u64) {
     for (length, names) in [(57_344, Names::Mixed), (57_344, Names::Any), (20_000, Names::Any)] {
         histories::long_history(compare, &mut random, length, 20_000, names);
     }
-    for (length, names) in [7, 18, 25, 130, 300, 900, 3000].into_iter().flat_map(|length| NAMES.map(|names| (length, names))) {
+    for (length, names) in [7, 18, 25, 130, 300, 900, 3000]
+        .into_iter()
+        .flat_map(|length| NAMES.map(|names| (length, names)))
+    {
         histories::long_history(compare, &mut random, length, 10_000, names);
     }
     scripts::hostile_scripts(compare, &mut random, 40);

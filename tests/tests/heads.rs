@@ -1,6 +1,7 @@
-//! The head names that the library hands out as parts of the lent book, as the program lookup_heads prints them: on books of all sizes,
-//! damaged ones and noise. Each line is the second implementation's head name, and what the call for C that tells its place and length
-//! says; it is empty where they refuse. Seeded and bounded.
+//! The head names that the library hands out as parts of the lent book, as the program lookup_heads
+//! prints them: on books of all sizes, damaged ones and noise. Each line is the second
+//! implementation's head name, and what the call for C that tells its place and length says; it is
+//! empty where they refuse. Seeded and bounded.
 use label_book_tests::make::{self, Scores, NAMES};
 use label_book_tests::programs::printed;
 use label_book_tests::random::Random;
@@ -84,7 +85,9 @@ fn noise(counts: &mut Counts, random: &mut Random) {
 
 fn main() {
     let rounds = if std::env::var_os("LONG").is_some() { 100 } else { 1 };
-    let mut random = Random::new(std::env::var("SEED").map_or(1, |seed| seed.parse().expect("SEED is a number")));
+    let mut random = Random::new(
+        std::env::var("SEED").map_or(1, |seed| seed.parse().expect("SEED is a number")),
+    );
     let mut counts = Counts::default();
     for _ in 0..rounds {
         for (n, names) in SIZES.iter().flat_map(|&n| NAMES.map(|names| (n, names))) {

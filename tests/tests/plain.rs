@@ -1,12 +1,16 @@
 //! The calls that the benchmark compares with answer as the second implementation does.
+use label_book::Panel;
 use label_book_tests::make::{self, Names, Scores, NAMES, PLACES, SCORES};
 use label_book_tests::random::Random;
-use label_book_tests::reference::panel::Panel;
 use label_book_tests::reference::{book, calls, sheet, trie, Entries};
 use label_book_tests::{plain, reference};
 
 /// Both calls on destinations with the same bytes: the same answer, the same bytes left.
-fn same<A: PartialEq + std::fmt::Debug>(dst: &[u8], one: impl FnOnce(&mut [u8]) -> A, other: impl FnOnce(&mut [u8]) -> A) {
+fn same<A: PartialEq + std::fmt::Debug>(
+    dst: &[u8],
+    one: impl FnOnce(&mut [u8]) -> A,
+    other: impl FnOnce(&mut [u8]) -> A,
+) {
     let (mut a, mut b) = (dst.to_vec(), dst.to_vec());
     assert_eq!((one(&mut a), &a), (other(&mut b), &b));
 }
@@ -14,7 +18,8 @@ fn same<A: PartialEq + std::fmt::Debug>(dst: &[u8], one: impl FnOnce(&mut [u8]) 
 fn ask(random: &mut Random, buffer: &[u8], page: &[u8], held: &Entries) {
     let name = make::asked(random, held);
     let prefix = &name[..random.below(name.len() + 1)];
-    let (position, bucket, k) = (make::number(random, held.len()), make::number(random, 3), make::count(random));
+    let (position, bucket, k) =
+        (make::number(random, held.len()), make::number(random, 3), make::count(random));
     let whole = random.bytes(70_000);
     let dst = &whole[..make::room(random, book::image(held).len())];
     let short = &whole[..make::room(random, 53)];
@@ -26,17 +31,30 @@ fn ask(random: &mut Random, buffer: &[u8], page: &[u8], held: &Entries) {
     same(dst, |d| plain::build(page, d), |d| calls::build(page, d));
     same(short, |d| plain::name_at(buffer, position, d), |d| calls::name_at(buffer, position, d));
     same(short, |d| plain::name_of(buffer, &name, d), |d| calls::name_of(buffer, &name, d));
-    same(answer, |d| plain::complete(buffer, prefix, k, d, 15), |d| calls::complete(buffer, prefix, k, d, 15));
+    same(
+        answer,
+        |d| plain::complete(buffer, prefix, k, d, 15),
+        |d| calls::complete(buffer, prefix, k, d, 15),
+    );
     same(&whole, |d| plain::write_trie(buffer, d), |d| calls::write_trie(buffer, d));
-    let mut panel = Panel { text: [b'a'; 48], len: make::number(random, 48), highlight: make::number(random, 5), rows: 9 };
+    let mut panel = Panel {
+        text: [b'a'; 48],
+        len: make::number(random, 48),
+        highlight: make::number(random, 5),
+        rows: 9,
+    };
     let typed = prefix.len().min(48);
     panel.text[..typed].copy_from_slice(&prefix[..typed]);
     if random.chance(2) {
         panel.len = typed;
     }
-    let key = if random.chance(2) { random.byte() } else { random.pick(&[0, 1, 2, 8, 0x0D, b'a', b'x']) };
+    let key =
+        if random.chance(2) { random.byte() } else { random.pick(&[0, 1, 2, 8, 0x0D, b'a', b'x']) };
     let mut other = panel.clone();
-    assert_eq!((plain::press(buffer, &mut panel, key), &panel), (reference::panel::press(buffer, &mut other, key), &other));
+    assert_eq!(
+        (plain::press(buffer, &mut panel, key), &panel),
+        (reference::panel::press(buffer, &mut other, key), &other)
+    );
     assert_eq!(plain::find(buffer, &name), calls::find(buffer, &name));
     assert_eq!(plain::prefix_range(buffer, prefix), calls::prefix_range(buffer, prefix));
     assert_eq!(plain::head(buffer, bucket), calls::head(buffer, bucket));
@@ -49,19 +67,31 @@ fn ask_trie(random: &mut Random, image: &[u8], held: &Entries) {
         let (prefix, k) = (&name[..random.below(name.len() + 1)], make::count(random));
         let dst = random.bytes(53 * k.min(17));
         let buffer = if random.chance(3) { image.to_vec() } else { make::damaged(random, image) };
-        same(&dst, |d| plain::complete_trie(&buffer, prefix, k, d), |d| calls::complete_trie(&buffer, prefix, k, d));
+        same(
+            &dst,
+            |d| plain::complete_trie(&buffer, prefix, k, d),
+            |d| calls::complete_trie(&buffer, prefix, k, d),
+        );
     }
 }
 
 /// Pairs of books, one or both damaged or none, into a destination of about the bytes needed.
 fn ask_merge(random: &mut Random, sizes: [usize; 2], shared: usize, names: Names) {
     let (places, scores) = (random.pick(&PLACES), random.pick(&SCORES));
-    let images = make::pair(random, sizes, shared, places, names, scores).map(|held| book::image(&held));
+    let images =
+        make::pair(random, sizes, shared, places, names, scores).map(|held| book::image(&held));
     let whole = random.bytes(70_000);
-    let needed = calls::merge(&images[0], &images[1], &mut whole.clone()).map_or(60_000, |(_, bytes)| bytes);
+    let needed =
+        calls::merge(&images[0], &images[1], &mut whole.clone()).map_or(60_000, |(_, bytes)| bytes);
     for damaged in [[false, false], [true, false], [false, true], [true, true]] {
         let dst = &whole[..make::room(random, needed)];
-        let [first, second] = [0, 1].map(|i| if damaged[i] { make::damaged(random, &images[i]) } else { images[i].clone() });
+        let [first, second] = [0, 1].map(|i| {
+            if damaged[i] {
+                make::damaged(random, &images[i])
+            } else {
+                images[i].clone()
+            }
+        });
         same(dst, |d| plain::merge(&first, &second, d), |d| calls::merge(&first, &second, d));
     }
 }
@@ -76,7 +106,13 @@ fn plain_merges_agree() {
             ask_merge(&mut random, [a, b], shared, names);
         }
         // 1,024 names in all and 1,025.
-        for (sizes, shared) in [([1023, 1], 0), ([1, 1024], 0), ([600, 600], 176), ([600, 600], 175), ([1024, 1024], 1024)] {
+        for (sizes, shared) in [
+            ([1023, 1], 0),
+            ([1, 1024], 0),
+            ([600, 600], 176),
+            ([600, 600], 175),
+            ([1024, 1024], 1024),
+        ] {
             ask_merge(&mut random, sizes, shared, names);
         }
     }
@@ -93,7 +129,8 @@ fn plain_calls_agree() {
                 ask_trie(&mut random, &trie::image(&held), &held);
                 for _ in 0..8 {
                     ask(&mut random, &image, &page, &held);
-                    let (buffer, paper) = (make::damaged(&mut random, &image), make::damaged(&mut random, &page));
+                    let (buffer, paper) =
+                        (make::damaged(&mut random, &image), make::damaged(&mut random, &page));
                     ask(&mut random, &buffer, &paper, &held);
                 }
             }

@@ -1,4 +1,5 @@
-//! The program on random and hostile input, compared with the second implementation: every byte that it prints. Seeded and bounded.
+//! The program on random and hostile input, compared with the second implementation: every byte
+//! that it prints. Seeded and bounded.
 use label_book_tests::make::{self, Names, NAMES};
 use label_book_tests::programs::printed;
 use label_book_tests::random::Random;
@@ -13,20 +14,34 @@ fn number(random: &mut Random) -> Vec<u8> {
     match random.below(8) {
         0 => format!("{value:010}").into_bytes(),
         1 => format!("{value:011}").into_bytes(),
-        2 => random.pick(&[b"".to_vec(), b"-1".to_vec(), b"+1".to_vec(), b" 1".to_vec(), b"1a".to_vec(), b"0x1".to_vec()]),
+        2 => random.pick(&[
+            b"".to_vec(),
+            b"-1".to_vec(),
+            b"+1".to_vec(),
+            b" 1".to_vec(),
+            b"1a".to_vec(),
+            b"0x1".to_vec(),
+        ]),
         _ => value.to_string().into_bytes(),
     }
 }
 
 /// A line, well formed or almost.
 fn line(random: &mut Random, names: Names, held: &mut Entries) -> Vec<u8> {
-    let name = if random.chance(2) { make::name(random, names, held) } else { make::asked(random, held) };
+    let name =
+        if random.chance(2) { make::name(random, names, held) } else { make::asked(random, held) };
     let mut line = match random.below(8) {
         0..=3 => {
             held.insert(name.clone(), 0);
             [b"set ".to_vec(), number(random), b" ".to_vec(), name].concat()
         }
-        4 | 5 => [b"top ".to_vec(), number(random), b" ".to_vec(), name[..random.below(name.len() + 1)].to_vec()].concat(),
+        4 | 5 => [
+            b"top ".to_vec(),
+            number(random),
+            b" ".to_vec(),
+            name[..random.below(name.len() + 1)].to_vec(),
+        ]
+        .concat(),
         6 => [b"del ".to_vec(), name].concat(),
         _ => random.pick(&[
             b"".to_vec(),
@@ -60,9 +75,19 @@ fn script(random: &mut Random, lines: usize) -> Vec<u8> {
 
 fn main() {
     let rounds = if std::env::var_os("LONG").is_some() { 20_000 } else { 200 };
-    let mut random = Random::new(std::env::var("SEED").map_or(1, |seed| seed.parse().expect("SEED is a number")));
-    let full: Vec<u8> = (0..1030).flat_map(|i| format!("set {i} name {i}\n").into_bytes()).collect();
-    let mut inputs = vec![b"".to_vec(), b"\n".to_vec(), b"\n\n".to_vec(), b"set 5 ac".to_vec(), full, vec![b'x'; 200_000]];
+    let mut random = Random::new(
+        std::env::var("SEED").map_or(1, |seed| seed.parse().expect("SEED is a number")),
+    );
+    let full: Vec<u8> =
+        (0..1030).flat_map(|i| format!("set {i} name {i}\n").into_bytes()).collect();
+    let mut inputs = vec![
+        b"".to_vec(),
+        b"\n".to_vec(),
+        b"\n\n".to_vec(),
+        b"set 5 ac".to_vec(),
+        full,
+        vec![b'x'; 200_000],
+    ];
     for _ in 0..rounds {
         let lines = random.below(120);
         inputs.push(script(&mut random, lines));
@@ -73,7 +98,8 @@ fn main() {
     for input in &inputs {
         let (ours, second) = (printed("labels", input), program::run(input));
         if ours != second {
-            let (input, ours, second) = (input.escape_ascii(), ours.escape_ascii(), second.escape_ascii());
+            let (input, ours, second) =
+                (input.escape_ascii(), ours.escape_ascii(), second.escape_ascii());
             panic!("labels: a difference\ninput  {input}\nours   {ours}\nsecond {second}");
         }
         lines += input.split(|b| *b == b'\n').count();

@@ -1,5 +1,7 @@
-//! How long each call takes at three sizes, in one run with warm buffers: the static library, the same call in plain safe Rust over the
-//! same image with the same checks (`plain`), and one scan of the image's bytes.
+//! How long each call takes at three sizes, in one run with warm buffers: the static library, the
+//! same call in plain safe Rust over the same image with the same checks (`plain`), and one scan of
+//! the image's bytes.
+use label_book::{Panel, Range};
 use label_book_tests::calls;
 use label_book_tests::make::{self, Names, Places, Scores};
 use label_book_tests::plain;
@@ -83,7 +85,8 @@ fn two_names(held: &Entries) -> (Vec<u8>, Vec<u8>) {
 /// Two books with n names in all, a quarter of them in both.
 fn two_books(n: usize) -> [Vec<u8>; 2] {
     let sizes = [n / 8 * 5; 2];
-    make::pair(&mut Random::new(3), sizes, n / 4, Places::Mixed, Names::Mixed, Scores::Any).map(|held| book::image(&held))
+    make::pair(&mut Random::new(3), sizes, n / 4, Places::Mixed, Names::Mixed, Scores::Any)
+        .map(|held| book::image(&held))
 }
 
 /// One call of both kinds, by its name and its arguments in front of the destination.
@@ -122,26 +125,27 @@ fn size(n: usize) {
     reads!(head, n, image, image, n / 16);
     writes!(build, n, page, page);
     writes!(list, n, image, image);
-    #[cfg(feature = "complete")]
     {
-        let mut ranges = [calls::Range { first: 0, best: 0, score: 0, last: 0 }; 16];
+        let mut ranges = [Range::default(); 16];
         let (mut one, mut two) = (vec![0; LONG_BUFFER], vec![0; LONG_BUFFER]);
-        let ours = &mut || consume(calls::complete(black_box(image), prefix, 5, &mut one, &mut ranges));
-        line("complete", n, image, ours, &mut || consume(plain::complete(black_box(image), prefix, 5, &mut two, 16)));
+        let ours =
+            &mut || consume(calls::complete(black_box(image), prefix, 5, &mut one, &mut ranges));
+        line("complete", n, image, ours, &mut || {
+            consume(plain::complete(black_box(image), prefix, 5, &mut two, 16))
+        });
     }
-    #[cfg(feature = "write_trie")]
     writes!(write_trie, n, image, image);
-    #[cfg(feature = "complete_trie")]
     {
         let trie = &label_book_tests::reference::trie::image(&held)[..];
         writes!(complete_trie, n, trie, trie, prefix, 5);
     }
-    #[cfg(feature = "press")]
     {
-        let typed = label_book_tests::reference::panel::Panel { text: [0; 48], len: 0, highlight: 0, rows: 0 };
+        let typed = Panel::default();
         let (mut one, mut two) = (typed.clone(), typed);
         let ours = &mut || consume(calls::press(black_box(image), &mut one, 0x02));
-        line("press", n, image, ours, &mut || consume(plain::press(black_box(image), &mut two, 0x02)));
+        line("press", n, image, ours, &mut || {
+            consume(plain::press(black_box(image), &mut two, 0x02))
+        });
     }
 }
 

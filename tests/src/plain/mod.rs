@@ -1,5 +1,5 @@
-//! The calls again, written straightforwardly in safe Rust over the image where it lies, with the same checks: what the benchmark compares
-//! the static library with. The comparison runs them too.
+//! The calls again, written straightforwardly in safe Rust over the image where it lies, with the
+//! same checks: what the benchmark compares the static library with. The comparison runs them too.
 mod panel;
 mod trie;
 
@@ -92,15 +92,20 @@ fn check(buffer: &[u8]) -> Option<Book<'_>> {
         if added == 0 || kept > name.len || kept + added > LONGEST_NAME || !allowed(rest) {
             return None;
         }
-        let rises = if i % 8 == 0 { name.get() < rest } else { kept == name.len || name.bytes[kept] < rest[0] };
+        let rises = if i % 8 == 0 {
+            name.get() < rest
+        } else {
+            kept == name.len || name.bytes[kept] < rest[0]
+        };
         if !rises {
             return None;
         }
         name.put(kept, rest);
     }
     let book = Book { image, n };
-    let peaks_hold =
-        (0..n).step_by(16).all(|first| u16_at(image, book.peaks_at() + first / 8) == book.best_of(first, n.min(first + 16)));
+    let peaks_hold = (0..n).step_by(16).all(|first| {
+        u16_at(image, book.peaks_at() + first / 8) == book.best_of(first, n.min(first + 16))
+    });
     (at == image.len() && peaks_hold).then_some(book)
 }
 
@@ -216,7 +221,13 @@ impl<'a> Book<'a> {
     }
 
     /// Each entry of the book with one left out, or a new one put in, or both, at a place.
-    fn each_spliced(&self, place: usize, skip: bool, fresh: Option<(&[u8], u32)>, mut each: impl FnMut(&[u8], u32)) {
+    fn each_spliced(
+        &self,
+        place: usize,
+        skip: bool,
+        fresh: Option<(&[u8], u32)>,
+        mut each: impl FnMut(&[u8], u32),
+    ) {
         let mut name = Name::new();
         let mut at = records_at(self.n);
         for i in 0..self.n {
@@ -237,12 +248,19 @@ impl<'a> Book<'a> {
         }
     }
 
-    fn splice(&self, place: usize, skip: bool, fresh: Option<(&[u8], u32)>, dst: &mut [u8]) -> Written {
+    fn splice(
+        &self,
+        place: usize,
+        skip: bool,
+        fresh: Option<(&[u8], u32)>,
+        dst: &mut [u8],
+    ) -> Written {
         write_book(dst, |each| self.each_spliced(place, skip, fresh, each))
     }
 }
 
-/// A pass over the entries of a book: the position where it stands, the place behind its record, its name. At the end the position is n.
+/// A pass over the entries of a book: the position where it stands, the place behind its record,
+/// its name. At the end the position is n.
 struct Pass<'a> {
     book: Book<'a>,
     i: usize,
@@ -456,7 +474,9 @@ pub fn complete(book: &[u8], prefix: &[u8], k: usize, dst: &mut [u8], ranges: us
                 looks += 1;
             }
         }
-        let Some(at) = (0..waiting).min_by_key(|&i| (std::cmp::Reverse(book.score(open[i].best)), open[i].best)) else {
+        let Some(at) = (0..waiting)
+            .min_by_key(|&i| (std::cmp::Reverse(book.score(open[i].best)), open[i].best))
+        else {
             break;
         };
         let range = open[at];

@@ -1,7 +1,7 @@
 //! The panel in plain safe Rust.
 use super::{check, Book, Name};
-use crate::reference::panel::Panel;
 use crate::reference::{is_prefix, LONGEST_NAME};
+use label_book::Panel;
 
 const SHOWN: usize = 5;
 
@@ -42,6 +42,7 @@ pub fn press(book: &[u8], panel: &mut Panel, key: u8) -> Result<usize, u8> {
     let after = rows(&book, name.get());
     panel.text = [0; 48];
     panel.text[..name.len].copy_from_slice(name.get());
-    (panel.len, panel.highlight, panel.rows) = (name.len, highlight.min(after.saturating_sub(1)), after);
+    (panel.len, panel.highlight, panel.rows) =
+        (name.len, highlight.min(after.saturating_sub(1)), after);
     Ok(after)
 }

@@ -61,7 +61,8 @@ fn said(n: usize, image: &[u8]) -> Option<Entries> {
     Some(entries)
 }
 
-/// The entries of the book at the front of a buffer: those whose image, written again, is what stands there.
+/// The entries of the book at the front of a buffer: those whose image, written again, is what
+/// stands there.
 pub fn read(buffer: &[u8]) -> Option<Entries> {
     let (n, bytes) = unframed(0x21, buffer)?;
     if n > MOST_ENTRIES {

@@ -1,4 +1,5 @@
-//! Every call of the document: the checks in the table's order, then the answer. `Err` is the refusal's number; a refusal changes nothing.
+//! Every call of the document: the checks in the table's order, then the answer. `Err` is the
+//! refusal's number; a refusal changes nothing.
 use super::*;
 
 /// What a call that writes reports: the entries in it and its bytes.
@@ -81,7 +82,11 @@ pub fn name_of(book: &[u8], name: &[u8], dst: &mut [u8]) -> Written {
 
 /// The positions of the names that a prefix begins.
 fn matching(entries: &Entries, prefix: &[u8]) -> std::ops::Range<usize> {
-    let positions: Vec<usize> = (0..).zip(entries.keys()).filter(|(_, name)| name.starts_with(prefix)).map(|(i, _)| i).collect();
+    let positions: Vec<usize> = (0..)
+        .zip(entries.keys())
+        .filter(|(_, name)| name.starts_with(prefix))
+        .map(|(i, _)| i)
+        .collect();
     match positions.first() {
         None => 0..0,
         Some(&first) => first..first + positions.len(),
@@ -106,9 +111,11 @@ pub fn head(book: &[u8], bucket: usize) -> Result<(usize, usize), u8> {
     Ok((offset.number(2).unwrap() as usize + 1, name.len()))
 }
 
-/// The bytes of the entries that a prefix begins, in rank, the first k or all if fewer; and how many they are.
+/// The bytes of the entries that a prefix begins, in rank, the first k or all if fewer; and how
+/// many they are.
 pub fn completion(entries: &Entries, prefix: &[u8], k: usize) -> (usize, Vec<u8>) {
-    let offered: Vec<usize> = in_rank(&scores(entries), matching(entries, prefix)).into_iter().take(k).collect();
+    let offered: Vec<usize> =
+        in_rank(&scores(entries), matching(entries, prefix)).into_iter().take(k).collect();
     let bytes = offered.iter().flat_map(|&i| {
         let (name, score) = super::name_at(entries, i);
         entry_bytes(name, score)
@@ -146,7 +153,13 @@ fn looks(entries: &Entries, prefix: &[u8], k: usize) -> usize {
 }
 
 /// Completion's checks behind the image's, in order, then the entries offered.
-fn offer(entries: &Entries, prefix: &[u8], k: usize, dst: &mut [u8], ranges: usize) -> Result<(usize, usize), u8> {
+fn offer(
+    entries: &Entries,
+    prefix: &[u8],
+    k: usize,
+    dst: &mut [u8],
+    ranges: usize,
+) -> Result<(usize, usize), u8> {
     allow(is_prefix(prefix), NAME)?;
     allow((1..=MOST_OFFERED).contains(&k), COUNT)?;
     allow(dst.len() >= 53 * k && ranges >= k, TOO_SHORT)?;

@@ -1,5 +1,6 @@
-//! A second implementation of the label book, written from its document alone, as plainly as possible. Entries are a map from names to
-//! scores, which is in name order; an image is read by taking its fields apart and writing what they say again. Nothing here is quick.
+//! A second implementation of the label book, written from its document alone, as plainly as
+//! possible. Entries are a map from names to scores, which is in name order; an image is read by
+//! taking its fields apart and writing what they say again. Nothing here is quick.
 pub mod book;
 pub mod calls;
 pub mod ledger;
@@ -85,7 +86,8 @@ pub fn framed(version: u8, n: usize, rest: &[u8]) -> Vec<u8> {
     image
 }
 
-/// The number of entries that an image names and its bytes, if the buffer holds as many as its total length says.
+/// The number of entries that an image names and its bytes, if the buffer holds as many as its
+/// total length says.
 pub fn unframed(version: u8, buffer: &[u8]) -> Option<(usize, &[u8])> {
     if *buffer.first()? != version {
         return None;

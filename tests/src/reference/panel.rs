@@ -1,15 +1,7 @@
 //! The panel's typing state.
 use super::calls::rows;
 use super::*;
-
-#[derive(Clone, Debug, PartialEq, Eq)]
-#[repr(C)]
-pub struct Panel {
-    pub text: [u8; 48],
-    pub len: usize,
-    pub highlight: usize,
-    pub rows: usize,
-}
+use label_book::Panel;
 
 const SHOWN: usize = 5;
 

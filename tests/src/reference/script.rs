@@ -76,11 +76,19 @@ pub fn kept(answer: Written) -> [u8; ANSWER] {
     [number, entries[2], entries[3], bytes[0], bytes[1], bytes[2], bytes[3]]
 }
 
-/// "Empty" into the first buffer, then every call of the script, each from the buffer that holds the book into the other. How many calls
-/// there are, and 1 if the second buffer holds the book at the end, else 0.
-pub fn run(script: &[u8], first: &mut [u8], second: &mut [u8], out: &mut [u8]) -> Result<(usize, usize), u8> {
+/// "Empty" into the first buffer, then every call of the script, each from the buffer that holds
+/// the book into the other. How many calls there are, and 1 if the second buffer holds the book at
+/// the end, else 0.
+pub fn run(
+    script: &[u8],
+    first: &mut [u8],
+    second: &mut [u8],
+    out: &mut [u8],
+) -> Result<(usize, usize), u8> {
     let calls = read(script).ok_or(IMAGE)?;
-    let long_enough = first.len() >= EMPTY_BOOK && second.len() == first.len() && out.len() >= ANSWER * calls.len();
+    let long_enough = first.len() >= EMPTY_BOOK
+        && second.len() == first.len()
+        && out.len() >= ANSWER * calls.len();
     allow(long_enough, TOO_SHORT)?;
     calls::empty(first)?;
     let (mut book, mut other, mut turned) = (first, second, 0);

@@ -2,7 +2,8 @@
 use super::*;
 
 pub fn image(entries: &Entries) -> Vec<u8> {
-    let rest: Vec<u8> = entries.iter().flat_map(|(name, score)| entry_bytes(name, *score)).collect();
+    let rest: Vec<u8> =
+        entries.iter().flat_map(|(name, score)| entry_bytes(name, *score)).collect();
     framed(0x11, entries.len(), &rest)
 }
 

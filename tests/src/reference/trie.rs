@@ -26,9 +26,14 @@ fn node(suffixes: &Entries) -> Node {
     let one = suffixes.keys().next().unwrap();
     let shared = suffixes.keys().map(|suffix| common(one, suffix)).min().unwrap();
     let label = one[..shared.min(LONGEST_LABEL)].to_vec();
-    let remains: Entries = suffixes.iter().map(|(suffix, score)| (suffix[label.len()..].to_vec(), *score)).collect();
+    let remains: Entries =
+        suffixes.iter().map(|(suffix, score)| (suffix[label.len()..].to_vec(), *score)).collect();
     let used_up = remains.len() == 1 && remains.contains_key(&[][..]);
-    Node { label, score: *suffixes.values().max().unwrap(), children: if used_up { Vec::new() } else { group(&remains) } }
+    Node {
+        label,
+        score: *suffixes.values().max().unwrap(),
+        children: if used_up { Vec::new() } else { group(&remains) },
+    }
 }
 
 /// The smallest size code that holds a value.
@@ -49,10 +54,13 @@ fn field(value: usize, code: u8) -> Vec<u8> {
     (value as u32).to_be_bytes()[4 - size_of(code)..].to_vec()
 }
 
-/// A group and all its descendants. `before` is the score that the first sibling's score field is counted from.
+/// A group and all its descendants. `before` is the score that the first sibling's score field is
+/// counted from.
 fn group_bytes(nodes: &[Node], first_of_all: bool) -> Vec<u8> {
-    let below: Vec<Vec<u8>> =
-        nodes.iter().map(|n| if n.children.is_empty() { Vec::new() } else { group_bytes(&n.children, false) }).collect();
+    let below: Vec<Vec<u8>> = nodes
+        .iter()
+        .map(|n| if n.children.is_empty() { Vec::new() } else { group_bytes(&n.children, false) })
+        .collect();
     let score_fields: Vec<usize> = (0..nodes.len())
         .map(|i| match i {
             0 if first_of_all => nodes[0].score as usize,
@@ -60,14 +68,20 @@ fn group_bytes(nodes: &[Node], first_of_all: bool) -> Vec<u8> {
             _ => (nodes[i - 1].score - nodes[i].score) as usize,
         })
         .collect();
-    let with_children: Vec<usize> = (0..nodes.len()).filter(|&i| !nodes[i].children.is_empty()).collect();
+    let with_children: Vec<usize> =
+        (0..nodes.len()).filter(|&i| !nodes[i].children.is_empty()).collect();
     let mut child_fields = vec![0; nodes.len()];
     for pair in with_children.windows(2) {
         child_fields[pair[1]] = below[pair[0]].len();
     }
-    // The group's bytes but for the child field of the first node with children, which counts itself.
+    // The group's bytes but for the child field of the first node with children, which counts
+    // itself.
     let others: usize = (0..nodes.len())
-        .map(|i| 1 + size_of(size_code(score_fields[i])) + size_of(size_code(child_fields[i])) + nodes[i].label.len())
+        .map(|i| {
+            1 + size_of(size_code(score_fields[i]))
+                + size_of(size_code(child_fields[i]))
+                + nodes[i].label.len()
+        })
         .sum();
     if let Some(&first) = with_children.first() {
         let size = [1, 2, 4].into_iter().find(|&size| others + size < 1 << (8 * size)).unwrap();
@@ -126,7 +140,8 @@ fn said(fields: &mut Fields, path: &[u8], best: Option<u32>, entries: &mut Entri
     inner.iter().try_for_each(|(path, own)| said(fields, path, Some(*own), entries))
 }
 
-/// The entries of the trie at the front of a buffer: those whose image, written again, is what stands there.
+/// The entries of the trie at the front of a buffer: those whose image, written again, is what
+/// stands there.
 pub fn read(buffer: &[u8]) -> Option<Entries> {
     let (n, bytes) = unframed(0x31, buffer)?;
     let mut entries = Entries::new();

@@ -1,8 +1,9 @@
 //! The cases that the document works out.
 use super::calls::*;
-use super::panel::{press, Panel};
+use super::panel::press;
 use super::script::{Call, Kind};
 use super::*;
+use label_book::Panel;
 
 fn bytes(hex: &str) -> Vec<u8> {
     hex.split_whitespace().map(|b| u8::from_str_radix(b, 16).unwrap()).collect()
@@ -44,7 +45,9 @@ fn p3_book() {
 
 #[test]
 fn p4_trie() {
-    let image = bytes("31 00 00 00 1C 00 04 51 0C 08 72 4A 07 61 63 01 6C 59 03 06 63 00 0D 20 73 74 65 70");
+    let image = bytes(
+        "31 00 00 00 1C 00 04 51 0C 08 72 4A 07 61 63 01 6C 59 03 06 63 00 0D 20 73 74 65 70",
+    );
     assert_eq!(trie::image(&e()), image);
     assert_eq!(trie::read(&image), Some(e()));
 }
@@ -86,8 +89,14 @@ fn limits() {
     assert_eq!(complete(&book, b"", 16, &mut dst, 15), Err(TOO_SHORT));
     assert_eq!(complete(&book, b"", 16, &mut dst[..53 * 16 - 1], 16), Err(TOO_SHORT));
     // A lone name of 7 bytes is one node, of 8 bytes two.
-    assert_eq!(trie::image(&of(&[("1234567", 0)])), bytes("31 00 00 00 0F 00 01 0F 31 32 33 34 35 36 37"));
-    assert_eq!(trie::image(&of(&[("12345678", 0)])), bytes("31 00 00 00 12 00 01 1F 09 31 32 33 34 35 36 37 09 38"));
+    assert_eq!(
+        trie::image(&of(&[("1234567", 0)])),
+        bytes("31 00 00 00 0F 00 01 0F 31 32 33 34 35 36 37")
+    );
+    assert_eq!(
+        trie::image(&of(&[("12345678", 0)])),
+        bytes("31 00 00 00 12 00 01 1F 09 31 32 33 34 35 36 37 09 38")
+    );
 }
 
 #[test]
@@ -96,9 +105,15 @@ fn merged_books() {
     // The first book's score counts, and the peak goes by it.
     let mut dst = [0xEE; 26];
     assert_eq!(merge(&one, &two, &mut dst), Ok((2, 25)));
-    assert_eq!(dst[..], bytes("21 00 00 00 19 00 02 00 00 00 09 00 00 00 0C 00 13 00 01 02 72 63 01 01 6C EE"));
+    assert_eq!(
+        dst[..],
+        bytes("21 00 00 00 19 00 02 00 00 00 09 00 00 00 0C 00 13 00 01 02 72 63 01 01 6C EE")
+    );
     assert_eq!(merge(&two, &one, &mut dst), Ok((2, 25)));
-    assert_eq!(dst[..], bytes("21 00 00 00 19 00 02 00 00 00 14 00 00 00 0C 00 13 00 00 02 72 63 01 01 6C EE"));
+    assert_eq!(
+        dst[..],
+        bytes("21 00 00 00 19 00 02 00 00 00 14 00 00 00 0C 00 13 00 00 02 72 63 01 01 6C EE")
+    );
     // With no entries, and with itself, a book stays as it is.
     let (none, book) = (book::image(&Entries::new()), book::image(&e()));
     for (first, second) in [(&none, &book), (&book, &none), (&book, &book)] {
@@ -117,8 +132,11 @@ fn merges_refused() {
     assert_eq!(merge(&one[..one.len() - 1], &two, &mut dst), Err(IMAGE));
     assert_eq!(merge(&one, &two[..two.len() - 1], &mut dst), Err(IMAGE));
     assert_eq!(merge(&[], &[], &mut dst), Err(IMAGE));
-    // 1,024 names in all, then one more, which is said before the short destination and behind a book that is none.
-    let numbered = |numbers: std::ops::Range<usize>| numbers.map(|i| (format!("{i:04}").into_bytes(), 1)).collect::<Entries>();
+    // 1,024 names in all, then one more, which is said before the short destination and behind a
+    // book that is none.
+    let numbered = |numbers: std::ops::Range<usize>| {
+        numbers.map(|i| (format!("{i:04}").into_bytes(), 1)).collect::<Entries>()
+    };
     let (low, high, higher) = (numbered(0..600), numbered(500..1024), numbered(500..1025));
     let [low, high, higher] = [low, high, higher].map(|entries| book::image(&entries));
     assert_eq!(merge(&low, &high, &mut [0; 10_000]).map(|a| a.0), Ok(1024));
@@ -135,11 +153,13 @@ fn p9_p10_run() {
     let mut calls: Vec<Call> = names.map(|name| Call { kind: Kind::Set, score: 0, name }).collect();
     calls.push(Call { kind: Kind::Withdraw, score: 9, name: vec![b'1'] });
     assert_eq!(calls[10].bytes(), bytes("01 00 00 00 09 00 01 31"));
-    let (script, mut first, mut second, mut out) = (script::bytes(&calls), [0xEE; 130], [0; 130], [0xEE; 78]);
+    let (script, mut first, mut second, mut out) =
+        (script::bytes(&calls), [0xEE; 130], [0; 130], [0xEE; 78]);
     assert_eq!(script::run(&script, &mut first, &mut second, &mut out), Ok((11, 0)));
     assert_eq!(out[63..], bytes("00 00 0A 00 00 00 7F 07 00 00 00 00 00 00 EE"));
     assert_eq!((check(&first), first[127]), (Ok((10, 127)), 0xEE));
-    // Room for the answers of ten calls, two lengths, buffers that are too short; the script is said first.
+    // Room for the answers of ten calls, two lengths, buffers that are too short; the script is
+    // said first.
     assert_eq!(script::run(&script, &mut first, &mut second, &mut out[..76]), Err(TOO_SHORT));
     assert_eq!(script::run(&script, &mut first, &mut second[1..], &mut out), Err(TOO_SHORT));
     assert_eq!(script::run(&[], &mut [0; 6], &mut [0; 6], &mut []), Err(TOO_SHORT));
@@ -203,6 +223,9 @@ fn program_output() {
     assert_eq!(program::run(input), b"ok 1\nok 2\nok 3\nok 4\n12 rl\n9 rc\nlooks 2\nno 4\n");
     let input =
         b"\nset 5 \ntop 2\ntop 2 \ntop 0 a\ntop 17 \x80\nset 4294967296 a\nset 0000000001  a\nset 00000000001 a\nDEL a\ndel \n";
-    assert_eq!(program::run(input), b"bad\nno 2\nbad\nlooks 0\nno 3\nno 2\nbad\nok 1\nbad\nbad\nno 2\n");
+    assert_eq!(
+        program::run(input),
+        b"bad\nno 2\nbad\nlooks 0\nno 3\nno 2\nbad\nok 1\nbad\nbad\nno 2\n"
+    );
     assert_eq!(program::run(b""), b"");
 }

@@ -8,7 +8,8 @@ use label_book_tests::reference::calls::Written;
 use label_book_tests::reference::script::{self, Call, Kind, ANSWER, EMPTY_BOOK};
 use label_book_tests::reference::{book, ledger::Ledger, Entries};
 
-/// A history as it was played: the buffers before it, the script, the kept answers, the buffers, and which of them holds the book.
+/// A history as it was played: the buffers before it, the script, the kept answers, the buffers,
+/// and which of them holds the book.
 struct Played {
     before: [Vec<u8>; 2],
     script: Vec<u8>,
@@ -19,7 +20,13 @@ struct Played {
 
 impl Played {
     fn new(before: [Vec<u8>; 2]) -> Played {
-        Played { buffers: before.clone(), before, script: Vec::new(), answers: Vec::new(), turned: 0 }
+        Played {
+            buffers: before.clone(),
+            before,
+            script: Vec::new(),
+            answers: Vec::new(),
+            turned: 0,
+        }
     }
 
     /// The buffer that holds the book, and the one that the next call writes to.
@@ -51,12 +58,19 @@ impl Played {
 }
 
 /// A set or withdraw to try. While the book shall shrink, most are withdrawals of names held.
-fn any_call(random: &mut Random, names: Names, scores: Scores, held: &Entries, shrinks: bool) -> Call {
+fn any_call(
+    random: &mut Random,
+    names: Names,
+    scores: Scores,
+    held: &Entries,
+    shrinks: bool,
+) -> Call {
     let score = make::score(random, scores);
     if shrinks && !held.is_empty() && !random.chance(4) {
         return Call { kind: Kind::Withdraw, score, name: make::some_name(random, held) };
     }
-    let name = if random.chance(2) { make::name(random, names, held) } else { make::asked(random, held) };
+    let name =
+        if random.chance(2) { make::name(random, names, held) } else { make::asked(random, held) };
     let kind = if random.chance(3) { Kind::Withdraw } else { Kind::Set };
     Call { kind, score, name }
 }
@@ -73,8 +87,15 @@ pub fn some_calls(random: &mut Random, count: usize) -> Vec<Call> {
     calls
 }
 
-/// A history on two buffers of the same length, call by call and then whole, against the ledger; refusals included.
-pub fn history(compare: &mut Compare, random: &mut Random, length: usize, steps: usize, names: Names) {
+/// A history on two buffers of the same length, call by call and then whole, against the ledger;
+/// refusals included.
+pub fn history(
+    compare: &mut Compare,
+    random: &mut Random,
+    length: usize,
+    steps: usize,
+    names: Names,
+) {
     let mut played = Played::new([random.bytes(length), random.bytes(length)]);
     let mut ledger = Ledger::new(length);
     let (told, first) = compare.empty(&played.before[0]);
@@ -95,7 +116,8 @@ pub fn history(compare: &mut Compare, random: &mut Random, length: usize, steps:
     lists(compare, random, &left[played.turned], &ledger.held);
 }
 
-/// The calls of a history one after the other: each call's answer is the ledger's, and the book is that of the entries held.
+/// The calls of a history one after the other: each call's answer is the ledger's, and the book is
+/// that of the entries held.
 fn call_by_call(
     compare: &mut Compare,
     random: &mut Random,
@@ -120,8 +142,15 @@ fn call_by_call(
     }
 }
 
-/// A long history, run whole, against the ledger's answers and the images of what it holds. The book grows and shrinks in turn.
-pub fn long_history(compare: &mut Compare, random: &mut Random, length: usize, steps: usize, names: Names) {
+/// A long history, run whole, against the ledger's answers and the images of what it holds. The
+/// book grows and shrinks in turn.
+pub fn long_history(
+    compare: &mut Compare,
+    random: &mut Random,
+    length: usize,
+    steps: usize,
+    names: Names,
+) {
     let mut played = Played::new([random.bytes(length), random.bytes(length)]);
     let scores = random.pick(&SCORES);
     let mut ledger = Ledger::new(length);

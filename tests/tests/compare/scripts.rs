@@ -1,4 +1,5 @@
-//! Runs of scripts that are laid out wrongly or hold calls at the limits, and on buffers that are too short or of two lengths.
+//! Runs of scripts that are laid out wrongly or hold calls at the limits, and on buffers that are
+//! too short or of two lengths.
 use super::histories::some_calls;
 use label_book_tests::calls::Told;
 use label_book_tests::compare::Compare;
@@ -8,11 +9,15 @@ use label_book_tests::reference::script::{self, Call, Kind, ANSWER};
 /// A run; a refused one changes nothing.
 fn run(compare: &mut Compare, script: &[u8], lent: [&[u8]; 3]) -> Told {
     let (told, left) = compare.run(script, lent);
-    assert!(told.0 == 0 || told.1 == [0; 3] && left == lent, "a refusal tells a count or changes a byte");
+    assert!(
+        told.0 == 0 || told.1 == [0; 3] && left == lent,
+        "a refusal tells a count or changes a byte"
+    );
     told
 }
 
-/// A run on buffers that a history can start in, with room for the answers of as many calls as the script can have.
+/// A run on buffers that a history can start in, with room for the answers of as many calls as the
+/// script can have.
 fn on_buffers(compare: &mut Compare, random: &mut Random, script: &[u8]) -> Told {
     let length = random.pick(&[7, 18, 30, 130, 300, 2000]);
     let [first, second, out] = [length, length, script.len()].map(|length| random.bytes(length));
@@ -36,10 +41,12 @@ pub fn hostile_scripts(compare: &mut Compare, random: &mut Random, rounds: usize
     }
 }
 
-/// A script that is cut at every place, and one with bytes behind it: refused but where a call ends.
+/// A script that is cut at every place, and one with bytes behind it: refused but where a call
+/// ends.
 fn cut_or_longer(compare: &mut Compare, random: &mut Random, calls: &[Call]) {
     let script = script::bytes(calls);
-    let ends: Vec<usize> = (0..=calls.len()).map(|count| script::bytes(&calls[..count]).len()).collect();
+    let ends: Vec<usize> =
+        (0..=calls.len()).map(|count| script::bytes(&calls[..count]).len()).collect();
     for at in 0..=script.len() {
         let number = if ends.contains(&at) { 0 } else { 1 };
         assert_eq!(on_buffers(compare, random, &script[..at]).0, number, "cut at {at}");
@@ -47,13 +54,18 @@ fn cut_or_longer(compare: &mut Compare, random: &mut Random, calls: &[Call]) {
     for more in 1..=2 * ANSWER {
         // Seven zeros are the set of a name of no bytes.
         let number = if more % ANSWER == 0 { 0 } else { 1 };
-        assert_eq!(on_buffers(compare, random, &[script.clone(), vec![0; more]].concat()).0, number, "{more} more");
+        assert_eq!(
+            on_buffers(compare, random, &[script.clone(), vec![0; more]].concat()).0,
+            number,
+            "{more} more"
+        );
         let noise = random.bytes(more);
         on_buffers(compare, random, &[script.clone(), noise].concat());
     }
 }
 
-/// Each call of a script with every kind that there is not, and with other lengths: some past the end, some that end within other calls.
+/// Each call of a script with every kind that there is not, and with other lengths: some past the
+/// end, some that end within other calls.
 fn kinds_and_lengths(compare: &mut Compare, random: &mut Random, calls: &[Call]) {
     let script = script::bytes(calls);
     for count in 0..calls.len() {
@@ -64,7 +76,9 @@ fn kinds_and_lengths(compare: &mut Compare, random: &mut Random, calls: &[Call])
             assert_eq!(on_buffers(compare, random, &bytes).0, 1, "kind {kind}");
         }
         let (length, rest) = (calls[count].name.len(), script.len() - at - 7);
-        for other in [0, length.saturating_sub(1), length + 1, 255, 256, rest, rest + 1, rest + 256, 65_535] {
+        for other in
+            [0, length.saturating_sub(1), length + 1, 255, 256, rest, rest + 1, rest + 256, 65_535]
+        {
             let mut bytes = script.clone();
             bytes[at + 5..at + 7].copy_from_slice(&(other as u16).to_be_bytes());
             let told = on_buffers(compare, random, &bytes);
@@ -73,7 +87,8 @@ fn kinds_and_lengths(compare: &mut Compare, random: &mut Random, calls: &[Call])
     }
 }
 
-/// Names of every length and with a last byte of every kind, and scores at the ends, in sets and withdrawals.
+/// Names of every length and with a last byte of every kind, and scores at the ends, in sets and
+/// withdrawals.
 pub fn hostile_calls(compare: &mut Compare, random: &mut Random) {
     for length in [0, 1, 2, 47, 48, 49, 50, 255, 256, 257, 300, 65_535] {
         for last in [b'x', 0x20, 0x7E, 0x1F, 0x7F, 0x80, 0xFF, 0x00] {
@@ -85,7 +100,9 @@ pub fn hostile_calls(compare: &mut Compare, random: &mut Random) {
                 let call = |kind, name: &[u8]| Call { kind, score, name: name.to_vec() };
                 let (set, withdraw) = (call(Kind::Set, &name), call(Kind::Withdraw, &name));
                 let other = call(Kind::Set, b"x");
-                for calls in [vec![set.clone(), other.clone(), withdraw.clone()], vec![withdraw, set, other]] {
+                for calls in
+                    [vec![set.clone(), other.clone(), withdraw.clone()], vec![withdraw, set, other]]
+                {
                     assert_eq!(on_buffers(compare, random, &script::bytes(&calls)).0, 0);
                 }
             }
@@ -93,7 +110,8 @@ pub fn hostile_calls(compare: &mut Compare, random: &mut Random) {
     }
 }
 
-/// Runs on buffers and answers of every small length and around the lengths that are needed. A wrong script is said first.
+/// Runs on buffers and answers of every small length and around the lengths that are needed. A
+/// wrong script is said first.
 pub fn hostile_buffers(compare: &mut Compare, random: &mut Random) {
     for count in 0..4 {
         let script = script::bytes(&some_calls(random, count));
@@ -104,12 +122,14 @@ pub fn hostile_buffers(compare: &mut Compare, random: &mut Random) {
             assert_eq!(run(compare, &script, [&a, &b, &out]).0, if fits { 0 } else { 7 });
             assert_eq!(run(compare, &wrong, [&a, &b, &out]).0, 1);
         };
-        for (first, second) in (0..10).flat_map(|first| (0..10).map(move |second| (first, second))) {
+        for (first, second) in (0..10).flat_map(|first| (0..10).map(move |second| (first, second)))
+        {
             (0..=ANSWER * count + 1).for_each(|room| on(first, second, room));
         }
         for length in [25, 130, 900, 57_344, 70_000] {
             for second in [0, 7, length - 1, length, length + 1] {
-                (0..3).for_each(|room| on(length, second, (ANSWER * count + room).saturating_sub(1)));
+                (0..3)
+                    .for_each(|room| on(length, second, (ANSWER * count + room).saturating_sub(1)));
             }
         }
     }

@@ -1,0 +1,89 @@
+//! The label book of a teaching bench: named, scored set-ups in a byte format, of which a panel
+//! offers the best-scored names that begin with what a student has typed.
+//!
+//! The work is done by the proved library `liblabel_book.a`, in whose C interface every call ends
+//! with an answer or a numbered refusal, whatever it is given. This crate is a thin wrapper, which
+//! is not proved: the calls on slices, answers and refusals as types, and [`Book`], which owns its
+//! buffers. What each call does is said in `docs/CALLS.md`, the formats are in `docs/FORMAT.md`.
+//!
+//! A book, sheet or trie is an image at the front of a buffer; the bytes behind it are neither read
+//! nor changed. A name is 1 to 48 bytes from 20 to 7E. A refusal changes nothing.
+//!
+//! ```
+//! use label_book::{Book, Panel};
+//!
+//! let mut book = Book::new();
+//! for (name, score) in [("ac", 5), ("rc", 9), ("rc step", 9), ("rl", 12)] {
+//!     book.set(name.as_bytes(), score)?;
+//! }
+//!
+//! // A student types "r": rl, rc and rc step are offered, the best first.
+//! let mut panel = Panel::default();
+//! assert_eq!(book.press(&mut panel, b'r')?, 3);
+//! // One row down, and taken.
+//! book.press(&mut panel, label_book::key::DOWN)?;
+//! book.press(&mut panel, label_book::key::TAKE)?;
+//! assert_eq!(panel.typed(), b"rc");
+//! # Ok::<(), label_book::Refusal>(())
+//! ```
+#![warn(missing_docs)]
+
+mod book;
+pub mod c;
+mod calls;
+mod entries;
+mod refusal;
+
+pub use book::{Book, Completion};
+pub use c::{Panel, Range};
+pub use calls::{build, check, complete, complete_trie, empty, find, head, list, merge};
+pub use calls::{name_at, name_of, prefix_range, press, run, set, withdraw, write_trie};
+pub use calls::{Found, Offered, Played, Span, Written};
+pub use entries::{entries, Entries, Entry};
+pub use refusal::Refusal;
+
+/// The most bytes of a name or prefix.
+pub const NAME_MAX: usize = 48;
+/// The most entries of a book, sheet or trie.
+pub const ENTRIES_MAX: usize = 1_024;
+/// The most bytes of an answer entry: length byte, name, 4-byte score.
+pub const ENTRY_MAX: usize = 53;
+/// The most entries that can be asked of a completion.
+pub const COUNT_MAX: usize = 16;
+/// The most rows of a panel.
+pub const PANEL_ROWS: usize = 5;
+/// The bytes in front of every image's entries: version, total length, number of entries.
+pub const FRONT: usize = 7;
+/// No book is longer.
+pub const BOOK_MAX: usize = 55_559;
+/// No sheet is longer.
+pub const SHEET_MAX: usize = 54_279;
+/// No trie is longer, as `docs/FORMAT.md` argues.
+pub const TRIE_MAX: usize = 70_759;
+
+/// The keys of a panel that are no signs; 20 to 7E append themselves.
+pub mod key {
+    /// Only counts the rows again, after an edit of the book.
+    pub const RECOUNT: u8 = 0x00;
+    /// One row up.
+    pub const UP: u8 = 0x01;
+    /// One row down.
+    pub const DOWN: u8 = 0x02;
+    /// Erases the last byte.
+    pub const ERASE: u8 = 0x08;
+    /// Replaces the text by the highlighted name.
+    pub const TAKE: u8 = 0x0D;
+}
+
+impl Panel {
+    /// What is typed.
+    pub fn typed(&self) -> &[u8] {
+        &self.text[..self.len.min(NAME_MAX)]
+    }
+}
+
+impl Default for Panel {
+    fn default() -> Panel {
+        Panel { text: [0; NAME_MAX], len: 0, highlight: 0, rows: 0 }
+    }
+}
