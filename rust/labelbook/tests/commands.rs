@@ -13,6 +13,7 @@ const COMMANDS: [&str; 8] = ["check", "list", "build", "set", "withdraw", "top",
 fn main() {
     run_all(&[
         ("usage", usage),
+        ("usage of commands", usage_of_commands),
         ("help", help),
         ("check", check),
         ("list", list),
@@ -20,6 +21,7 @@ fn main() {
         ("withdraw", withdraw),
         ("top", top),
         ("merge", merge),
+        ("merge with bytes behind", merge_with_bytes_behind),
         ("merge into another file", merge_into),
         ("trie", trie),
         ("names", names),
@@ -28,9 +30,16 @@ fn main() {
     ]);
 }
 
+const BEHIND: &str = "what begins with - and is no option stands behind --";
+
+/// Wrong usage of a command, its first argument.
+fn wrong_usage(desk: &Desk, arguments: &[&str], words: &str) {
+    let command = arguments[0];
+    let words = format!("{command}: {words}\n`labelbook help {command}` says more");
+    desk.fails(arguments, 64, &words);
+}
+
 fn usage(desk: &Desk) {
-    const BEHIND: &str = "what begins with - and is no option stands behind --";
-    const QUOTES: &str = "a name with spaces stands in quotes";
     desk.write("a.book", &BOOK);
     let general = |arguments: &[&str], words: &str| {
         desk.fails(arguments, 64, &format!("{words}\n`labelbook help` lists the commands"));
@@ -39,39 +48,41 @@ fn usage(desk: &Desk) {
     general(&["sett", "a.book"], "there is no command `sett`");
     general(&["--forc"], "there is no command `--forc`");
     general(&["help", "ac\ndc"], "there is no command `ac\\ndc`");
-    let of = |arguments: &[&str], words: &str| {
-        let command = arguments[0];
-        let words = format!("{command}: {words}\n`labelbook help {command}` says more");
-        desk.fails(arguments, 64, &words);
-    };
     for command in COMMANDS {
-        of(&[command], "FILE is missing");
-        of(&[command, "--all", "x"], &format!("there is no option `--all`; {BEHIND}"));
-        let too_many = &[command, "a.book", "1", "2", "rc step"];
+        let no_option = format!("there is no option `--all`; {BEHIND}");
+        wrong_usage(desk, &[command, "--all", "x"], &no_option);
+        wrong_usage(desk, &[command], "FILE is missing");
         let extra = match command {
             "check" | "list" => "1",
             "set" | "top" => "rc step",
             _ => "2",
         };
-        of(too_many, &format!("`{extra}` is too much; {QUOTES}"));
+        let words = format!("`{extra}` is too much; a name with spaces stands in quotes");
+        wrong_usage(desk, &[command, "a.book", "1", "2", "rc step"], &words);
     }
-    of(&["set", "a.book"], "SCORE is missing");
-    of(&["set", "a.book", "5"], "NAME is missing");
-    of(&["set", "a.book", "5", "--"], "NAME is missing");
-    of(&["set", "a.book", "5", "-3dB"], &format!("there is no option `-3dB`; {BEHIND}"));
-    of(&["withdraw", "a.book"], "NAME is missing");
-    of(&["top", "a.book"], "K is missing");
-    of(&["merge", "a.book"], "OTHER is missing");
-    of(&["merge", "a.book", "b.book", "-o"], "OUT is missing behind -o");
-    of(&["trie", "a.book"], "OUT is missing");
-    of(&["check", "--force", "a.book"], &format!("there is no option `--force`; {BEHIND}"));
-    of(&["trie", "a.book", "-o", "b"], &format!("there is no option `-o`; {BEHIND}"));
-    of(&["merge", "a.book", "b", "--force"], "--force goes with -o OUT; FILE is changed in place");
-    of(&["merge", "-", "-", "-o", "c.book"], "FILE and OTHER cannot both be `-`");
-    let in_place = "FILE is changed in place, so it cannot be `-`";
-    of(&["set", "-", "5", "ac"], in_place);
-    of(&["withdraw", "-", "ac"], in_place);
-    of(&["merge", "-", "a.book"], in_place);
+}
+
+fn usage_of_commands(desk: &Desk) {
+    const IN_PLACE: &str = "FILE is changed in place, so it cannot be `-`";
+    desk.write("a.book", &BOOK);
+    let wrong = |arguments: &[&str], words: &str| wrong_usage(desk, arguments, words);
+    wrong(&["set", "a.book"], "SCORE is missing");
+    wrong(&["set", "a.book", "5"], "NAME is missing");
+    wrong(&["set", "a.book", "5", "--"], "NAME is missing");
+    wrong(&["set", "a.book", "5", "-3dB"], &format!("there is no option `-3dB`; {BEHIND}"));
+    wrong(&["withdraw", "a.book"], "NAME is missing");
+    wrong(&["top", "a.book"], "K is missing");
+    wrong(&["merge", "a.book"], "OTHER is missing");
+    wrong(&["merge", "a.book", "b.book", "-o"], "OUT is missing behind -o");
+    wrong(&["trie", "a.book"], "OUT is missing");
+    wrong(&["check", "--force", "a.book"], &format!("there is no option `--force`; {BEHIND}"));
+    wrong(&["trie", "a.book", "-o", "b"], &format!("there is no option `-o`; {BEHIND}"));
+    let needs_out = "--force goes with -o OUT; FILE is changed in place";
+    wrong(&["merge", "a.book", "b.book", "--force"], needs_out);
+    wrong(&["merge", "-", "-", "-o", "c.book"], "FILE and OTHER cannot both be `-`");
+    wrong(&["set", "-", "5", "ac"], IN_PLACE);
+    wrong(&["withdraw", "-", "ac"], IN_PLACE);
+    wrong(&["merge", "-", "a.book"], IN_PLACE);
 }
 
 fn help(desk: &Desk) {
@@ -267,13 +278,17 @@ fn merge(desk: &Desk) {
     desk.fails(&["merge", "full.book", "a.book"], 5, &format!("full.book: {FULL}"));
     desk.fails(&["merge", "a.book", "full.book"], 5, &format!("a.book: {FULL}"));
     desk.does(&["merge", "full.book", "full.book"]);
+}
 
-    // A second book with bytes behind it is no matter; the first loses them.
-    desk.write("more.book", &[&desk.read("b.book")[..], b"more"].concat());
+/// A second book with bytes behind it is no matter; the first loses them.
+fn merge_with_bytes_behind(desk: &Desk) {
+    desk.write("a.book", &BOOK);
+    desk.write("more.book", &[book_of(&[(1, "dc")]).image(), b"more"].concat());
     desk.does(&["merge", "a.book", "more.book"]);
-    desk.prints(&["list", "a.book"], merged);
+    desk.prints(&["list", "a.book"], "5 ac\n1 dc\n9 rc\n9 rc step\n12 rl\n");
     let gone = "labelbook: more.book: the bytes that stood behind the book are gone\n";
-    desk.run(&["merge", "more.book", "empty.book"]).gives(0, "", gone);
+    desk.run(&["merge", "more.book", "a.book"]).gives(0, "", gone);
+    assert_eq!(desk.read("more.book"), desk.read("a.book"));
 }
 
 fn merge_into(desk: &Desk) {

@@ -190,7 +190,8 @@ fn folders_and_pipes(desk: &Desk) {
             &["trie", file, "-"],
             &["build", "--force", file, "lines"],
         ] {
-            desk.fails(arguments, 74, words);
+            // One that waits for a writer does not end by itself.
+            desk.run_by(&["timeout", "60"], arguments).fails(desk, 74, words);
         }
         let exists = format!("{file}: it exists already; --force replaces it");
         desk.fails(&["build", file], 74, &exists);

@@ -131,7 +131,7 @@ fn wrong_lines(desk: &Desk) {
         ("4294967296 ac", "4294967296 ac"),
         ("00000000005 ac", "00000000005 ac"),
         ("\u{FEFF}5 ac", "\\xef\\xbb\\xbf5 ac"),
-        ("\05 ac", "\\x005 ac"),
+        ("\x005 ac", "\\x005 ac"),
     ] {
         let words = format!("line 2: not SCORE NAME, {range}: {shown}");
         wrong(desk, format!("1 first\n{line}\n3 third\n"), 65, &words);
