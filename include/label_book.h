@@ -38,7 +38,7 @@
  * A buffer is a pointer and a length in bytes. An image stands at the front of its buffer; the
  * bytes behind it are neither read nor changed, so that a whole buffer can be lent, not only the
  * image in it. What an image needs at most is LABEL_BOOK_BOOK_MAX, LABEL_BOOK_SHEET_MAX and
- * LABEL_BOOK_TRIE_MAX; label_book_check tells what a book has, which are the bytes to save.
+ * LABEL_BOOK_TRIE_MAX bytes; label_book_check tells how many a book has, those to save.
  *
  * Any bytes may be given as a source, such as a file that is no book: the call declines then.
  * A source is never changed, and two sources may be the same bytes. What a call may change, that
@@ -57,8 +57,8 @@
  *         now = 1 - now;                                  // else the book is as and where it was
  *
  * NULL is fine for every source, destination and ranges whose length is 0, such as C++'s data() of
- * an empty vector. It is not for a panel and for out values: each out value needs a variable of its
- * own, also where its number is not wanted.
+ * an empty vector. It is not fine for a panel or an out value: each out value needs a variable of
+ * its own, also where its number is not wanted.
  *
  *
  * Answers and refusals
@@ -83,8 +83,8 @@
  *
  * With a refusal every out value is 0 and no lent byte has changed, those of the ranges and of the
  * panel included. With 0 the out values are as said at each call, and a destination has changed
- * only where the answer was written, at its front (but for the two buffers of a run). To tell an
- * entry, or bytes, is to give their number through the out value of that name.
+ * only where the answer was written, at its front (but for the two buffers of a run). Where a
+ * comment says that a call tells something, it gives it through the out value of that name.
  *
  *
  * Threads, memory, linking
@@ -102,8 +102,8 @@
  *     cc -O2 -Iinclude panel.c target/staticlib/liblabel_book.a -Wl,--gc-sections -o panel
  *     cc -O2 panel.c $(pkg-config --cflags --libs label-book) -Wl,--gc-sections -o panel
  *
- * The most bytes of stack that each call was seen to take, on hostile input too (a book or trie of
- * any bytes), rounded up to a multiple of 64; tests/tests/stack.rs measures them:
+ * The most bytes of stack that each call was seen to take, on hostile input too, rounded up to a
+ * multiple of 64; tests/tests/stack.rs measures them:
  *
  *   label_book_empty                0
  *   label_book_set                  0
@@ -128,8 +128,8 @@
  *
  * For calls that keep to "Buffers": that each call ends, and the numbers, out values and bytes said
  * here, are proved of the functions in crates/label_book/src/c_names.rt (docs/CONTRACTS.txt has the
- * contracts); that no book is longer than LABEL_BOOK_BOOK_MAX, too. LABEL_BOOK_SHEET_MAX follows
- * from the sheet's layout, and docs/FORMAT.md argues for LABEL_BOOK_TRIE_MAX.
+ * contracts); so is that no book is longer than LABEL_BOOK_BOOK_MAX and no sheet longer than
+ * LABEL_BOOK_SHEET_MAX. For LABEL_BOOK_TRIE_MAX, which is not proved, docs/FORMAT.md argues.
  *
  * That this file declares those functions as they are is not proved: .ci/c-names compares every
  * prototype, struct and number of it with the sources, and tests/c calls all of them by it. NULL

@@ -57,6 +57,7 @@ static uint8_t *fresh(void) {
 
 static void the_empty_book(void) {
     GIVES(label_book_empty(fresh(), 7, &one, &two), LABEL_BOOK_OK, 0, LABEL_BOOK_FRONT);
+    GIVES(label_book_empty(fresh(), 99, &one, &two), LABEL_BOOK_OK, 0, LABEL_BOOK_FRONT);
     SAME_BYTES(dst, 8, "21 00 00 00 07 00 00 A5");
     GIVES(label_book_empty(fresh(), 6, &one, &two), LABEL_BOOK_TOO_SHORT, 0, 0);
     SAME_BYTES(dst, 7, FILL_7);
@@ -67,8 +68,8 @@ static void a_book_by_sets(void) {
     SAME_BYTES(bench_book(&bench), E_BYTES, E_BOOK);
     GIVES(label_book_set(BOOK, NAME("rc"), 9, fresh(), E_BYTES, &one, &two), LABEL_BOOK_OK, 4,
           E_BYTES);
-    SAME_BYTES(dst, E_BYTES, E_BOOK);
-    SAME(dst[E_BYTES], FILL);
+    GIVES(label_book_set(BOOK, NAME("rc"), 9, fresh(), 99, &one, &two), LABEL_BOOK_OK, 4, E_BYTES);
+    SAME_BYTES(dst, E_BYTES + 1, E_BOOK " A5");
     GIVES(label_book_set(BOOK, NAME("sw"), 0x01020304, fresh(), 52, &one, &two), LABEL_BOOK_OK, 5,
           52);
     SAME_BYTES(dst + 7 + 4 * 4, 4, "01 02 03 04");
@@ -109,7 +110,7 @@ static void withdrawals(void) {
     bench_set(&bench, "sw", 7);
     GIVES(label_book_withdraw(BOOK, NAME("sw"), fresh(), 99, &one, &two), LABEL_BOOK_OK, 4,
           E_BYTES);
-    SAME_BYTES(dst, E_BYTES, E_BOOK);
+    SAME_BYTES(dst, E_BYTES + 1, E_BOOK " A5");
     GIVES(label_book_withdraw(BOOK, NAME("zz"), fresh(), 99, &one, &two), LABEL_BOOK_NOT_HELD, 0,
           0);
     GIVES(label_book_withdraw(BOOK, NAME("\x1F"), fresh(), 99, &one, &two), LABEL_BOOK_NOT_ALLOWED,
@@ -134,7 +135,7 @@ static void merges(void) {
           LABEL_BOOK_NOT_LAID_OUT, 0, 0);
     SAME_BYTES(dst, 7, FILL_7);
     GIVES(label_book_merge(BOOK, BOOK, fresh(), 99, &one, &two), LABEL_BOOK_OK, 4, E_BYTES);
-    SAME_BYTES(dst, E_BYTES, E_BOOK);
+    SAME_BYTES(dst, E_BYTES + 1, E_BOOK " A5");
 }
 
 static void the_check(void) {
@@ -165,11 +166,13 @@ static void finding(void) {
 static void answer_entries(void) {
     bench_of_e(&bench);
     GIVES(label_book_name_at(BOOK, 0, fresh(), 7, &one, &two), LABEL_BOOK_OK, 1, 7);
+    GIVES(label_book_name_at(BOOK, 0, fresh(), 53, &one, &two), LABEL_BOOK_OK, 1, 7);
     SAME_BYTES(dst, 8, "02 61 63 00 00 00 05 A5");
     GIVES(label_book_name_at(BOOK, 4, fresh(), 53, &one, &two), LABEL_BOOK_NO_SUCH_PLACE, 0, 0);
     GIVES(label_book_name_at(BOOK, 0, fresh(), 6, &one, &two), LABEL_BOOK_TOO_SHORT, 0, 0);
     SAME_BYTES(dst, 7, FILL_7);
     GIVES(label_book_name_of(BOOK, NAME("rc step"), fresh(), 12, &one, &two), LABEL_BOOK_OK, 1, 12);
+    GIVES(label_book_name_of(BOOK, NAME("rc step"), fresh(), 53, &one, &two), LABEL_BOOK_OK, 1, 12);
     SAME_BYTES(dst, 13, "07 72 63 20 73 74 65 70 00 00 00 09 A5");
     GIVES(label_book_name_of(BOOK, NAME("zz"), fresh(), 53, &one, &two), LABEL_BOOK_NOT_HELD, 0, 0);
     SAME_BYTES(dst, 7, FILL_7);
@@ -195,11 +198,13 @@ static void sheets(void) {
     size_t len = from_hex(E_SHEET, sheet, sizeof sheet);
     bench_of_e(&bench);
     GIVES(label_book_list(BOOK, fresh(), len, &one, &two), LABEL_BOOK_OK, 4, len);
-    SAME_BYTES(dst, len, E_SHEET);
+    GIVES(label_book_list(BOOK, fresh(), 99, &one, &two), LABEL_BOOK_OK, 4, len);
+    SAME_BYTES(dst, len + 1, E_SHEET " A5");
     GIVES(label_book_list(BOOK, fresh(), len - 1, &one, &two), LABEL_BOOK_TOO_SHORT, 0, 0);
     SAME_BYTES(dst, 7, FILL_7);
     GIVES(label_book_build(sheet, len, fresh(), E_BYTES, &one, &two), LABEL_BOOK_OK, 4, E_BYTES);
-    SAME_BYTES(dst, E_BYTES, E_BOOK);
+    GIVES(label_book_build(sheet, len, fresh(), 99, &one, &two), LABEL_BOOK_OK, 4, E_BYTES);
+    SAME_BYTES(dst, E_BYTES + 1, E_BOOK " A5");
     GIVES(label_book_build(sheet, len, fresh(), E_BYTES - 1, &one, &two), LABEL_BOOK_TOO_SHORT, 0,
           0);
     sheet[7 + 1] = 'z'; /* "zc" before "rc" */
@@ -259,7 +264,8 @@ static void tries(void) {
     GIVES(write_trie(99), LABEL_BOOK_OK, 1, 7 + 10 + 2); /* two: with a child field; 2 more */
     bench_of_e(&bench);
     GIVES(write_trie(28), LABEL_BOOK_OK, 4, 28);
-    SAME_BYTES(dst, 28, E_TRIE);
+    GIVES(write_trie(99), LABEL_BOOK_OK, 4, 28);
+    SAME_BYTES(dst, 29, E_TRIE " A5");
     GIVES(write_trie(27), LABEL_BOOK_TOO_SHORT, 0, 0);
     SAME_BYTES(dst, 7, FILL_7);
 }
@@ -344,23 +350,42 @@ static void five_rows(void) {
              "00 00 03 00 00 00 25 00 00 04 00 00 00 2C"
 
 static void histories(void) {
-    uint8_t script[64], first[64], second[64], out[36];
+    uint8_t script[64], first[64], second[64], out[64];
     size_t len = from_hex(SCRIPT, script, sizeof script);
     memset(out, FILL, sizeof out);
     GIVES(label_book_run(script, len, first, E_BYTES, second, E_BYTES, out, 35, &one, &two),
           LABEL_BOOK_OK, 5, 0);
     SAME_BYTES(first, E_BYTES, E_BOOK);
-    SAME_BYTES(out, 35, KEPT);
-    SAME(out[35], FILL);
-    GIVES(label_book_run(script, 9, first, 64, second, 64, out, 7, &one, &two), LABEL_BOOK_OK, 1,
+    SAME_BYTES(out, 36, KEPT " A5");
+    GIVES(label_book_run(script, 9, first, 64, second, 64, out, 64, &one, &two), LABEL_BOOK_OK, 1,
           1);
     SAME_BYTES(second, 18, "21 00 00 00 12 00 01 00 00 00 05 00 0F 00 00 02 61 63");
-    GIVES(label_book_run(script, len - 1, first, 64, second, 64, out, 35, &one, &two),
-          LABEL_BOOK_NOT_LAID_OUT, 0, 0);
-    GIVES(label_book_run(script, len, first, 64, second, 63, out, 35, &one, &two),
-          LABEL_BOOK_TOO_SHORT, 0, 0);
-    GIVES(label_book_run(script, len, first, 64, second, 64, out, 34, &one, &two),
-          LABEL_BOOK_TOO_SHORT, 0, 0);
+    SAME_BYTES(out, 36, KEPT " A5");
+}
+
+/* A run of the script cut to so many bytes, with buffers of these lengths, is refused and leaves
+ * them as they were. */
+static void refused_run(size_t len, size_t first_len, size_t second_len, size_t out_len,
+                        uint8_t number) {
+    uint8_t script[64], first[64], second[64], out[64];
+    from_hex(SCRIPT, script, sizeof script);
+    memset(first, FILL, sizeof first);
+    memset(second, FILL, sizeof second);
+    memset(out, FILL, sizeof out);
+    GIVES(label_book_run(script, len, first, first_len, second, second_len, out, out_len, &one,
+                         &two), number, 0, 0);
+    SAME_BYTES(first, 7, FILL_7);
+    SAME_BYTES(second, 7, FILL_7);
+    SAME_BYTES(out, 7, FILL_7);
+}
+
+static void refused_runs(void) {
+    uint8_t script[64];
+    size_t len = from_hex(SCRIPT, script, sizeof script);
+    refused_run(len - 1, 64, 64, 35, LABEL_BOOK_NOT_LAID_OUT);
+    refused_run(len, 6, 6, 35, LABEL_BOOK_TOO_SHORT);
+    refused_run(len, 64, 63, 35, LABEL_BOOK_TOO_SHORT);
+    refused_run(len, 64, 64, 34, LABEL_BOOK_TOO_SHORT);
 }
 
 static void a_full_book(void) {
@@ -414,7 +439,8 @@ int main(void) {
     test("press: every key", keys);
     test("press: its refusals", refused_panels);
     test("press: five rows of five names and of six", five_rows);
-    test("run: E by a script with a refused call; its refusals", histories);
+    test("run: E by a script with a refused call", histories);
+    test("run: its refusals", refused_runs);
     test("a full book, within the sizes of the header", a_full_book);
     test("NULL with length 0", null_with_length_0);
     return status();

@@ -25,7 +25,7 @@ static void same_entry(const struct label_book_entry *entry, const char *name, u
 static void entries_of_an_answer(void) {
     uint8_t answer[64];
     const uint8_t *at = answer, *end = answer + from_hex(ANSWER, answer, sizeof answer);
-    struct label_book_entry entry;
+    struct label_book_entry entry = {NULL, 0, 0};
     at = label_book_next_entry(at, end, &entry);
     same_entry(&entry, "rl", 12);
     SAME(at == answer + ends[1], 1);
@@ -91,13 +91,16 @@ static void lengths_of_names(void) {
 
 static void ends_before_entries(void) {
     uint8_t answer[64];
-    size_t len = from_hex(ANSWER, answer, sizeof answer);
+    from_hex(ANSWER, answer, sizeof answer);
+    uint8_t *block = copy_of(answer, 7);
     struct label_book_entry entry = {answer, 1, 7};
     SAME(label_book_next_entry(NULL, NULL, &entry) == NULL, 1);
-    SAME(label_book_next_entry(NULL, answer + len, &entry) == NULL, 1);
-    SAME(label_book_next_entry(answer + 7, answer + 7, &entry) == NULL, 1);
-    SAME(label_book_next_entry(answer + 7, answer, &entry) == NULL, 1);
+    SAME(label_book_next_entry(NULL, block + 7, &entry) == NULL, 1);
+    SAME(label_book_next_entry(block + 7, block + 7, &entry) == NULL, 1);
+    SAME(label_book_next_entry(block + 7, block, &entry) == NULL, 1);
+    SAME(label_book_next_entry(block, block + 6, &entry) == NULL, 1);
     SAME(entry.name == answer && entry.name_len == 1 && entry.score == 7, 1);
+    free(block);
 }
 
 /* The next of a fixed row of numbers, as good as drawn. */
@@ -123,7 +126,7 @@ static void noise(void) {
 static void entries_of_a_sheet(void) {
     uint8_t sheet[64];
     size_t count, len;
-    struct label_book_entry entry;
+    struct label_book_entry entry = {NULL, 0, 0};
     bench_of_e(&bench);
     SAME(label_book_list(bench_book(&bench), LABEL_BOOK_BOOK_MAX, sheet, sizeof sheet, &count,
                          &len), LABEL_BOOK_OK);
@@ -180,6 +183,7 @@ static struct label_book_panel panel_of(const char *text, size_t len) {
 static void rows_of_e(void) {
     struct label_book_panel panel = panel_of("r", 1);
     struct label_book_rows rows;
+    memset(&rows, 0, sizeof rows);
     bench_of_e(&bench);
     SAME(label_book_rows_of(bench_book(&bench), bench_bytes(&bench), &panel, &rows), LABEL_BOOK_OK);
     SAME(rows.count, 3);
@@ -194,6 +198,7 @@ static void rows_of_e(void) {
 static void rows_of_long_names(void) {
     struct label_book_panel panel = panel_of("", 0);
     struct label_book_rows rows;
+    memset(&rows, 0, sizeof rows);
     bench_full(&bench);
     SAME(label_book_rows_of(bench_book(&bench), LABEL_BOOK_BOOK_MAX, &panel, &rows), LABEL_BOOK_OK);
     SAME(rows.count, LABEL_BOOK_PANEL_ROWS);
