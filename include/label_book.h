@@ -1,32 +1,139 @@
 /*
- * The label book, for C: link target/staticlib/liblabel_book.a (rt staticlib label_book), x86-64.
+ * label_book.h -- the label book of a teaching oscilloscope bench, for C (C99 and later) and C++
  *
- * A book is an image of at most 1,024 entries, each a name of 1 to 48 bytes from 20 to 7E and a score; a sheet lists
- * the same entries in plain, and a trie holds them for completion. An image stands at the front of a lent buffer; the
- * bytes behind it are neither read nor changed. Positions count from 0 in name order, which is byte order.
+ * A student types the start of a set-up's name, the panel offers the best-scored names that begin
+ * with it, the scope loads the one taken. Teachers add names, give them new scores and withdraw
+ * them. All of it is kept as bytes in buffers that the program lends to the calls below.
  *
- * A buffer is a pointer and a length in bytes. A pointer is never null, not with length 0 either. A destination, lent
- * ranges, a lent panel and the out values overlap nothing else that is lent; two sources may be the same bytes. A call
- * keeps no pointer and allocates nothing.
  *
- * Every call returns 0 or the number of its refusal, the smallest that applies:
- *   1  a book, sheet, trie or script that is not laid out as such, or is cut off by its buffer
- *   2  a name or prefix that is not allowed; a panel whose length is over 48, or that holds a byte within it that is
- *      not allowed
- *   3  a completion of 0 or more than 16 entries
- *   4  withdraw, name_of: a name that the book does not hold
- *   5  set: a new name where 1,024 are held; merge: more than 1,024 names in all
- *   6  a position or bucket that the book does not have
- *   7  a destination that is shorter than the bytes needed, fewer ranges than entries asked for, or the buffers of a
- *      run of two lengths
- *   8  a key that the panel does not have
- *   9  a key that appends, at 48 bytes
- * With a refusal every out value is 0 and no lent byte has changed. With 0 the out values are as said at each call, and
- * a destination has changed only where the answer was written, at its front (but for the two buffers of a run).
+ * Words
  *
- * The numbers, out values and bytes said here are proved of the functions in crates/label_book/src/c_names.rt. That
- * this file declares those functions as they are is not proved. The tests call all of them by declarations in Rust, the
- * example in C some of them by these.
+ *   name          1 to 48 bytes, each from 0x20 to 0x7E, given as a pointer and a length. NOT
+ *                 zero-terminated, neither where a call reads a name nor where it writes one: the
+ *                 length of a C string s is strlen(s), and printf shows a name by "%.*s".
+ *   prefix        0 to 48 such bytes. A name begins itself; the empty prefix begins every name.
+ *   score         a whole number from 0 to 4,294,967,295.
+ *   entry         a name and its score.
+ *   name order    byte order; a name that begins another comes before it. Positions count from 0
+ *                 in name order.
+ *   rank          the higher score first, at equal scores the earlier name.
+ *   book          the image of at most 1,024 entries, no name twice, that most calls read and edits
+ *                 write. Entries have exactly one such image, so equal books are equal bytes.
+ *   sheet         the image that lists the same entries in plain, to exchange with other programs.
+ *   trie          the image that holds the same entries as a tree, for completion without ranges.
+ *                 It is written from a book and never edited: write it again after an edit.
+ *   answer entry  an entry as the calls write it: 1 byte of length, the name, 4 bytes of score,
+ *                 big-endian, that is the highest byte first. It has 5 bytes more than its name.
+ *
+ * A sheet is laid out so, with big-endian numbers (docs/FORMAT.md has the book and the trie):
+ *
+ *   byte 0         0x11
+ *   bytes 1 to 4   the length of the sheet in bytes, all of it
+ *   bytes 5, 6     the number of entries
+ *   from byte 7    the entries in strictly rising name order, each as an answer entry, no gaps
+ *
+ *
+ * Buffers
+ *
+ * A buffer is a pointer and a length in bytes. An image stands at the front of its buffer; the
+ * bytes behind it are neither read nor changed, so that a whole buffer can be lent, not only the
+ * image in it. What an image needs at most is LABEL_BOOK_BOOK_MAX, LABEL_BOOK_SHEET_MAX and
+ * LABEL_BOOK_TRIE_MAX bytes; label_book_check tells how many a book has, those to save.
+ *
+ * Any bytes may be given as a source, such as a file that is no book: the call declines then.
+ * A source is never changed, and two sources may be the same bytes. What a call may change, that
+ * is a destination, the ranges, the panel and each out value, must overlap nothing else that is
+ * lent to the same call. So at label_book_set, label_book_withdraw and label_book_merge the
+ * destination must not overlap the book: an edit in place destroys it. Keep two buffers that change
+ * roles after each accepted edit:
+ *
+ *     static uint8_t buffer[2][LABEL_BOOK_BOOK_MAX];      // buffer[now] holds the book
+ *     static int now;
+ *     ...
+ *     size_t entries, bytes;
+ *     uint8_t refusal = label_book_set(buffer[now], LABEL_BOOK_BOOK_MAX, name, name_len, score,
+ *                                      buffer[1 - now], LABEL_BOOK_BOOK_MAX, &entries, &bytes);
+ *     if (refusal == LABEL_BOOK_OK)
+ *         now = 1 - now;                                  // else the book is as and where it was
+ *
+ * NULL is fine for every source, destination and ranges whose length is 0, such as C++'s data() of
+ * an empty vector. It is not fine for a panel or an out value: each out value needs a variable of
+ * its own, also where its number is not wanted.
+ *
+ *
+ * Answers and refusals
+ *
+ * Every call returns LABEL_BOOK_OK, which is 0, or the number of its refusal, the smallest that
+ * applies. Each call's comment lists its causes in that order.
+ *
+ *   1  LABEL_BOOK_NOT_LAID_OUT        a book, sheet, trie or script that is not laid out as such,
+ *                                     or is cut off by its buffer
+ *   2  LABEL_BOOK_NOT_ALLOWED         a name or prefix that is not allowed; a panel whose length is
+ *                                     over 48, or that holds a byte within it that is not allowed
+ *   3  LABEL_BOOK_COUNT_OUT_OF_RANGE  a completion of 0 or more than LABEL_BOOK_COUNT_MAX entries
+ *   4  LABEL_BOOK_NOT_HELD            withdraw, name_of: a name that the book does not hold
+ *   5  LABEL_BOOK_FULL                set: a new name where 1,024 are held; merge: more than 1,024
+ *                                     names in all
+ *   6  LABEL_BOOK_NO_SUCH_PLACE       a position or bucket that the book does not have
+ *   7  LABEL_BOOK_TOO_SHORT           a destination that is shorter than the bytes needed, fewer
+ *                                     ranges than entries asked for, or the buffers of a run of
+ *                                     two lengths
+ *   8  LABEL_BOOK_NO_SUCH_KEY         a key that the panel does not have
+ *   9  LABEL_BOOK_TEXT_FULL           a key that appends, at 48 bytes
+ *
+ * With a refusal every out value is 0 and no lent byte has changed, those of the ranges and of the
+ * panel included. With 0 the out values are as said at each call, and a destination has changed
+ * only where the answer was written, at its front (but for the two buffers of a run). Where a
+ * comment says that a call tells something, it gives it through the out value of that name.
+ *
+ *
+ * Threads, memory, linking
+ *
+ * The library has no state and keeps no pointer. Any calls may run at the same time, on the same
+ * sources too, as long as their destinations, ranges, panels and out values are different ones and
+ * nobody writes a source meanwhile. It allocates nothing, reads and writes no file, takes no lock
+ * and leaves errno alone. Of the C library it needs memcpy, memmove and memset, nothing else.
+ *
+ * It is built for x86-64 alone, as an ELF archive with the System V calling convention (Linux).
+ * `./build library` writes the archive, `./install PREFIX` puts it in place with the headers and a
+ * pkg-config file. A program is compiled and linked, with no more of the archive than it uses, by
+ * the first line in the project's folder, by the second where the library is installed:
+ *
+ *     cc -O2 -Iinclude panel.c target/staticlib/liblabel_book.a -Wl,--gc-sections -o panel
+ *     cc -O2 panel.c $(pkg-config --cflags --libs label-book) -Wl,--gc-sections -o panel
+ *
+ * The most bytes of stack that each call was seen to take, on hostile input too, rounded up to a
+ * multiple of 64; tests/tests/stack.rs measures them:
+ *
+ *   label_book_empty                0
+ *   label_book_set                  0
+ *   label_book_withdraw             0
+ *   label_book_merge                0
+ *   label_book_check                0
+ *   label_book_find                 0
+ *   label_book_name_at              0
+ *   label_book_name_of              0
+ *   label_book_prefix_range         0
+ *   label_book_head                 0
+ *   label_book_build                0
+ *   label_book_list                 0
+ *   label_book_complete             0
+ *   label_book_write_trie           0
+ *   label_book_complete_trie        0
+ *   label_book_press                0
+ *   label_book_run                  0
+ *
+ *
+ * What is proved
+ *
+ * For calls that keep to "Buffers": that each call ends, and the numbers, out values and bytes said
+ * here, are proved of the functions in crates/label_book/src/c_names.rt (docs/CONTRACTS.txt has the
+ * contracts); so is that no book is longer than LABEL_BOOK_BOOK_MAX and no sheet longer than
+ * LABEL_BOOK_SHEET_MAX. For LABEL_BOOK_TRIE_MAX, which is not proved, docs/FORMAT.md argues.
+ *
+ * That this file declares those functions as they are is not proved: .ci/c-names compares every
+ * prototype, struct and number of it with the sources, and tests/c calls all of them by it. NULL
+ * with length 0 and the stack are tested, too, not proved.
  */
 #ifndef LABEL_BOOK_H
 #define LABEL_BOOK_H
@@ -38,104 +145,245 @@
 extern "C" {
 #endif
 
-/* Writes the book of no entries: 0 entries, 7 bytes. Reads nothing. Refusal 7. */
-uint8_t label_book_empty(uint8_t *dst, size_t dst_len, size_t *entries, size_t *bytes);
+/* The version, as text and as a number to compare: 0xAABBCC is AA.BB.CC. */
+#define LABEL_BOOK_VERSION "1.1.0"
+#define LABEL_BOOK_VERSION_NUMBER 0x010100
 
-/* Writes the book with the name added, or given a new score; tells the entries in it and its bytes.
- * Refusals 1, 2, 5, 7. */
-uint8_t label_book_set(const uint8_t *book, size_t book_len, const uint8_t *name, size_t name_len, uint32_t score,
-                       uint8_t *dst, size_t dst_len, size_t *entries, size_t *bytes);
+/* The most there can be. */
+#define LABEL_BOOK_NAME_MAX 48      /* bytes of a name or prefix */
+#define LABEL_BOOK_ENTRIES_MAX 1024 /* entries of a book, sheet or trie */
+#define LABEL_BOOK_COUNT_MAX 16     /* entries that a completion can be asked for */
+#define LABEL_BOOK_PANEL_ROWS 5     /* names that a panel offers */
 
-/* Writes the book without the name; tells the entries in it and its bytes, which may be more than before.
- * Refusals 1, 2, 4, 7. */
-uint8_t label_book_withdraw(const uint8_t *book, size_t book_len, const uint8_t *name, size_t name_len,
-                            uint8_t *dst, size_t dst_len, size_t *entries, size_t *bytes);
+/* Bytes. A buffer of these is never too short. */
+#define LABEL_BOOK_FRONT 7          /* before the entries of an image; all of the empty book */
+#define LABEL_BOOK_ENTRY_MAX 53     /* an answer entry; a completion wants k of them */
+#define LABEL_BOOK_BOOK_MAX 55559   /* a book */
+#define LABEL_BOOK_SHEET_MAX 54279  /* a sheet */
+#define LABEL_BOOK_TRIE_MAX 70759   /* a trie */
 
-/* Writes the book with every name of either book once; where both have it, the first book's score counts. Tells the
- * entries in it and its bytes. Refusals 1 of either book, 5, 7. */
-uint8_t label_book_merge(const uint8_t *first, size_t first_len, const uint8_t *second, size_t second_len,
-                         uint8_t *dst, size_t dst_len, size_t *entries, size_t *bytes);
+/* What a call returns: see "Answers and refusals". */
+#define LABEL_BOOK_OK 0
+#define LABEL_BOOK_NOT_LAID_OUT 1
+#define LABEL_BOOK_NOT_ALLOWED 2
+#define LABEL_BOOK_COUNT_OUT_OF_RANGE 3
+#define LABEL_BOOK_NOT_HELD 4
+#define LABEL_BOOK_FULL 5
+#define LABEL_BOOK_NO_SUCH_PLACE 6
+#define LABEL_BOOK_TOO_SHORT 7
+#define LABEL_BOOK_NO_SUCH_KEY 8
+#define LABEL_BOOK_TEXT_FULL 9
 
-/* Checks a book, as every call that reads one does: tells the entries in it and its bytes, which are those to save. A
- * refusal says that the buffer holds none. Refusal 1. */
-uint8_t label_book_check(const uint8_t *book, size_t book_len, size_t *entries, size_t *bytes);
+/* The keys of label_book_press besides 0x20 to 0x7E. A terminal sends other codes for some of them
+ * (0x7F for erase, several bytes for an arrow): translate those. */
+#define LABEL_BOOK_KEY_RECOUNT 0x00
+#define LABEL_BOOK_KEY_UP 0x01
+#define LABEL_BOOK_KEY_DOWN 0x02
+#define LABEL_BOOK_KEY_ERASE 0x08
+#define LABEL_BOOK_KEY_TAKE 0x0D
 
-/* Tells whether the book holds the name, 1 or 0, and its position and score, both 0 if not. Refusals 1, 2. */
-uint8_t label_book_find(const uint8_t *book, size_t book_len, const uint8_t *name, size_t name_len,
-                        size_t *found, size_t *position, uint32_t *score);
-
-/* Writes the entry at a position: length byte, name, 4-byte score, big-endian; tells 1 entry and its bytes.
- * Refusals 1, 6, 7. */
-uint8_t label_book_name_at(const uint8_t *book, size_t book_len, size_t position,
-                           uint8_t *dst, size_t dst_len, size_t *entries, size_t *bytes);
-
-/* Writes the given name with its score in the same way. Refusals 1, 2, 4, 7. */
-uint8_t label_book_name_of(const uint8_t *book, size_t book_len, const uint8_t *name, size_t name_len,
-                           uint8_t *dst, size_t dst_len, size_t *entries, size_t *bytes);
-
-/* Tells the first position whose name the prefix begins, 0 if there is none, and how many there are. Refusals 1, 2. */
-uint8_t label_book_prefix_range(const uint8_t *book, size_t book_len, const uint8_t *prefix, size_t prefix_len,
-                                size_t *first, size_t *count);
-
-/* Tells where in the book the head name of a bucket of 8 begins, and its length:
- * book[start] to book[start + length - 1]. Refusals 1, 6. */
-uint8_t label_book_head(const uint8_t *book, size_t book_len, size_t bucket, size_t *start, size_t *length);
-
-/* Writes the book of a sheet's entries; tells them and its bytes. Refusals 1, 7. */
-uint8_t label_book_build(const uint8_t *sheet, size_t sheet_len,
-                         uint8_t *dst, size_t dst_len, size_t *entries, size_t *bytes);
-
-/* Writes the sheet of a book's entries; tells them and its bytes. Refusals 1, 7. */
-uint8_t label_book_list(const uint8_t *book, size_t book_len,
-                        uint8_t *dst, size_t dst_len, size_t *entries, size_t *bytes);
-
-/* Writes the trie of a book's entries; tells them and its bytes. Refusals 1, 7. */
-uint8_t label_book_write_trie(const uint8_t *book, size_t book_len,
-                              uint8_t *dst, size_t dst_len, size_t *entries, size_t *bytes);
-
-/* An open range, in which completion from a book keeps where it looks on. */
+/* An open range, in which completion from a book keeps where it looks on. The caller only lends the
+ * room: what is in it before a call is not read, and after an answer it may be anything. */
 struct label_book_range {
     size_t first, best;
     uint32_t score;
     size_t last;
 };
 
-/* Writes the best k of the entries that the prefix begins, or all if fewer, k from 1 to 16, each as name_at does; tells
- * how many, their bytes, and the looks. At least 53 * k bytes and k ranges are lent; the ranges are free after an
- * answer. Refusals 1, 2, 3, 7. */
-uint8_t label_book_complete(const uint8_t *book, size_t book_len, const uint8_t *prefix, size_t prefix_len, size_t k,
-                            uint8_t *dst, size_t dst_len, struct label_book_range *ranges, size_t ranges_len,
-                            size_t *offered, size_t *bytes, size_t *looks);
-
-/* The same from a trie, with no ranges; tells 0 looks. Refusals 1, 2, 3, 7. */
-uint8_t label_book_complete_trie(const uint8_t *trie, size_t trie_len, const uint8_t *prefix, size_t prefix_len,
-                                 size_t k, uint8_t *dst, size_t dst_len,
-                                 size_t *offered, size_t *bytes, size_t *looks);
-
-/* What is typed, the first len bytes of text, and the highlighted row, from 0, of the rows offered for it. Zeros are an
- * empty panel. */
+/* What is typed, the first len bytes of text, and the highlighted row, from 0, of the rows offered
+ * for it. Zeros are an empty panel: `= {0}` in C, `= {}` in C++. */
 struct label_book_panel {
-    uint8_t text[48];
+    uint8_t text[LABEL_BOOK_NAME_MAX];
     size_t len, highlight, rows;
 };
 
-/* One key, which changes the panel: 20 to 7E append, 08 erases, 01 and 02 move up and down, 0D takes the highlighted
- * name, 00 only counts again; tells the rows, at most 5. Refusals 1, 2, 8, 9. */
+/* The structs are laid out as the library has them: x86-64, where size_t has 8 bytes. */
+#if defined(__cplusplus) && __cplusplus >= 201103L
+#define LABEL_BOOK_ASSERT static_assert
+#elif !defined(__cplusplus) && defined(__STDC_VERSION__) && __STDC_VERSION__ >= 201112L
+#define LABEL_BOOK_ASSERT _Static_assert
+#endif
+#ifdef LABEL_BOOK_ASSERT
+LABEL_BOOK_ASSERT(sizeof(size_t) == 8, "the label book is built for x86-64 alone");
+LABEL_BOOK_ASSERT(sizeof(struct label_book_range) == 32, "a range has 32 bytes");
+LABEL_BOOK_ASSERT(offsetof(struct label_book_range, last) == 24, "last stands at byte 24");
+LABEL_BOOK_ASSERT(sizeof(struct label_book_panel) == 72, "a panel has 72 bytes");
+LABEL_BOOK_ASSERT(offsetof(struct label_book_panel, len) == 48, "len stands at byte 48");
+#undef LABEL_BOOK_ASSERT
+#endif
+
+
+/*
+ * Edits. Each reads the book in one buffer and writes the new one at the front of another, of which
+ * all bytes are free for it; dst must not overlap the book (see "Buffers").
+ */
+
+/* Writes the book of no entries; tells 0 entries and LABEL_BOOK_FRONT bytes. Reads nothing.
+ * Refusals: 7 dst has less than LABEL_BOOK_FRONT bytes. */
+uint8_t label_book_empty(uint8_t *dst, size_t dst_len, size_t *entries, size_t *bytes);
+
+/* Writes the book with the name added or, if it is held, given the new score, which may be the one
+ * it has; tells the entries in it and its bytes. dst must not overlap the book.
+ * Refusals: 1 the book; 2 the name; 5 the name is new and LABEL_BOOK_ENTRIES_MAX are held; 7 the
+ * new book is longer than dst. */
+uint8_t label_book_set(const uint8_t *book, size_t book_len, const uint8_t *name, size_t name_len,
+                       uint32_t score, uint8_t *dst, size_t dst_len,
+                       size_t *entries, size_t *bytes);
+
+/* Writes the book without the name; tells the entries in it and its bytes, which may be more than
+ * before: a name that was stored as what follows the one before it may now stand in full. dst must
+ * not overlap the book.
+ * Refusals: 1 the book; 2 the name; 4 the name is not held; 7 the new book is longer than dst. */
+uint8_t label_book_withdraw(const uint8_t *book, size_t book_len,
+                            const uint8_t *name, size_t name_len,
+                            uint8_t *dst, size_t dst_len, size_t *entries, size_t *bytes);
+
+/* Writes the book with every name of either book once; where both have it, the first book's score
+ * counts, also where it is the lower one. Tells the entries in it and its bytes. dst must overlap
+ * neither book; the two may be the same.
+ * Refusals: 1 either book; 5 the two have more than LABEL_BOOK_ENTRIES_MAX names between them, a
+ * shared one counted once; 7 the merged book is longer than dst. */
+uint8_t label_book_merge(const uint8_t *first, size_t first_len,
+                         const uint8_t *second, size_t second_len,
+                         uint8_t *dst, size_t dst_len, size_t *entries, size_t *bytes);
+
+
+/*
+ * Looking up. None of these changes the book.
+ */
+
+/* Checks a book, as every call that reads one does; for whoever has loaded one or wants to save it.
+ * Tells the entries in it and its bytes, which are those to save.
+ * Refusals: 1 the buffer holds no book. */
+uint8_t label_book_check(const uint8_t *book, size_t book_len, size_t *entries, size_t *bytes);
+
+/* Tells whether the book holds the name, found 1 or 0, and its position and score, both 0 if not.
+ * Refusals: 1 the book; 2 the name. That a name is absent is none. */
+uint8_t label_book_find(const uint8_t *book, size_t book_len, const uint8_t *name, size_t name_len,
+                        size_t *found, size_t *position, uint32_t *score);
+
+/* Writes the entry at a position as one answer entry; tells 1 entry and its bytes, at most
+ * LABEL_BOOK_ENTRY_MAX.
+ * Refusals: 1 the book; 6 the position is the number of entries or more; 7 the answer entry is
+ * longer than dst. */
+uint8_t label_book_name_at(const uint8_t *book, size_t book_len, size_t position,
+                           uint8_t *dst, size_t dst_len, size_t *entries, size_t *bytes);
+
+/* Writes the given name with its score as one answer entry; tells 1 entry and its bytes.
+ * Refusals: 1 the book; 2 the name; 4 the name is not held; 7 the answer entry is longer than
+ * dst. */
+uint8_t label_book_name_of(const uint8_t *book, size_t book_len,
+                           const uint8_t *name, size_t name_len,
+                           uint8_t *dst, size_t dst_len, size_t *entries, size_t *bytes);
+
+/* Tells the first position whose name the prefix begins, 0 if there is none, and the count of such
+ * names, which follow each other.
+ * Refusals: 1 the book; 2 the prefix. */
+uint8_t label_book_prefix_range(const uint8_t *book, size_t book_len,
+                                const uint8_t *prefix, size_t prefix_len,
+                                size_t *first, size_t *count);
+
+/* A book keeps its names in buckets of 8, counted from 0, and the first name of each in full, its
+ * head. Tells where in the book the head name of a bucket stands: it is book[start] to
+ * book[start + length - 1], not copied.
+ * Refusals: 1 the book; 6 the book has no such bucket. */
+uint8_t label_book_head(const uint8_t *book, size_t book_len, size_t bucket,
+                        size_t *start, size_t *length);
+
+
+/*
+ * Sheets. From sheet to book to sheet, and from book to sheet to book, the bytes are the same.
+ */
+
+/* Writes the book of a sheet's entries; tells them and its bytes.
+ * Refusals: 1 the sheet; 7 the book is longer than dst. */
+uint8_t label_book_build(const uint8_t *sheet, size_t sheet_len,
+                         uint8_t *dst, size_t dst_len, size_t *entries, size_t *bytes);
+
+/* Writes the sheet of a book's entries; tells them and its bytes.
+ * Refusals: 1 the book; 7 the sheet is longer than dst. */
+uint8_t label_book_list(const uint8_t *book, size_t book_len,
+                        uint8_t *dst, size_t dst_len, size_t *entries, size_t *bytes);
+
+
+/*
+ * Completion. From a book and from its trie the same entries are offered, in the same bytes.
+ */
+
+/* Writes the best k of the entries that the prefix begins, in rank, or all if fewer, k from 1 to
+ * LABEL_BOOK_COUNT_MAX, as answer entries one behind the other. Tells how many are offered, their
+ * bytes, and the looks: how often the call looked for the best of a range, at most 2 * k - 1. Lent
+ * are at least k * LABEL_BOOK_ENTRY_MAX bytes, even if fewer would do, and k ranges, counted as
+ * structs; after an answer anything may be in the ranges.
+ * Refusals: 1 the book; 2 the prefix; 3 k; 7 dst has less than k * LABEL_BOOK_ENTRY_MAX bytes, or
+ * ranges_len is less than k. */
+uint8_t label_book_complete(const uint8_t *book, size_t book_len,
+                            const uint8_t *prefix, size_t prefix_len, size_t k,
+                            uint8_t *dst, size_t dst_len,
+                            struct label_book_range *ranges, size_t ranges_len,
+                            size_t *offered, size_t *bytes, size_t *looks);
+
+/* Writes the trie of a book's entries; tells them and its bytes. A trie may be longer than any
+ * book.
+ * Refusals: 1 the book; 7 the trie is longer than dst. */
+uint8_t label_book_write_trie(const uint8_t *book, size_t book_len,
+                              uint8_t *dst, size_t dst_len, size_t *entries, size_t *bytes);
+
+/* Completes from a trie as label_book_complete does from a book, with no ranges; tells 0 looks.
+ * Refusals: 1 the trie; 2 the prefix; 3 k; 7 dst has less than k * LABEL_BOOK_ENTRY_MAX bytes. */
+uint8_t label_book_complete_trie(const uint8_t *trie, size_t trie_len,
+                                 const uint8_t *prefix, size_t prefix_len, size_t k,
+                                 uint8_t *dst, size_t dst_len,
+                                 size_t *offered, size_t *bytes, size_t *looks);
+
+
+/*
+ * The panel.
+ */
+
+/* One key, which changes the panel:
+ *
+ *   0x20 to 0x7E            appends the byte; highlight 0
+ *   LABEL_BOOK_KEY_ERASE    erases the last byte; highlight 0; on empty text nothing
+ *   LABEL_BOOK_KEY_UP       moves the highlight up, stopping at row 0
+ *   LABEL_BOOK_KEY_DOWN     moves the highlight down, stopping at the last row
+ *   LABEL_BOOK_KEY_TAKE     replaces the text by the highlighted name; highlight 0; without rows
+ *                           nothing
+ *   LABEL_BOOK_KEY_RECOUNT  nothing: the rows are counted again, after an edit of the book
+ *
+ * Tells the rows: how many names are offered for the text with k = LABEL_BOOK_PANEL_ROWS. They are
+ * counted before the key acts and again after it, each time lowering a highlight past the last row
+ * to it, to 0 if there are none; so the book may have changed since the key before. The rows given
+ * in are not read, nor the text past len, which an accepted key makes zero. To see the names, ask
+ * label_book_complete, or label_book_rows_of in label_book_util.h.
+ * Refusals: 1 the book; 2 len is over LABEL_BOOK_NAME_MAX, or a byte of the text within it is not
+ * allowed; 8 another key; 9 a key that appends, at LABEL_BOOK_NAME_MAX bytes. */
 uint8_t label_book_press(const uint8_t *book, size_t book_len, struct label_book_panel *panel,
                          uint8_t key, size_t *rows);
 
-/* Runs a history: "empty" into the first buffer, then every call of a script, each from the buffer that holds the book
- * into the other. A script is calls one behind the other, or none, and ends with the last. A call of it is a kind byte,
- * 0 a set and 1 a withdraw; 4 bytes of score, of no account in a withdraw; 2 bytes of length; as many bytes of name.
- * Numbers are big-endian. The answers are kept at the front of out, one behind the other, each in 7 bytes: its number
- * in 1, the entries in 2, the bytes in 4; a call that is refused changes nothing, and the script goes on. Tells the
- * number of calls, refused ones included, and 1 if the second buffer holds the book at the end, else 0. Behind the
- * book, and in the other buffer, stands what the calls left there.
- * Refusals of the whole run: 1, a script that is not laid out so; 7, a first buffer of less than 7 bytes, a second one
- * of another length, or less than 7 bytes of out for each call. */
-uint8_t label_book_run(const uint8_t *script, size_t script_len, uint8_t *first, size_t first_len,
-                       uint8_t *second, size_t second_len, uint8_t *out, size_t out_len,
-                       size_t *calls, size_t *turned);
+
+/*
+ * Histories.
+ */
+
+/* Runs a history on two buffers of one length: label_book_empty into the first, then every call of
+ * a script, each from the buffer that holds the book into the other. A script is calls one behind
+ * the other, or none, and ends with the last. A call of it, with big-endian numbers:
+ *
+ *   1 byte    0 a set, 1 a withdraw
+ *   4 bytes   score, of no account in a withdraw
+ *   2 bytes   length of the name
+ *             as many bytes of name, allowed or not
+ *
+ * A call that is refused changes nothing, and the script goes on. The answers are kept at the front
+ * of out, one behind the other, 7 bytes each: its number in 1, the entries in 2, the bytes in 4.
+ * Tells the calls, refused ones included, and as turned 1 if the second buffer holds the book at
+ * the end, else 0. Behind the book, and in the other buffer, stands what the calls left there.
+ * Refusals of the whole run: 1 the script is not laid out so; 7 first has less than
+ * LABEL_BOOK_FRONT bytes, second has another length, or out has less than 7 bytes for each call. */
+uint8_t label_book_run(const uint8_t *script, size_t script_len,
+                       uint8_t *first, size_t first_len, uint8_t *second, size_t second_len,
+                       uint8_t *out, size_t out_len, size_t *calls, size_t *turned);
 
 #ifdef __cplusplus
 }
