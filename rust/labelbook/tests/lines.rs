@@ -208,7 +208,8 @@ fn no_lines(desk: &Desk) {
 
 /// However long a line is, or however many there are, they are not kept in memory.
 fn endless_lines(desk: &Desk) {
-    let limited = ["sh", "-c", "ulimit -v 300000; exec \"$@\"", "sh"];
+    // One that reads on does not end by itself.
+    let limited = ["timeout", "60", "sh", "-c", "ulimit -v 300000; exec \"$@\"", "sh"];
     let zeros = "\\x00".repeat(61);
     let range = "a number from 0 to 4294967295, one space and a name";
     let words = format!("/dev/zero: line 1: not SCORE NAME, {range}: {zeros}");
