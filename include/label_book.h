@@ -95,10 +95,12 @@
  * and leaves errno alone. Of the C library it needs memcpy, memmove and memset, nothing else.
  *
  * It is built for x86-64 alone, as an ELF archive with the System V calling convention (Linux).
- * `rt staticlib label_book` writes the archive; this compiles and links a program, of the archive
- * only what it uses:
+ * `./build library` writes the archive, `./install PREFIX` puts it in place with the headers and a
+ * pkg-config file. A program is compiled and linked, with no more of the archive than it uses, by
+ * the first line in the project's folder, by the second where the library is installed:
  *
  *     cc -O2 -Iinclude panel.c target/staticlib/liblabel_book.a -Wl,--gc-sections -o panel
+ *     cc -O2 panel.c $(pkg-config --cflags --libs label-book) -Wl,--gc-sections -o panel
  *
  * The most bytes of stack that each call was seen to take, on hostile input too (a book or trie of
  * any bytes), rounded up to a multiple of 64; tests/tests/stack.rs measures them:
@@ -189,7 +191,7 @@ struct label_book_range {
 };
 
 /* What is typed, the first len bytes of text, and the highlighted row, from 0, of the rows offered
- * for it. Zeros are an empty panel: struct label_book_panel panel = {0}; */
+ * for it. Zeros are an empty panel: `= {0}` in C, `= {}` in C++. */
 struct label_book_panel {
     uint8_t text[LABEL_BOOK_NAME_MAX];
     size_t len, highlight, rows;

@@ -19,13 +19,6 @@ struct label_book_entry {
     uint32_t score;
 };
 
-/* The number in so many bytes, 4 at most, the highest byte first. */
-static inline uint32_t label_book_number_in(const uint8_t *at, size_t bytes) {
-    uint32_t number = 0;
-    for (size_t i = 0; i < bytes; i++) number = number << 8 | at[i];
-    return number;
-}
-
 /* Reads the answer entry that begins at `at` and gives where the next one begins; NULL, and the
  * entry as it was, where no whole entry with a name of 1 to LABEL_BOOK_NAME_MAX bytes stands before
  * `end`, so at the end of an answer too. Never reads at `end` or behind it. Over an answer of as
@@ -35,7 +28,10 @@ static inline uint32_t label_book_number_in(const uint8_t *at, size_t bytes) {
  *     struct label_book_entry entry;
  *     while ((at = label_book_next_entry(at, end, &entry)) != NULL)
  *         printf("%.*s %u\n", (int)entry.name_len, (const char *)entry.name, entry.score);
- */
+ *
+ * and over a sheet from at = sheet + LABEL_BOOK_FRONT on, with end = sheet + bytes. That names are
+ * allowed, different and in order is not looked at: in a sheet from elsewhere label_book_build
+ * does that. */
 static inline const uint8_t *label_book_next_entry(const uint8_t *at, const uint8_t *end,
                                                    struct label_book_entry *entry) {
     const uint8_t length_bytes = 1, score_bytes = 4;
@@ -43,24 +39,12 @@ static inline const uint8_t *label_book_next_entry(const uint8_t *at, const uint
     const uint8_t name_len = at[0];
     if (name_len == 0 || name_len > LABEL_BOOK_NAME_MAX) return NULL;
     if (end - at < length_bytes + name_len + score_bytes) return NULL;
+    const uint8_t *score = at + length_bytes + name_len;
     entry->name = at + length_bytes;
     entry->name_len = name_len;
-    entry->score = label_book_number_in(entry->name + name_len, score_bytes);
-    return entry->name + name_len + score_bytes;
-}
-
-/* Where the first entry of a sheet begins, for label_book_next_entry, and where the sheet ends;
- * NULL for both where the buffer does not hold all bytes of a sheet. The entries themselves are not
- * checked, which label_book_build does: a sheet from elsewhere may hold any names in any order. */
-static inline const uint8_t *label_book_sheet_entries(const uint8_t *sheet, size_t sheet_len,
-                                                      const uint8_t **end) {
-    const uint8_t sheet_version = 0x11;
-    *end = NULL;
-    if (sheet_len < LABEL_BOOK_FRONT || sheet[0] != sheet_version) return NULL;
-    const size_t length = label_book_number_in(sheet + 1, 4);
-    if (length < LABEL_BOOK_FRONT || length > sheet_len) return NULL;
-    *end = sheet + length;
-    return sheet + LABEL_BOOK_FRONT;
+    entry->score = 0;
+    for (int i = 0; i < score_bytes; i++) entry->score = entry->score << 8 | score[i];
+    return score + score_bytes;
 }
 
 /* Writes the name of an entry as a C string, with a zero at its end, and gives it. A name that the

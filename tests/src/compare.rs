@@ -351,14 +351,17 @@ impl Compare {
         self.agreed.values().flat_map(|by_number| by_number.values()).sum()
     }
 
+    /// A line for each call, and one for the calls within runs.
     pub fn report(&self) {
-        let line = |call: &str, by_number: &ByNumber, what: &str| {
+        let line = |call: &str, by_number: &ByNumber| {
             let all: u64 = by_number.values().sum();
-            let each: Vec<String> =
-                by_number.iter().map(|(number, cases)| format!("{number}: {cases}")).collect();
-            println!("{call:<14} {all:>9} {what} ({})", each.join(", "));
+            let answered = by_number.get(&0).copied().unwrap_or_default();
+            let refused = by_number.iter().filter(|(number, _)| **number != 0);
+            let refused: Vec<String> = refused.map(|(n, cases)| format!("{n}: {cases}")).collect();
+            println!("{call:<14} {all:>9} {answered:>9}   {}", refused.join(", "));
         };
-        self.agreed.iter().for_each(|(call, by_number)| line(call, by_number, "cases"));
-        line("calls in runs", &self.kept, "answers");
+        println!("call               cases  answered   refused, by number: cases");
+        self.agreed.iter().for_each(|(call, by_number)| line(call, by_number));
+        line("calls in runs", &self.kept);
     }
 }

@@ -474,5 +474,5 @@ fn main() {
         println!("seed {}: {} cases agree so far", seed + i, compare.cases());
     }
     compare.report();
-    println!("{} cases, all agree", compare.cases());
+    println!("calls: {} cases, all agree with the second implementation", compare.cases());
 }

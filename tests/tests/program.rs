@@ -1,9 +1,12 @@
 //! The program on random and hostile input, compared with the second implementation: every byte
 //! that it prints. Seeded and bounded.
 use label_book_tests::make::{self, Names, NAMES};
-use label_book_tests::programs::printed;
+use label_book_tests::programs::{printed, printed_and_said, said_when_full};
 use label_book_tests::random::Random;
 use label_book_tests::reference::{program, Entries};
+
+const CANNOT_WRITE: &str = "labels: cannot write\\n";
+const CANNOT_READ: &str = "labels: cannot read\\n";
 
 fn number(random: &mut Random) -> Vec<u8> {
     let value = match random.below(6) {
@@ -73,7 +76,19 @@ fn script(random: &mut Random, lines: usize) -> Vec<u8> {
     all.join(&b'\n')
 }
 
+/// Where it cannot write or read, the program says so once and stops, also where the input has no
+/// end.
+fn failures() {
+    assert_eq!(said_when_full("labels", b"set 1 a\n").escape_ascii().to_string(), CANNOT_WRITE);
+    let folder = std::fs::File::open("/").expect("a folder opens, but cannot be read");
+    let (printed, said) = printed_and_said("labels", folder);
+    assert!(printed.is_empty());
+    assert_eq!(said.escape_ascii().to_string(), CANNOT_READ);
+    println!("labels: 2 failures of input and output, both said");
+}
+
 fn main() {
+    failures();
     let rounds = if std::env::var_os("LONG").is_some() { 20_000 } else { 200 };
     let mut random = Random::new(
         std::env::var("SEED").map_or(1, |seed| seed.parse().expect("SEED is a number")),

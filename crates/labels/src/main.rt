@@ -3,7 +3,8 @@
 // is `InputSays` in crate `program`. The contracts here promise the console that is kept from one read to the next, and
 // at the end the ledger's book. Of standard input and output themselves they promise nothing, since no contract of `io`
 // or `libc` says which bytes a read gives or what a write does with its own: a program that read nothing would keep
-// them too.
+// them too. Where a read or a write fails, the program says so on standard error, prints nothing more and stops reading;
+// the language has no exit status.
 use limits::BUFFER_LENGTH;
 use limits::KEPT_BYTES;
 use limits::LINE_ROOM;
@@ -20,11 +21,38 @@ ghost use Rattle.program.specs.Theorem.{ProgramRan};
 const INPUT_ROOM: usize = 65536;
 
 // Between two reads: the bytes kept of the line begun, whether the second buffer holds the book, and the bytes that the
-// last read gave, none at the input's end.
+// last read gave, none at the input's end; and whether every read and write so far has worked.
 struct State {
     kept: usize,
     turned: bool,
     got: usize,
+    works: bool,
+}
+
+// Writes what is printed, if everything worked so far: whether it still does.
+fn print(works: bool, bytes: &[u8]) -> bool {
+    if !works {
+        return false;
+    }
+    if io::write_all(1, bytes) {
+        return true;
+    }
+    io::write_all(2, b"labels: cannot write\n");
+    false
+}
+
+// Whether a read worked, by what it answered: a negative number is an error.
+fn did_read(got: isize) -> bool {
+    if got >= 0 {
+        return true;
+    }
+    io::write_all(2, b"labels: cannot read\n");
+    false
+}
+
+// Whether there is more to read, as far as the last read tells.
+fn goes_on(got: usize, works: bool) -> bool {
+    works && got > 0
 }
 
 // Feeds a part of the input, all of it, and writes what it prints.
@@ -45,10 +73,11 @@ fn answer_part(
     let mut used = 0;
     let mut kept = s.kept;
     let mut turned = s.turned;
+    let mut works = s.works;
     while used < part.len() {
         let f = program_run::feed(&part[used..], kept, turned, line, first, second, out);
         let n = f.bytes;
-        io::write_all(1, &out[..n]);
+        works = print(works, &out[..n]);
         used += f.used;
         kept = f.kept;
         turned = f.turned;
@@ -57,6 +86,7 @@ fn answer_part(
         kept: kept,
         turned: turned,
         got: part.len(),
+        works: works,
     }
 }
 
@@ -78,11 +108,17 @@ fn read_part(
 {
     let got = libc::read(0, input);
     let n = io::count(got, input);
-    answer_part(&input[..n], s, line, first, second, out)
+    let t = State {
+        kept: s.kept,
+        turned: s.turned,
+        got: n,
+        works: did_read(got),
+    };
+    answer_part(&input[..n], t, line, first, second, out)
 }
 
 // Reads to the end of the input. A proved loop has to end, so it counts its reads down from a number that no run uses
-// up; the first is made as if one before it had filled `input`. The console afterwards is the one that some bytes lead
+// up. The console afterwards is the one that some bytes lead
 // to. They are all that was read, one read behind the other, but the contract cannot name them: each read overwrites
 // `input`, so that no buffer holds them in the end.
 fn read_all(
@@ -100,17 +136,20 @@ fn read_all(
     let mut s = State {
         kept: 0,
         turned: false,
-        got: input.len(),
+        got: 0,
+        works: true,
     };
-    while reads > 0 && s.got > 0 {
+    let mut more = true;
+    while reads > 0 && more {
         s = read_part(input, s, line, first, second, out);
+        more = goes_on(s.got, s.works);
         reads -= 1;
     }
     s
 }
 
 // Runs to the end of the input: the book of no entries, the lines read, and the last one if no line feed ends it. As
-// `main` has no contract, this is what the program promises.
+// `main` has no contract, this is what the program promises. Of a line that a failed read cuts short nothing is printed.
 fn run(
     input: &mut [u8],
     line: &mut [u8],
@@ -127,7 +166,7 @@ fn run(
     let s = read_all(input, line, first, second, out);
     let f = program_run::finish(s.kept, s.turned, line, first, second, out);
     let n = f.bytes;
-    io::write_all(1, &out[..n]);
+    print(s.works, &out[..n]);
     f
 }
 

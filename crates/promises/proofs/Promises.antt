@@ -27,6 +27,7 @@ use Rattle.trie.proofs.Trie.{trie-exact}
 use Rattle.sheet.specs.Sheet.{buildBook, listBook}
 use Rattle.sheet.proofs.Reading.{sheet-exact}
 use Rattle.sheet.proofs.RoundTrip.{round-trips}
+use Rattle.sheet.proofs.Size.{sheet-length}
 use Rattle.panel.specs.Panel.{press}
 use Rattle.panel.proofs.Refused.{press-refused}
 use Rattle.ledger.specs.Marked.{marked}
@@ -84,6 +85,7 @@ promises =
       sheetRead = sheet-exact;
       oneReading = same-reading;
       bookLength = book-length;
+      sheetLength = sheet-length;
       headPart = head-part;
       roundTrips = round-trips;
       history = demand3;

@@ -130,6 +130,8 @@ pub record Promises : Type 0 where
       → (buf : List ℕ) → r buf ≡ r′ buf
   -- A book never exceeds 55,559 bytes.
   pub bookLength : (es : List Entry) → valid es ≡ true → length (bookImage es) ≤ 55559
+  -- And a sheet 54,279, which is the room that a list needs.
+  pub sheetLength : (es : List Entry) → valid es ≡ true → length (sheetImage es) ≤ 54279
   -- A bucket's head name is empty exactly where the companion call refuses; else that call gives its length.
   pub headPart : (book : List ℕ) (j : ℕ) → HeadPart book j
   -- Sheet → book → sheet and book → sheet → book give the same bytes.

@@ -14,12 +14,14 @@ use Rattle.labels.proofs.answer_part.Statement.{statement}
 use Rattle.labels.proofs.answer_part.Tie as tie
 
 abbrev Inv-loop : tie.InvT-loop
-Inv-loop part line₀ first₀ second₀ out₀ used₀ kept₀ turned₀ line first second out used kept turned =
+Inv-loop part line₀ first₀ second₀ out₀ used₀ kept₀ turned₀ works₀ line first second out used kept turned
+    works =
     Feeding part (consoleIn kept₀ turned₀ line₀ first₀ second₀) used (consoleIn kept turned line first second)
     × Ready line₀ first₀ second₀ out₀ line first second out kept
 
 abbrev μ-loop : tie.MeasureT-loop
-μ-loop part line₀ first₀ second₀ out₀ used₀ kept₀ turned₀ line first second out used kept turned =
+μ-loop part line₀ first₀ second₀ out₀ used₀ kept₀ turned₀ works₀ line first second out used kept turned
+    works =
     length part - used
 
 -- places that the proofs below look back to
@@ -38,11 +40,11 @@ at-loop c = c .before .before .before .before .before .before
 abbrev after-feed : tie.After-slice-known8 Inv-loop μ-loop → tie.After-feed Inv-loop μ-loop
 after-feed c = c .before .before .before .before .before .before .before .before
 
-abbrev after-feed-of-write-all-arg : tie.After-write-all-arg Inv-loop μ-loop → tie.After-feed Inv-loop μ-loop
-after-feed-of-write-all-arg c = after-feed (c .before)
+abbrev after-feed-of-print-arg : tie.After-print-arg Inv-loop μ-loop → tie.After-feed Inv-loop μ-loop
+after-feed-of-print-arg c = after-feed (c .before)
 
 abbrev after-feed-of-struct-known : tie.After-struct-known Inv-loop μ-loop → tie.After-feed Inv-loop μ-loop
-after-feed-of-struct-known c = after-feed-of-write-all-arg (c .before .before)
+after-feed-of-struct-known c = after-feed-of-print-arg (c .before .before)
 
 -- the turn of a feed, and what it gave of what is left of the part
 abbrev turn : tie.After-feed Inv-loop μ-loop → tie.In-loop Inv-loop μ-loop
@@ -89,20 +91,20 @@ part-feed-end c = omega arith
 feed-requires : tie.Need-feed-requires Inv-loop μ-loop
 feed-requires c κs = at-loop c .loop .inv .1 .room
 
-slice-reshare-prefix-write-all : tie.Need-slice-reshare-prefix-write-all Inv-loop μ-loop
-slice-reshare-prefix-write-all c =
+slice-reshare-prefix-print : tie.Need-slice-reshare-prefix-print Inv-loop μ-loop
+slice-reshare-prefix-print c =
     let f = after-feed c in
     omega (arith, did f .printed .inside, f .feed .kept .1 .1 .1 .1 .1 .1 .0)
 
-slice-aggregate-write-all : tie.Need-slice-aggregate-write-all Inv-loop μ-loop
-slice-aggregate-write-all c =
-    let f = after-feed-of-write-all-arg c in
+slice-aggregate-print : tie.Need-slice-aggregate-print Inv-loop μ-loop
+slice-aggregate-print c =
+    let f = after-feed-of-print-arg c in
     sym
     (length-take-le (f .feed .result .bytes) (f .feed .last .1 .1 .1 .1 .1 .1 .0)
     (omega (arith, did f .printed .inside, f .feed .kept .1 .1 .1 .1 .1 .1 .0)))
 
-write-all-requires : tie.Need-write-all-requires Inv-loop μ-loop
-write-all-requires c κs = tt
+print-requires : tie.Need-print-requires Inv-loop μ-loop
+print-requires c κs = tt
 
 add-used : tie.Need-add-used Inv-loop μ-loop
 add-used c =
@@ -153,9 +155,9 @@ answer-part-spec =
     part-feed-start
     part-feed-end
     feed-requires
-    slice-reshare-prefix-write-all
-    slice-aggregate-write-all
-    write-all-requires
+    slice-reshare-prefix-print
+    slice-aggregate-print
+    print-requires
     add-used
     loop-less
     loop-again

@@ -12,29 +12,28 @@ use Rattle.labels.proofs.read_all.Statement.{statement}
 use Rattle.labels.proofs.read_all.Tie as tie
 
 abbrev Inv-loop : tie.InvT-loop
-Inv-loop input₀ line₀ first₀ second₀ out₀ reads₀ s₀ input line first second out reads
-    s = SomeFed (consoleIn 0 false line₀ first₀ second₀) (s .kept) (s .turned) line first second
+Inv-loop input₀ line₀ first₀ second₀ out₀ reads₀ s₀ more₀ input line first second out reads
+    s more = SomeFed (consoleIn 0 false line₀ first₀ second₀) (s .kept) (s .turned) line first second
     × (length input ≡ length input₀) × Ready line₀ first₀ second₀ out₀ line first second out (s .kept)
 
 abbrev μ-loop : tie.MeasureT-loop
-μ-loop input₀ line₀ first₀ second₀ out₀ reads₀ s₀ input line first second out reads s = reads
+μ-loop input₀ line₀ first₀ second₀ out₀ reads₀ s₀ more₀ input line first second out reads s more = reads
 
 -- places that the proofs below look back to
 abbrev begin : tie.After-slice-known5 Inv-loop μ-loop → tie.Start Inv-loop μ-loop
 begin c = c .before .before .before .before .before
 
 abbrev at-loop : tie.After-read-part-arg5 Inv-loop μ-loop → tie.At-loop Inv-loop μ-loop
-at-loop c = c .before .before .before .before .before .before .before .before
+at-loop c = c .before .before .before .before .before .before .before
 
 abbrev at-loop-of-read-part : tie.After-read-part Inv-loop μ-loop → tie.At-loop Inv-loop μ-loop
 at-loop-of-read-part c = at-loop (c .before)
 
-abbrev in-loop : tie.After-slice-known10 Inv-loop μ-loop → tie.In-loop Inv-loop μ-loop
-in-loop c = c .before .before .before .before .before .before .before .before .before .before .before .before .before
-    .before .before .before .before .before
-
 abbrev after-read-part : tie.After-slice-known10 Inv-loop μ-loop → tie.After-read-part Inv-loop μ-loop
 after-read-part c = c .before .before .before .before .before .before .before .before .before .before
+
+abbrev in-loop : tie.After-goes-on Inv-loop μ-loop → tie.In-loop Inv-loop μ-loop
+in-loop c = after-read-part (c .before) .before .before .before .before .before .before .before
 
 loop-holds : tie.Need-loop-holds Inv-loop μ-loop
 loop-holds c =
@@ -47,6 +46,9 @@ loop-holds c =
 read-part-requires : tie.Need-read-part-requires Inv-loop μ-loop
 read-part-requires c κs = at-loop c .loop .inv .2 .room
 
+goes-on-requires : tie.Need-goes-on-requires Inv-loop μ-loop
+goes-on-requires c κs = tt
+
 sub-reads : tie.Need-sub-reads Inv-loop μ-loop
 sub-reads c = let i = in-loop c in omega (arith, i .loop-test .taken)
 
@@ -55,7 +57,7 @@ loop-less c = let i = in-loop c in omega (arith, i .loop-test .taken)
 
 loop-again : tie.Need-loop-again Inv-loop μ-loop
 loop-again c =
-    let r = after-read-part c in
+    let r = after-read-part (c .before) in
     let l = at-loop-of-read-part r in
     let k = r .read-part .kept in
     let e = r .read-part .ensures .0 in (
@@ -66,22 +68,22 @@ loop-again c =
     )
 
 same-length : tie.Need-same-length Inv-loop μ-loop
-same-length c = c .before .before .before .loop .inv .1
+same-length c = c .before .before .loop .inv .1
 
 same-length-2 : tie.Need-same-length-2 Inv-loop μ-loop
-same-length-2 c = c .before .before .before .loop .inv .2 .lineSize
+same-length-2 c = c .before .before .loop .inv .2 .lineSize
 
 same-length-3 : tie.Need-same-length-3 Inv-loop μ-loop
-same-length-3 c = c .before .before .before .loop .inv .2 .firstSize
+same-length-3 c = c .before .before .loop .inv .2 .firstSize
 
 same-length-4 : tie.Need-same-length-4 Inv-loop μ-loop
-same-length-4 c = c .before .before .before .loop .inv .2 .secondSize
+same-length-4 c = c .before .before .loop .inv .2 .secondSize
 
 same-length-5 : tie.Need-same-length-5 Inv-loop μ-loop
-same-length-5 c = c .before .before .before .loop .inv .2 .outSize
+same-length-5 c = c .before .before .loop .inv .2 .outSize
 
 returns : tie.Need-returns Inv-loop μ-loop
-returns c = c .before .before .before .loop .inv .0
+returns c = c .before .before .loop .inv .0
 
 same-length-6 : tie.Need-same-length-6 Inv-loop μ-loop
 same-length-6 c = c .before .loop .inv .1
@@ -109,6 +111,7 @@ read-all-spec =
     μ-loop
     loop-holds
     read-part-requires
+    goes-on-requires
     sub-reads
     loop-less
     loop-again

@@ -7,7 +7,7 @@ use Rattle.labels.proofs.read_part.Tie as tie
 
 -- places that the proofs below look back to
 abbrev after-count : tie.After-answer-part → tie.After-count
-after-count c = c .before .before .before .before .before .before
+after-count c = c .before .before .before .before .before .before .before
 
 abbrev after-read : tie.After-count → tie.After-read
 after-read c = c .before .before .before .before
@@ -20,6 +20,9 @@ read-requires c κs = search needs
 
 count-requires : tie.Need-count-requires
 count-requires c κs = search needs
+
+did-read-requires : tie.Need-did-read-requires
+did-read-requires c κs = search needs
 
 slice-reshare-prefix-answer-part : tie.Need-slice-reshare-prefix-answer-part
 slice-reshare-prefix-answer-part c = search needs
@@ -58,6 +61,7 @@ read-part-spec =
     (tie.spec
     read-requires
     count-requires
+    did-read-requires
     slice-reshare-prefix-answer-part
     slice-aggregate-answer-part
     answer-part-requires

@@ -19,7 +19,7 @@ abbrev after-read-all : tie.After-finish → tie.After-read-all
 after-read-all c = c .before .before .before .before .before .before .before .before .before .before .before .before
     .before .before .before
 
-abbrev after-finish : tie.After-write-all-arg → tie.After-finish
+abbrev after-finish : tie.After-print-arg → tie.After-finish
 after-finish c = c .before .before .before .before .before .before .before
 
 empty-requires : tie.Need-empty-requires
@@ -31,18 +31,18 @@ read-all-requires c κs = search needs
 finish-requires : tie.Need-finish-requires
 finish-requires c κs = search needs
 
-slice-reshare-prefix-write-all : tie.Need-slice-reshare-prefix-write-all
-slice-reshare-prefix-write-all c = search needs
+slice-reshare-prefix-print : tie.Need-slice-reshare-prefix-print
+slice-reshare-prefix-print c = search needs
 
-slice-aggregate-write-all : tie.Need-slice-aggregate-write-all
-slice-aggregate-write-all c =
+slice-aggregate-print : tie.Need-slice-aggregate-print
+slice-aggregate-print c =
     let f = after-finish c in
     sym
     (length-take-le (f .finish .result .bytes) (f .finish .last .1 .1 .1 .1 .1 .0)
     (omega (arith, f .finish .ensures .printed .inside, f .finish .kept .1 .1 .1 .1 .1 .0)))
 
-write-all-requires : tie.Need-write-all-requires
-write-all-requires c κs = search needs
+print-requires : tie.Need-print-requires
+print-requires c κs = search needs
 
 same-length : tie.Need-same-length
 same-length c = search needs
@@ -75,9 +75,9 @@ run-spec =
     empty-requires
     read-all-requires
     finish-requires
-    slice-reshare-prefix-write-all
-    slice-aggregate-write-all
-    write-all-requires
+    slice-reshare-prefix-print
+    slice-aggregate-print
+    print-requires
     same-length
     same-length-2
     same-length-3

@@ -1,0 +1,421 @@
+/*
+ * Every call of label_book.h by its prototype, on the cases that document 01 shows on the bench (P1
+ * to P10, entries E) and on the ends of its limits. What the calls do on other inputs is tested in
+ * Rust; this is about the header.
+ */
+#include <stdio.h>
+
+#include "support.h"
+
+#define E_BOOK "21 00 00 00 2C 00 04 00 00 00 05 00 00 00 09 00 00 00 09 00 00 00 0C 00 1B 00 03 " \
+               "02 61 63 00 02 72 63 02 05 20 73 74 65 70 01 01 6C"
+#define E_SHEET "11 00 00 00 28 00 04 02 61 63 00 00 00 05 02 72 63 00 00 00 09 " \
+                "07 72 63 20 73 74 65 70 00 00 00 09 02 72 6C 00 00 00 0C"
+#define E_TRIE "31 00 00 00 1C 00 04 51 0C 08 72 4A 07 61 63 01 6C 59 03 06 63 00 0D 20 73 74 65 70"
+#define E_BYTES 44
+
+/* What a destination holds before a call. */
+#define FILL 0xA5
+#define FILL_7 "A5 A5 A5 A5 A5 A5 A5"
+
+/* The out values. They are another number before each call, so that one that is not told shows. */
+#define UNTOLD 0x5A5A5A5A
+static size_t one, two, three;
+static uint32_t told_score;
+
+#define GIVES(call, number, first, second) \
+    do { \
+        one = UNTOLD, two = UNTOLD; \
+        SAME(call, number); \
+        SAME(one, first); \
+        SAME(two, second); \
+    } while (0)
+
+#define GIVES_3(call, number, first, second, third) \
+    do { \
+        three = UNTOLD; \
+        GIVES(call, number, first, second); \
+        SAME(three, third); \
+    } while (0)
+
+static struct bench bench;
+static uint8_t dst[LABEL_BOOK_TRIE_MAX];
+static struct label_book_range ranges[LABEL_BOOK_COUNT_MAX + 1];
+
+static const char x49[] = "xxxxxxxxxxxxxxxxxxxxxxxxxxxxxxxxxxxxxxxxxxxxxxxxx";
+static const uint8_t no_book[] = {0x20, 0, 0, 0, 7, 0, 0};
+
+/* So many letters x, at most 49. */
+static const char *letters(size_t number) { return x49 + sizeof x49 - 1 - number; }
+
+/* The bench's book, as a pointer and a length; the destination, each byte of it FILL. */
+#define BOOK bench_book(&bench), (size_t)LABEL_BOOK_BOOK_MAX
+static uint8_t *fresh(void) {
+    memset(dst, FILL, sizeof dst);
+    return dst;
+}
+
+static void the_empty_book(void) {
+    GIVES(label_book_empty(fresh(), 7, &one, &two), LABEL_BOOK_OK, 0, LABEL_BOOK_FRONT);
+    SAME_BYTES(dst, 8, "21 00 00 00 07 00 00 A5");
+    GIVES(label_book_empty(fresh(), 6, &one, &two), LABEL_BOOK_TOO_SHORT, 0, 0);
+    SAME_BYTES(dst, 7, FILL_7);
+}
+
+static void a_book_by_sets(void) {
+    bench_of_e(&bench);
+    SAME_BYTES(bench_book(&bench), E_BYTES, E_BOOK);
+    GIVES(label_book_set(BOOK, NAME("rc"), 9, fresh(), E_BYTES, &one, &two), LABEL_BOOK_OK, 4,
+          E_BYTES);
+    SAME_BYTES(dst, E_BYTES, E_BOOK);
+    SAME(dst[E_BYTES], FILL);
+    GIVES(label_book_set(BOOK, NAME("sw"), 0x01020304, fresh(), 52, &one, &two), LABEL_BOOK_OK, 5,
+          52);
+    SAME_BYTES(dst + 7 + 4 * 4, 4, "01 02 03 04");
+}
+
+static void refused_sets(void) {
+    bench_of_e(&bench);
+    GIVES(label_book_set(no_book, sizeof no_book, NAME("rc"), 9, fresh(), 99, &one, &two),
+          LABEL_BOOK_NOT_LAID_OUT, 0, 0);
+    GIVES(label_book_set(BOOK, NAME(letters(48)), 1, fresh(), 999, &one, &two), LABEL_BOOK_OK, 5,
+          E_BYTES + 4 + 2 + LABEL_BOOK_NAME_MAX);
+    GIVES(label_book_set(BOOK, NAME(letters(49)), 1, fresh(), 999, &one, &two),
+          LABEL_BOOK_NOT_ALLOWED, 0, 0);
+    GIVES(label_book_set(BOOK, NAME(""), 1, fresh(), 999, &one, &two), LABEL_BOOK_NOT_ALLOWED, 0,
+          0);
+    GIVES(label_book_set(BOOK, NAME("rc"), 1, fresh(), E_BYTES - 1, &one, &two),
+          LABEL_BOOK_TOO_SHORT, 0, 0);
+    SAME_BYTES(dst, 7, FILL_7);
+}
+
+static void ten_names_and_nine(void) {
+    char digit[2] = "1";
+    bench_empty(&bench);
+    for (; digit[0] <= '8'; digit[0]++) bench_set(&bench, digit, 1);
+    bench_set(&bench, letters(47), 1);
+    bench_set(&bench, letters(48), 1);
+    SAME(bench_bytes(&bench), 127);
+    GIVES(label_book_withdraw(BOOK, NAME("1"), fresh(), 130, &one, &two), LABEL_BOOK_TOO_SHORT, 0,
+          0);
+    SAME_BYTES(dst, 7, FILL_7);
+    GIVES(label_book_withdraw(BOOK, NAME("1"), fresh(), 167, &one, &two), LABEL_BOOK_OK, 9, 167);
+    GIVES(label_book_head(BOOK, 1, &one, &two), LABEL_BOOK_OK, 77, 47);
+    GIVES(label_book_head(BOOK, 2, &one, &two), LABEL_BOOK_NO_SUCH_PLACE, 0, 0);
+}
+
+static void withdrawals(void) {
+    bench_of_e(&bench);
+    bench_set(&bench, "sw", 7);
+    GIVES(label_book_withdraw(BOOK, NAME("sw"), fresh(), 99, &one, &two), LABEL_BOOK_OK, 4,
+          E_BYTES);
+    SAME_BYTES(dst, E_BYTES, E_BOOK);
+    GIVES(label_book_withdraw(BOOK, NAME("zz"), fresh(), 99, &one, &two), LABEL_BOOK_NOT_HELD, 0,
+          0);
+    GIVES(label_book_withdraw(BOOK, NAME("\x1F"), fresh(), 99, &one, &two), LABEL_BOOK_NOT_ALLOWED,
+          0, 0);
+    SAME_BYTES(dst, 7, FILL_7);
+}
+
+static void merges(void) {
+    static struct bench course;
+    bench_of_e(&bench);
+    bench_empty(&course);
+    bench_set(&course, "aa", 7);
+    bench_set(&course, "rc", 1000);
+    bench_set(&course, "sw", 2);
+    GIVES(label_book_merge(BOOK, bench_book(&course), LABEL_BOOK_BOOK_MAX, fresh(), 59, &one, &two),
+          LABEL_BOOK_OK, 6, 59);
+    SAME_BYTES(dst + 7, 24, "00 00 00 07 00 00 00 05 00 00 00 09 00 00 00 09 00 00 00 0C "
+                            "00 00 00 02");
+    GIVES(label_book_merge(BOOK, bench_book(&course), LABEL_BOOK_BOOK_MAX, fresh(), 58, &one, &two),
+          LABEL_BOOK_TOO_SHORT, 0, 0);
+    GIVES(label_book_merge(BOOK, no_book, sizeof no_book, fresh(), 99, &one, &two),
+          LABEL_BOOK_NOT_LAID_OUT, 0, 0);
+    SAME_BYTES(dst, 7, FILL_7);
+    GIVES(label_book_merge(BOOK, BOOK, fresh(), 99, &one, &two), LABEL_BOOK_OK, 4, E_BYTES);
+    SAME_BYTES(dst, E_BYTES, E_BOOK);
+}
+
+static void the_check(void) {
+    bench_of_e(&bench);
+    GIVES(label_book_check(BOOK, &one, &two), LABEL_BOOK_OK, 4, E_BYTES);
+    GIVES(label_book_check(bench_book(&bench), E_BYTES, &one, &two), LABEL_BOOK_OK, 4, E_BYTES);
+    GIVES(label_book_check(bench_book(&bench), E_BYTES - 1, &one, &two), LABEL_BOOK_NOT_LAID_OUT, 0,
+          0);
+}
+
+/* The number that finding returns, with its out values in one, two and three. */
+static uint8_t find(const char *name) {
+    told_score = UNTOLD;
+    uint8_t number = label_book_find(BOOK, NAME(name), &one, &two, &told_score);
+    three = told_score;
+    return number;
+}
+
+static void finding(void) {
+    bench_of_e(&bench);
+    GIVES_3(find("rl"), LABEL_BOOK_OK, 1, 3, 12);
+    GIVES_3(find("ac"), LABEL_BOOK_OK, 1, 0, 5);
+    GIVES_3(find("r"), LABEL_BOOK_OK, 0, 0, 0);
+    GIVES_3(find(letters(48)), LABEL_BOOK_OK, 0, 0, 0);
+    GIVES_3(find(letters(49)), LABEL_BOOK_NOT_ALLOWED, 0, 0, 0);
+}
+
+static void answer_entries(void) {
+    bench_of_e(&bench);
+    GIVES(label_book_name_at(BOOK, 0, fresh(), 7, &one, &two), LABEL_BOOK_OK, 1, 7);
+    SAME_BYTES(dst, 8, "02 61 63 00 00 00 05 A5");
+    GIVES(label_book_name_at(BOOK, 4, fresh(), 53, &one, &two), LABEL_BOOK_NO_SUCH_PLACE, 0, 0);
+    GIVES(label_book_name_at(BOOK, 0, fresh(), 6, &one, &two), LABEL_BOOK_TOO_SHORT, 0, 0);
+    SAME_BYTES(dst, 7, FILL_7);
+    GIVES(label_book_name_of(BOOK, NAME("rc step"), fresh(), 12, &one, &two), LABEL_BOOK_OK, 1, 12);
+    SAME_BYTES(dst, 13, "07 72 63 20 73 74 65 70 00 00 00 09 A5");
+    GIVES(label_book_name_of(BOOK, NAME("zz"), fresh(), 53, &one, &two), LABEL_BOOK_NOT_HELD, 0, 0);
+    SAME_BYTES(dst, 7, FILL_7);
+}
+
+static void prefix_ranges(void) {
+    bench_of_e(&bench);
+    GIVES(label_book_prefix_range(BOOK, NAME("rc"), &one, &two), LABEL_BOOK_OK, 1, 2);
+    GIVES(label_book_prefix_range(BOOK, NAME(""), &one, &two), LABEL_BOOK_OK, 0, 4);
+    GIVES(label_book_prefix_range(BOOK, NAME("q"), &one, &two), LABEL_BOOK_OK, 0, 0);
+    GIVES(label_book_prefix_range(BOOK, NAME("\x7F"), &one, &two), LABEL_BOOK_NOT_ALLOWED, 0, 0);
+}
+
+static void bucket_heads(void) {
+    bench_of_e(&bench);
+    GIVES(label_book_head(BOOK, 0, &one, &two), LABEL_BOOK_OK, 28, 2);
+    SAME_BYTES(bench_book(&bench) + one, two, "61 63");
+    GIVES(label_book_head(BOOK, 1, &one, &two), LABEL_BOOK_NO_SUCH_PLACE, 0, 0);
+}
+
+static void sheets(void) {
+    uint8_t sheet[64];
+    size_t len = from_hex(E_SHEET, sheet, sizeof sheet);
+    bench_of_e(&bench);
+    GIVES(label_book_list(BOOK, fresh(), len, &one, &two), LABEL_BOOK_OK, 4, len);
+    SAME_BYTES(dst, len, E_SHEET);
+    GIVES(label_book_list(BOOK, fresh(), len - 1, &one, &two), LABEL_BOOK_TOO_SHORT, 0, 0);
+    SAME_BYTES(dst, 7, FILL_7);
+    GIVES(label_book_build(sheet, len, fresh(), E_BYTES, &one, &two), LABEL_BOOK_OK, 4, E_BYTES);
+    SAME_BYTES(dst, E_BYTES, E_BOOK);
+    GIVES(label_book_build(sheet, len, fresh(), E_BYTES - 1, &one, &two), LABEL_BOOK_TOO_SHORT, 0,
+          0);
+    sheet[7 + 1] = 'z'; /* "zc" before "rc" */
+    GIVES(label_book_build(sheet, len, fresh(), 99, &one, &two), LABEL_BOOK_NOT_LAID_OUT, 0, 0);
+    SAME_BYTES(dst, 7, FILL_7);
+}
+
+/* Completes from the bench's book, with just the room that k entries want. */
+static uint8_t complete(const char *prefix, size_t k) {
+    return label_book_complete(BOOK, NAME(prefix), k, fresh(), k * LABEL_BOOK_ENTRY_MAX, ranges, k,
+                               &one, &two, &three);
+}
+
+static void completion_from_a_book(void) {
+    bench_of_e(&bench);
+    GIVES_3(complete("r", 2), LABEL_BOOK_OK, 2, 14, 2);
+    SAME_BYTES(dst, 15, "02 72 6C 00 00 00 0C 02 72 63 00 00 00 09 A5");
+    GIVES_3(complete("rc", 5), LABEL_BOOK_OK, 2, 19, 2);
+    SAME_BYTES(dst, 20, "02 72 63 00 00 00 09 07 72 63 20 73 74 65 70 00 00 00 09 A5");
+    GIVES_3(complete("q", 5), LABEL_BOOK_OK, 0, 0, 0);
+    SAME_BYTES(dst, 7, FILL_7);
+    bench_empty(&bench);
+    bench_set(&bench, "a", 1);
+    bench_set(&bench, "b", 9);
+    bench_set(&bench, "c", 1);
+    GIVES_3(complete("", 2), LABEL_BOOK_OK, 2, 12, 3);
+    SAME_BYTES(dst, 12, "01 62 00 00 00 09 01 61 00 00 00 01");
+}
+
+static void refused_completions(void) {
+    const size_t k = LABEL_BOOK_COUNT_MAX, room = k * LABEL_BOOK_ENTRY_MAX;
+    bench_of_e(&bench);
+    GIVES_3(complete("", k), LABEL_BOOK_OK, 4, 33, 4);
+    GIVES_3(complete("", k + 1), LABEL_BOOK_COUNT_OUT_OF_RANGE, 0, 0, 0);
+    GIVES_3(complete("", 0), LABEL_BOOK_COUNT_OUT_OF_RANGE, 0, 0, 0);
+    GIVES_3(complete(letters(49), 1), LABEL_BOOK_NOT_ALLOWED, 0, 0, 0);
+    GIVES_3(label_book_complete(BOOK, NAME(""), k, fresh(), room - 1, ranges, k, &one, &two,
+                                &three), LABEL_BOOK_TOO_SHORT, 0, 0, 0);
+    GIVES_3(label_book_complete(BOOK, NAME(""), k, fresh(), room, ranges, k - 1, &one, &two,
+                                &three), LABEL_BOOK_TOO_SHORT, 0, 0, 0);
+    SAME_BYTES(dst, 7, FILL_7);
+}
+
+/* Writes the trie of the bench's book, with so many bytes of room. */
+static uint8_t write_trie(size_t room) {
+    return label_book_write_trie(BOOK, fresh(), room, &one, &two);
+}
+
+static void tries(void) {
+    bench_empty(&bench);
+    GIVES(write_trie(7), LABEL_BOOK_OK, 0, 7);
+    SAME_BYTES(dst, 8, "31 00 00 00 07 00 00 A5");
+    bench_set(&bench, letters(7), 5);
+    GIVES(write_trie(99), LABEL_BOOK_OK, 1, 7 + 9); /* one node: header, score, 7 of label */
+    bench_empty(&bench);
+    bench_set(&bench, letters(8), 5);
+    GIVES(write_trie(99), LABEL_BOOK_OK, 1, 7 + 10 + 2); /* two: with a child field; 2 more */
+    bench_of_e(&bench);
+    GIVES(write_trie(28), LABEL_BOOK_OK, 4, 28);
+    SAME_BYTES(dst, 28, E_TRIE);
+    GIVES(write_trie(27), LABEL_BOOK_TOO_SHORT, 0, 0);
+    SAME_BYTES(dst, 7, FILL_7);
+}
+
+/* Completes from the trie of E, with just the room that k entries want. */
+static uint8_t complete_trie(const char *prefix, size_t k) {
+    uint8_t trie[28];
+    size_t len = from_hex(E_TRIE, trie, sizeof trie);
+    return label_book_complete_trie(trie, len, NAME(prefix), k, fresh(), k * LABEL_BOOK_ENTRY_MAX,
+                                    &one, &two, &three);
+}
+
+static void completion_from_a_trie(void) {
+    GIVES_3(complete_trie("r", 2), LABEL_BOOK_OK, 2, 14, 0);
+    SAME_BYTES(dst, 15, "02 72 6C 00 00 00 0C 02 72 63 00 00 00 09 A5");
+    GIVES_3(complete_trie("rc", 5), LABEL_BOOK_OK, 2, 19, 0);
+    SAME_BYTES(dst, 20, "02 72 63 00 00 00 09 07 72 63 20 73 74 65 70 00 00 00 09 A5");
+    GIVES_3(complete_trie("q", 5), LABEL_BOOK_OK, 0, 0, 0);
+    GIVES_3(complete_trie("", LABEL_BOOK_COUNT_MAX), LABEL_BOOK_OK, 4, 33, 0);
+    GIVES_3(complete_trie("", LABEL_BOOK_COUNT_MAX + 1), LABEL_BOOK_COUNT_OUT_OF_RANGE, 0, 0, 0);
+    GIVES_3(label_book_complete_trie(no_book, sizeof no_book, NAME(""), 1, fresh(), 53, &one, &two,
+                                     &three), LABEL_BOOK_NOT_LAID_OUT, 0, 0, 0);
+    SAME_BYTES(dst, 7, FILL_7);
+}
+
+/* A key gives a number and rows, and leaves so many bytes typed and this highlight. */
+static void key_gives(struct label_book_panel *panel, int key, uint8_t number, size_t rows,
+                      size_t len, size_t highlight) {
+    one = UNTOLD;
+    SAME(label_book_press(BOOK, panel, (uint8_t)key, &one), number);
+    SAME(one, rows);
+    SAME(panel->len, len);
+    SAME(panel->highlight, highlight);
+}
+
+static void keys(void) {
+    struct label_book_panel panel;
+    memset(&panel, 0, sizeof panel);
+    bench_of_e(&bench);
+    key_gives(&panel, LABEL_BOOK_KEY_RECOUNT, LABEL_BOOK_OK, 4, 0, 0);
+    key_gives(&panel, 'r', LABEL_BOOK_OK, 3, 1, 0);
+    SAME(panel.rows, 3);
+    key_gives(&panel, LABEL_BOOK_KEY_UP, LABEL_BOOK_OK, 3, 1, 0);
+    key_gives(&panel, LABEL_BOOK_KEY_DOWN, LABEL_BOOK_OK, 3, 1, 1);
+    key_gives(&panel, LABEL_BOOK_KEY_TAKE, LABEL_BOOK_OK, 2, 2, 0);
+    SAME_BYTES(panel.text, 3, "72 63 00");
+    key_gives(&panel, LABEL_BOOK_KEY_ERASE, LABEL_BOOK_OK, 3, 1, 0);
+    SAME_BYTES(panel.text, 2, "72 00");
+    panel.highlight = 99;
+    key_gives(&panel, LABEL_BOOK_KEY_RECOUNT, LABEL_BOOK_OK, 3, 1, 2);
+    key_gives(&panel, 0x7F, LABEL_BOOK_NO_SUCH_KEY, 0, 1, 2);
+}
+
+static void refused_panels(void) {
+    struct label_book_panel panel;
+    memset(&panel, 0, sizeof panel);
+    memset(panel.text, 'x', LABEL_BOOK_NAME_MAX);
+    bench_of_e(&bench);
+    panel.len = LABEL_BOOK_NAME_MAX - 1;
+    key_gives(&panel, 'x', LABEL_BOOK_OK, 0, LABEL_BOOK_NAME_MAX, 0);
+    key_gives(&panel, 'x', LABEL_BOOK_TEXT_FULL, 0, LABEL_BOOK_NAME_MAX, 0);
+    panel.len = LABEL_BOOK_NAME_MAX + 1;
+    key_gives(&panel, LABEL_BOOK_KEY_ERASE, LABEL_BOOK_NOT_ALLOWED, 0, LABEL_BOOK_NAME_MAX + 1, 0);
+    SAME(label_book_press(no_book, sizeof no_book, &panel, 'x', &one), LABEL_BOOK_NOT_LAID_OUT);
+}
+
+static void five_rows(void) {
+    struct label_book_panel panel;
+    memset(&panel, 0, sizeof panel);
+    bench_of_e(&bench);
+    bench_set(&bench, "sw", 1);
+    key_gives(&panel, LABEL_BOOK_KEY_RECOUNT, LABEL_BOOK_OK, LABEL_BOOK_PANEL_ROWS, 0, 0);
+    bench_set(&bench, "tw", 1);
+    key_gives(&panel, LABEL_BOOK_KEY_RECOUNT, LABEL_BOOK_OK, LABEL_BOOK_PANEL_ROWS, 0, 0);
+}
+
+/* E by four sets, with a withdrawal between them that is refused. */
+#define FIRST_SET "00 00 00 00 05 00 02 61 63 "
+#define SCRIPT FIRST_SET "00 00 00 00 09 00 02 72 63 01 00 00 00 00 00 02 7A 7A " \
+               "00 00 00 00 09 00 07 72 63 20 73 74 65 70 00 00 00 00 0C 00 02 72 6C"
+#define KEPT "00 00 01 00 00 00 12 00 00 02 00 00 00 1A 04 00 00 00 00 00 00 " \
+             "00 00 03 00 00 00 25 00 00 04 00 00 00 2C"
+
+static void histories(void) {
+    uint8_t script[64], first[64], second[64], out[36];
+    size_t len = from_hex(SCRIPT, script, sizeof script);
+    memset(out, FILL, sizeof out);
+    GIVES(label_book_run(script, len, first, E_BYTES, second, E_BYTES, out, 35, &one, &two),
+          LABEL_BOOK_OK, 5, 0);
+    SAME_BYTES(first, E_BYTES, E_BOOK);
+    SAME_BYTES(out, 35, KEPT);
+    SAME(out[35], FILL);
+    GIVES(label_book_run(script, 9, first, 64, second, 64, out, 7, &one, &two), LABEL_BOOK_OK, 1,
+          1);
+    SAME_BYTES(second, 18, "21 00 00 00 12 00 01 00 00 00 05 00 0F 00 00 02 61 63");
+    GIVES(label_book_run(script, len - 1, first, 64, second, 64, out, 35, &one, &two),
+          LABEL_BOOK_NOT_LAID_OUT, 0, 0);
+    GIVES(label_book_run(script, len, first, 64, second, 63, out, 35, &one, &two),
+          LABEL_BOOK_TOO_SHORT, 0, 0);
+    GIVES(label_book_run(script, len, first, 64, second, 64, out, 34, &one, &two),
+          LABEL_BOOK_TOO_SHORT, 0, 0);
+}
+
+static void a_full_book(void) {
+    static uint8_t other[LABEL_BOOK_BOOK_MAX];
+    bench_full(&bench);
+    SAME(bench_bytes(&bench) <= LABEL_BOOK_BOOK_MAX, 1);
+    GIVES(label_book_set(BOOK, NAME("new"), 1, dst, sizeof dst, &one, &two), LABEL_BOOK_FULL, 0, 0);
+    GIVES(label_book_name_at(BOOK, LABEL_BOOK_ENTRIES_MAX - 1, dst, LABEL_BOOK_ENTRY_MAX, &one,
+                             &two), LABEL_BOOK_OK, 1, LABEL_BOOK_ENTRY_MAX);
+    GIVES(label_book_list(BOOK, dst, LABEL_BOOK_SHEET_MAX, &one, &two), LABEL_BOOK_OK,
+          LABEL_BOOK_ENTRIES_MAX, LABEL_BOOK_SHEET_MAX);
+    SAME(label_book_write_trie(BOOK, dst, LABEL_BOOK_TRIE_MAX, &one, &two), LABEL_BOOK_OK);
+    memcpy(other, bench_book(&bench), sizeof other);
+    bench_of_e(&bench);
+    GIVES(label_book_merge(BOOK, other, sizeof other, dst, sizeof dst, &one, &two), LABEL_BOOK_FULL,
+          0, 0);
+}
+
+/* What an empty vector of C++ lends: NULL, with length 0. */
+static void null_with_length_0(void) {
+    uint8_t first[7], second[7];
+    bench_of_e(&bench);
+    GIVES(label_book_check(NULL, 0, &one, &two), LABEL_BOOK_NOT_LAID_OUT, 0, 0);
+    GIVES(label_book_empty(NULL, 0, &one, &two), LABEL_BOOK_TOO_SHORT, 0, 0);
+    GIVES(label_book_prefix_range(BOOK, NULL, 0, &one, &two), LABEL_BOOK_OK, 0, 4);
+    GIVES_3(label_book_complete(BOOK, NULL, 0, 1, fresh(), 53, ranges, 1, &one, &two, &three),
+            LABEL_BOOK_OK, 1, 7, 1);
+    GIVES_3(label_book_complete(BOOK, NULL, 0, 1, fresh(), 53, NULL, 0, &one, &two, &three),
+            LABEL_BOOK_TOO_SHORT, 0, 0, 0);
+    GIVES(label_book_run(NULL, 0, first, 7, second, 7, NULL, 0, &one, &two), LABEL_BOOK_OK, 0, 0);
+    SAME_BYTES(first, 7, "21 00 00 00 07 00 00");
+}
+
+int main(void) {
+    test("empty: P1", the_empty_book);
+    test("set: P3, and its bytes where they were", a_book_by_sets);
+    test("set: its refusals; 48 bytes of name and 49", refused_sets);
+    test("withdraw, head: P9 and P10, in 130 bytes and in 167; two buckets", ten_names_and_nine);
+    test("withdraw: the book from before the name; its refusals", withdrawals);
+    test("merge: the first book's scores; its refusals", merges);
+    test("check: entries and bytes, in a longer buffer and cut", the_check);
+    test("find: held, absent, refused", finding);
+    test("name_at, name_of: answer entries and refusals", answer_entries);
+    test("prefix_range: some, all, none, refused", prefix_ranges);
+    test("head: where the first bucket's name stands", bucket_heads);
+    test("list, build: E as a sheet and back; refusals", sheets);
+    test("complete: P5 to P8", completion_from_a_book);
+    test("complete: k 16 and 17, and its other refusals", refused_completions);
+    test("write_trie: P2, P4, lone names of 7 and 8 bytes", tries);
+    test("complete_trie: P5 to P7, k 16 and 17", completion_from_a_trie);
+    test("press: every key", keys);
+    test("press: its refusals", refused_panels);
+    test("press: five rows of five names and of six", five_rows);
+    test("run: E by a script with a refused call; its refusals", histories);
+    test("a full book, within the sizes of the header", a_full_book);
+    test("NULL with length 0", null_with_length_0);
+    return status();
+}
