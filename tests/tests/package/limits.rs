@@ -7,8 +7,8 @@ use label_book::{BOOK_MAX, COUNT_MAX, ENTRIES_MAX, ENTRY_MAX, FRONT, NAME_MAX};
 use label_book::{PANEL_ROWS, SHEET_MAX, TRIE_MAX};
 use label_book_tests::reference::{sheet, Entries};
 
-/// The longest trie that is known.
-const LONG_TRIE: usize = 66_435;
+/// The longest trie that is known (docs/FORMAT.md).
+const LONG_TRIE: usize = 66_441;
 
 pub fn all(package: &mut Package) {
     let full = full_book();
@@ -20,19 +20,21 @@ pub fn all(package: &mut Package) {
     panels(package, &full);
 }
 
-/// As many names as can be, each of 48 bytes, whose trie is the longest that is known: 95 first
-/// bytes, five or six second ones behind each, two third ones behind each of these, so that few
-/// bytes are shared and many nodes needed; and all siblings far apart in score.
+/// As many names as can be, each of 48 bytes, whose trie is the longest that is known: they share
+/// few bytes and need many nodes, some groups are longer than 255 bytes, and all siblings are far
+/// apart in score.
 fn long_names() -> Entries {
-    const FIRST_BYTES: usize = 95;
-    let names = (0..ENTRIES_MAX).map(|i| {
-        let (pair, third) = (i / 2, i % 2);
-        let (first, second) = (pair % FIRST_BYTES, pair / FIRST_BYTES);
-        let start = [first, second, third].map(|n| b' ' + n as u8);
-        let score = u32::MAX - ((first << 25) + (second << 20) + (third << 16)) as u32;
+    // 95 first bytes, each with so many second ones, and two third ones behind each of these.
+    let seconds = [vec![3; 89], vec![38; 5], vec![55]].concat();
+    let starts = (0..).zip(seconds).flat_map(|(first, most)| {
+        (0..most).flat_map(move |second| [0, 1].map(|third| [first, second, third]))
+    });
+    let names = starts.map(|start: [u8; 3]| start.map(|n| b' ' + n)).enumerate();
+    let scored = names.map(|(i, start)| {
+        let score = u32::MAX - (i << 16) as u32;
         ([&start[..], &[b'x'; NAME_MAX - 3]].concat(), score)
     });
-    names.collect()
+    scored.collect()
 }
 
 fn full_book() -> Book {
