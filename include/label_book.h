@@ -102,8 +102,9 @@
  *     cc -O2 -Iinclude panel.c target/staticlib/liblabel_book.a -Wl,--gc-sections -o panel
  *     cc -O2 panel.c $(pkg-config --cflags --libs label-book) -Wl,--gc-sections -o panel
  *
- * The most bytes of stack that each call was seen to take, on hostile input too, rounded up to a
- * multiple of 64; tests/tests/stack.rs measures them:
+ * The most bytes of stack that each call was seen to take, on hostile input too (a book or trie of
+ * any bytes), rounded up to a multiple of 64; tests/tests/stack.rs measures them. Where memcpy is
+ * bound when it is first called (no -static, no -Wl,-z,now), that one call takes some 3 KB more:
  *
  *   label_book_empty               64
  *   label_book_set               1216
