@@ -3,7 +3,8 @@
 //! for the case that draws them.
 use label_book::{key, Book, Panel, Refusal, NAME_MAX, PANEL_ROWS};
 use label_book_tests::random::Random;
-use pty::{SIGHUP, SIGINT, SIGQUIT, SIGTERM};
+use pty::{Settings, SIGHUP, SIGINT, SIGQUIT, SIGSTOP, SIGTERM};
+use screen::Screen;
 use std::fs;
 use std::process::Command;
 use window::{Shown, Window, COLUMNS, LINES};
@@ -177,6 +178,7 @@ fn escapes() {
     window.pty.send(b"\x1B[");
     window.wait_for_news("key 1B refused, 8: the panel has no such key");
     window.press_and_see(b"\x1B[\x1B[B\x7F", &shown_for_r());
+    window.press_and_see(b"c\x1B[\x08", &shown_for_r());
 }
 
 /// Saves a book over the panel's file, and waits until it is shown for the text "r".
@@ -384,25 +386,56 @@ fn folded_news() {
     window.wait_for_news("key 78 refused, 9: the panel's text is\nfull");
 }
 
-/// Ctrl-Z gives the terminal back to the shell as it was, `fg` brings the panel back as it was.
-fn stopped() {
-    let panel =
-        "../terminal lesson.book; echo stopped; read line; fg; echo \"left with $?\"; read l";
-    let mut window = Window::with_command("stopped", panel, lesson().image(), (LINES, COLUMNS));
+const STOPPED: &str =
+    "../terminal lesson.book; echo stopped; read line; fg; echo \"left with $?\"; read line";
+
+/// A panel that can be stopped, with "r" typed, and the terminal's settings meanwhile.
+fn to_be_stopped(case: &str, command: &str) -> (Window, Settings) {
+    let mut window = Window::with_command(case, command, lesson().image(), (LINES, COLUMNS));
     window.wait("the panel", |screen| screen.is_other() && screen.line(3) == "Set-up:");
     window.press_and_see(b"r", &shown_for_r());
     let in_use = window.pty.settings();
     assert_ne!(in_use, window.found);
-    window.pty.send(b"\x1A");
-    let said = "|stopped\n";
-    window.wait("the shell", |screen| !screen.is_other() && screen.all().contains(said));
-    assert_eq!(window.pty.settings(), window.found);
+    (window, in_use)
+}
+
+/// Lets the panel go on, which then is as before, and leaves it.
+fn go_on(mut window: Window, in_use: Settings) {
     window.pty.send(b"\n");
     window.wait("the panel again", |screen| screen.is_other() && screen.line(3) == "Set-up: r");
     assert_eq!(window.pty.settings(), in_use);
     window.press_and_see(b"c", &shown("rc", &[(9, "rc"), (9, "rc step")]));
     window.pty.send(b"\x04");
     window.wait_until_left(0);
+}
+
+/// Ctrl-Z gives the terminal back to the shell as it was, `fg` brings the panel back as it was.
+fn stopped() {
+    let (mut window, in_use) = to_be_stopped("stopped", STOPPED);
+    window.pty.send(b"\x1A");
+    let said = |screen: &Screen| screen.all().contains("|stopped\n");
+    window.wait("the shell", |screen| !screen.is_other() && said(screen));
+    assert_eq!(window.pty.settings(), window.found);
+    go_on(window, in_use);
+}
+
+/// A stop that the panel is not told of: it finds the terminal as the shell has set it.
+fn stopped_unasked() {
+    let (mut window, in_use) = to_be_stopped("stopped unasked", STOPPED);
+    pty::send_signal(window.pty.foreground(), SIGSTOP);
+    window.wait("the shell", |screen| screen.all().contains("stopped"));
+    window.pty.set(&window.found);
+    window.screen.resize(LINES, COLUMNS);
+    go_on(window, in_use);
+}
+
+/// Without a shell that could let it go on, Ctrl-Z does not stop the panel.
+fn not_stopped() {
+    let (mut window, in_use) = to_be_stopped("not stopped", "exec ../terminal lesson.book");
+    window.pty.send(b"\x1A");
+    window.wait("the panel again", |screen| screen.opened == 2 && screen.line(3) == "Set-up: r");
+    window.press_and_see(DOWN, &Shown { highlight: 1, ..shown_for_r() });
+    assert_eq!(window.pty.settings(), in_use);
 }
 
 /// How the panel is left.
@@ -473,7 +506,7 @@ fn not_started(case: &str, command: &str, message: &str, status: i32) {
     assert_eq!(window.screen.line(2), format!("left with {status}"), "{case}");
 }
 
-const CASES: [fn(); 17] = [
+const CASES: [fn(); 19] = [
     typing,
     highlight,
     erasing,
@@ -490,6 +523,8 @@ const CASES: [fn(); 17] = [
     small_screens,
     folded_news,
     stopped,
+    stopped_unasked,
+    not_stopped,
     window_closed,
 ];
 

@@ -64,6 +64,7 @@ pub const SIGHUP: c_int = 1;
 pub const SIGINT: c_int = 2;
 pub const SIGQUIT: c_int = 3;
 pub const SIGTERM: c_int = 15;
+pub const SIGSTOP: c_int = 19;
 
 /// What a system call gives, or its error as a panic that says which call it was.
 fn done(call: &str, answer: c_int) -> c_int {

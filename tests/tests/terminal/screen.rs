@@ -29,6 +29,8 @@ pub struct Screen {
     kept: Option<Page>,
     reverse: bool,
     cursor: bool,
+    /// How often the panel's page was opened.
+    pub opened: usize,
     /// How often a line has left the screen at its top.
     pub scrolled: usize,
     /// The bytes of a sequence that has not ended.
@@ -50,6 +52,7 @@ impl Screen {
             kept: None,
             reverse: false,
             cursor: true,
+            opened: 0,
             scrolled: 0,
             begun: Vec::new(),
         }
@@ -153,6 +156,7 @@ impl Screen {
                 let other = Page::filled(DIRT, self.lines, self.columns);
                 let shell = std::mem::replace(&mut self.page, other);
                 self.kept.get_or_insert(shell);
+                self.opened += 1;
             }
             "[?1049l" => {
                 self.page = self.kept.take().expect("the other screen is left once");
