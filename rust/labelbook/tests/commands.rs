@@ -27,6 +27,7 @@ fn main() {
         ("names", names),
         ("scores", scores),
         ("a term", a_term),
+        ("random arguments", random_arguments),
     ]);
 }
 
@@ -108,8 +109,9 @@ fn help(desk: &Desk) {
     for line in texts.iter().flat_map(|text| text.lines()) {
         assert!(line.chars().count() <= 100 && !line.ends_with(' '), "{line}");
     }
-    desk.prints(&["--version"], "labelbook 1.1.0\n");
-    desk.prints(&["-V"], "labelbook 1.1.0\n");
+    let version = concat!("labelbook ", env!("CARGO_PKG_VERSION"), "\n");
+    desk.prints(&["--version"], version);
+    desk.prints(&["-V"], version);
 }
 
 fn check(desk: &Desk) {
@@ -432,4 +434,58 @@ fn a_term(desk: &Desk) {
     let held: Vec<(u32, &String)> = held.iter().map(|entry| (*entry.1, entry.0)).collect();
     desk.prints(&["list", "a.book"], lines_of(&held));
     assert_eq!(desk.read("a.book"), book_of(&held).image());
+}
+
+/// Words in any order: the program ends with a status that is documented, one line or two of
+/// message, and nothing changed unless it is 0.
+fn random_arguments(desk: &Desk) {
+    const WORDS: [&str; 22] = [
+        "a.book",
+        "b.book",
+        "a.trie",
+        "lines",
+        "missing",
+        "new.book",
+        "",
+        "-",
+        "--",
+        "-o",
+        "-o",
+        "--force",
+        "--force",
+        "-h",
+        "--x",
+        "0",
+        "5",
+        "17",
+        "4294967296",
+        "r",
+        "rc",
+        "\t",
+    ];
+    let mut random = Random::new(4);
+    for _ in 0..600 {
+        desk.write("a.book", &BOOK);
+        desk.write("b.book", book_of(&[(1, "rc"), (2, "zz")]).image());
+        desk.write("a.trie", &TRIE);
+        desk.write("lines", LINES.as_bytes());
+        let before = desk.contents();
+        let mut arguments = vec![COMMANDS[random.below(COMMANDS.len())]];
+        let more = random.below(7);
+        arguments.extend((0..more).map(|_| WORDS[random.below(WORDS.len())]));
+        let run = desk.run(&arguments).outcome();
+        let is_known = matches!(run.status, 0..=5 | 64 | 65 | 74);
+        let says_why = run.err.starts_with("labelbook: ") && run.err.lines().count() <= 2;
+        assert!(
+            is_known && (says_why || run.status == 0),
+            "{} {}: {}",
+            run.words,
+            run.status,
+            run.err
+        );
+        assert!(run.status == 0 || desk.contents() == before, "{}: a file has changed", run.words);
+        for name in desk.names() {
+            desk.remove(&name);
+        }
+    }
 }

@@ -138,7 +138,7 @@ impl Desk {
 
     /// What is in the folder: names, and of each file the bytes and where it lies. Of long files
     /// the first bytes.
-    fn contents(&self) -> Vec<(String, Vec<u8>, u64)> {
+    pub fn contents(&self) -> Vec<(String, Vec<u8>, u64)> {
         let looked_at = |name: String| {
             let path = self.path(&name);
             let found = fs::symlink_metadata(&path).unwrap();
