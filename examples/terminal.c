@@ -453,7 +453,8 @@ static void stop(void) {
 
 /* ---- The loop -------------------------------------------------------------------------------- */
 
-/* Waits for keys, for a tick at most, and presses them. False if it is time to leave. */
+/* Waits for keys, for a tick at most, and presses them. False if it is time to leave. A signal that
+ * comes just before the wait is seen after it. */
 static bool take_keys(struct bench *b, enum escape *state) {
     struct pollfd keyboard = {.fd = STDIN_FILENO, .events = POLLIN};
     uint8_t bytes[LABEL_BOOK_NAME_MAX];
@@ -473,14 +474,21 @@ static bool take_keys(struct bench *b, enum escape *state) {
     return count > 0;
 }
 
+/* The panel, until it is left. */
 static void run(struct bench *b) {
     static struct frame shown;
     enum escape state = PLAIN;
     for (;;) {
         if (stop_asked) stop();
-        if (open_asked && !open_screen()) return;
-        if (open_asked || draw_asked) shown.length = 0;
-        open_asked = draw_asked = 0;
+        if (open_asked) {
+            open_asked = 0;
+            draw_asked = 1;
+            if (!open_screen()) return;
+        }
+        if (draw_asked) {
+            draw_asked = 0;
+            shown.length = 0;
+        }
         follow(b);
         if (!draw(&shown, b, state)) return;
         if (leave_asked || !take_keys(b, &state)) return;

@@ -210,6 +210,28 @@ fn edits_followed() -> Result<(), Refusal> {
     Ok(())
 }
 
+/// A teacher's program, which `./build labelbook` writes, on the panel's file.
+fn labelbook(arguments: &[&str]) {
+    let program = format!("{ROOT}/target/release/labelbook");
+    let status = Command::new(&program).args(arguments).status();
+    let status = status.unwrap_or_else(|error| panic!("{program}: {error}; ./build labelbook"));
+    assert!(status.success(), "labelbook {arguments:?}");
+}
+
+fn edited_by_labelbook() {
+    let mut window = Window::new("edited by labelbook", &lesson());
+    let path = window.path();
+    window.press_and_see(b"r", &shown_for_r());
+    labelbook(&["withdraw", &path, "rlc"]);
+    window.wait_for_news(READ_AGAIN);
+    let rows = [(12, "rl"), (9, "rc"), (9, "rc step"), (0, "rr"), (0, "rx")];
+    window.press_and_see(b"", &Shown { names: 6, ..shown("r", &rows) });
+    labelbook(&["set", &path, "11", "rz"]);
+    window.wait_for_news(READ_AGAIN);
+    let rows = [(12, "rl"), (11, "rz"), (9, "rc"), (9, "rc step"), (0, "rr")];
+    window.press_and_see(b"", &Shown { names: 7, ..shown("r", &rows) });
+}
+
 /// The file is written over in place: the same inode, then also the same number of bytes.
 fn written_in_place() {
     let mut window = Window::new("written in place", &lesson());
@@ -317,13 +339,17 @@ impl Bench {
         self.loaded = format!("loaded {}, score {}", name.escape_ascii(), found.score);
     }
 
-    /// One name more, less, or with another score.
-    fn edit(&mut self, random: &mut Random) {
+    /// A name of few letters, new or with another score.
+    fn set_any(&mut self, random: &mut Random) {
         let name: Vec<u8> = (0..random.between(1, 4)).map(|_| random.pick(b"rlc ")).collect();
-        if random.chance(3) && self.book.withdraw(&name).is_ok() {
-            return;
-        }
         self.book.set(&name, random.below(9) as u32).expect("a name and room for it");
+    }
+
+    /// Some of the names offered.
+    fn withdraw_some(&mut self, random: &mut Random) {
+        for (_, name) in self.shown().rows.iter().filter(|_| random.chance(2)) {
+            self.book.withdraw(name.as_bytes()).expect("a name that is held");
+        }
     }
 }
 
@@ -342,22 +368,37 @@ const KEYS: [(&[u8], u8); 11] = [
     (b"\x1B[15~", 0x1B),
 ];
 
+/// Any keys: often the text is erased first, so that names begin with it, and some move down at the
+/// end.
+fn draw_keys(random: &mut Random) -> Vec<(&'static [u8], u8)> {
+    let mut keys = Vec::new();
+    if random.chance(2) {
+        keys.resize(NAME_MAX, (b"\x7F".as_slice(), key::ERASE));
+    }
+    keys.extend((0..random.below(5)).map(|_| random.pick(&KEYS)));
+    keys.resize(keys.len() + random.below(5), (DOWN, key::DOWN));
+    keys
+}
+
 /// Any keys, and edits between them.
 fn any_keys() {
     let seed = std::env::var("SEED").map_or(1, |seed| seed.parse().expect("SEED is a number"));
     let mut random = Random::new(seed);
-    let mut bench = Bench { book: lesson(), ..Bench::default() };
+    let mut bench = Bench::default();
+    (0..40).for_each(|_| bench.set_any(&mut random));
     let mut window = Window::new("any keys", &bench.book);
     for _ in 0..200 {
-        if random.chance(8) {
-            bench.edit(&mut random);
+        if random.chance(6) {
+            let edit = random.pick(&[Bench::set_any, Bench::withdraw_some]);
+            edit(&mut bench, &mut random);
+            bench.press(key::RECOUNT);
             window.save(bench.book.image());
             window.wait_for_news(READ_AGAIN);
-            bench.press(key::RECOUNT);
+            window.see(&Shown { news: READ_AGAIN.into(), ..bench.shown() });
         }
-        let pressed: Vec<_> = (0..random.below(8)).map(|_| random.pick(&KEYS)).collect();
-        let sent: Vec<u8> = pressed.iter().flat_map(|(sent, _)| sent.to_vec()).collect();
-        pressed.iter().for_each(|(_, key)| bench.press(*key));
+        let keys = draw_keys(&mut random);
+        let sent: Vec<u8> = keys.iter().flat_map(|(sent, _)| sent.to_vec()).collect();
+        keys.iter().for_each(|(_, key)| bench.press(*key));
         window.press_and_see(&sent, &bench.shown());
     }
 }
@@ -506,7 +547,7 @@ fn not_started(case: &str, command: &str, message: &str, status: i32) {
     assert_eq!(window.screen.line(2), format!("left with {status}"), "{case}");
 }
 
-const CASES: [fn(); 19] = [
+const CASES: [fn(); 20] = [
     typing,
     highlight,
     erasing,
@@ -515,6 +556,7 @@ const CASES: [fn(); 19] = [
     taking,
     escapes,
     || edits_followed().expect("edits that no book refuses"),
+    edited_by_labelbook,
     written_in_place,
     no_book_anymore,
     no_file_anymore,
