@@ -102,26 +102,27 @@
  *     cc -O2 -Iinclude panel.c target/staticlib/liblabel_book.a -Wl,--gc-sections -o panel
  *     cc -O2 panel.c $(pkg-config --cflags --libs label-book) -Wl,--gc-sections -o panel
  *
- * The most bytes of stack that each call was seen to take, on hostile input too, rounded up to a
- * multiple of 64; tests/tests/stack.rs measures them:
+ * The most bytes of stack that each call was seen to take, on hostile input too (a book or trie of
+ * any bytes), rounded up to a multiple of 64; tests/tests/stack.rs measures them. Where memcpy is
+ * bound when it is first called (no -static, no -Wl,-z,now), that one call takes some 3 KB more:
  *
- *   label_book_empty                0
- *   label_book_set                  0
- *   label_book_withdraw             0
- *   label_book_merge                0
- *   label_book_check                0
- *   label_book_find                 0
- *   label_book_name_at              0
- *   label_book_name_of              0
- *   label_book_prefix_range         0
- *   label_book_head                 0
- *   label_book_build                0
- *   label_book_list                 0
- *   label_book_complete             0
- *   label_book_write_trie           0
- *   label_book_complete_trie        0
- *   label_book_press                0
- *   label_book_run                  0
+ *   label_book_empty               64
+ *   label_book_set               1216
+ *   label_book_withdraw          1152
+ *   label_book_merge              768
+ *   label_book_check              320
+ *   label_book_find               384
+ *   label_book_name_at            448
+ *   label_book_name_of            384
+ *   label_book_prefix_range       384
+ *   label_book_head               320
+ *   label_book_build              320
+ *   label_book_list               512
+ *   label_book_complete         20096
+ *   label_book_write_trie      168512
+ *   label_book_complete_trie    30720
+ *   label_book_press             3712
+ *   label_book_run               1280
  *
  *
  * What is proved

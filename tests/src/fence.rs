@@ -17,7 +17,7 @@ extern "C" {
 const NO_ACCESS: i32 = 0;
 const READ_AND_WRITE: i32 = 3;
 const PRIVATE_AND_ANONYMOUS: i32 = 0x22;
-const PAGE: usize = 4096;
+pub(crate) const PAGE: usize = 4096;
 const FRONT: usize = 64;
 const FRONT_BYTE: u8 = 0xA5;
 
@@ -25,26 +25,25 @@ pub struct Fence {
     memory: &'static mut [u8],
 }
 
+/// Memory of this many bytes, whole pages, of which the page at an offset cannot be touched.
+pub(crate) fn fenced(length: usize, fence_at: usize) -> *mut u8 {
+    unsafe {
+        let start =
+            mmap(std::ptr::null_mut(), length, READ_AND_WRITE, PRIVATE_AND_ANONYMOUS, -1, 0);
+        assert_ne!(start as isize, -1, "no memory");
+        let start = start as *mut u8;
+        assert_eq!(mprotect(start.add(fence_at).cast(), PAGE, NO_ACCESS), 0);
+        start
+    }
+}
+
 impl Fence {
     /// Memory for buffers of up to so many pages less one, with a page behind it that cannot be
     /// touched.
     pub fn new(pages: usize) -> Fence {
         let length = pages * PAGE;
-        let memory = unsafe {
-            let start = mmap(
-                std::ptr::null_mut(),
-                length + PAGE,
-                READ_AND_WRITE,
-                PRIVATE_AND_ANONYMOUS,
-                -1,
-                0,
-            );
-            assert_ne!(start as isize, -1, "no memory");
-            let start = start as *mut u8;
-            assert_eq!(mprotect(start.add(length).cast(), PAGE, NO_ACCESS), 0);
-            std::slice::from_raw_parts_mut(start, length)
-        };
-        Fence { memory }
+        let start = fenced(length + PAGE, length);
+        Fence { memory: unsafe { std::slice::from_raw_parts_mut(start, length) } }
     }
 
     /// The bytes, at the end of the memory.

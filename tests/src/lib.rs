@@ -8,3 +8,4 @@ pub mod plain;
 pub mod programs;
 pub mod random;
 pub mod reference;
+pub mod stack;

@@ -29,11 +29,18 @@ pub fn printed(program: &str, input: &[u8]) -> Vec<u8> {
     output.stdout
 }
 
-/// What a program says on standard error that is fed one line without end, until it reads no more,
-/// and cannot write what it prints.
+/// Lines that no pipe has room for.
+const MANY_LINES: usize = 1 << 20;
+
+/// What a program says on standard error that cannot write what it prints. It is fed one line again
+/// and again, and has to stop reading before they end.
 pub fn said_when_full(program: &str, line: &'static [u8]) -> Vec<u8> {
     let full = std::fs::File::options().write(true).open("/dev/full").expect("Linux has /dev/full");
-    fed(program, full.into(), move |mut stdin| while stdin.write_all(line).is_ok() {}).stderr
+    let feed = move |mut stdin: ChildStdin| {
+        let all_taken = (0..MANY_LINES).all(|_| stdin.write_all(line).is_ok());
+        assert!(!all_taken, "it goes on reading");
+    };
+    fed(program, full.into(), feed).stderr
 }
 
 /// What a program prints and says that is given something as its input.

@@ -1,9 +1,12 @@
 //! The program on random and hostile input, compared with the second implementation: every byte
-//! that it prints. Seeded and bounded.
+//! that it prints. Seeded and bounded. And what it says where its input or output fails.
 use label_book_tests::make::{self, Names, NAMES};
 use label_book_tests::programs::{printed, printed_and_said, said_when_full};
 use label_book_tests::random::Random;
 use label_book_tests::reference::{program, Entries};
+use std::io::Write;
+use std::os::fd::OwnedFd;
+use std::os::unix::net::UnixStream;
 
 const CANNOT_WRITE: &str = "labels: cannot write\\n";
 const CANNOT_READ: &str = "labels: cannot read\\n";
@@ -76,15 +79,31 @@ fn script(random: &mut Random, lines: usize) -> Vec<u8> {
     all.join(&b'\n')
 }
 
+/// An input of some bytes, behind which a read fails: a socket whose other end was closed with
+/// something in it that nobody has read.
+fn failing_behind(bytes: &[u8]) -> OwnedFd {
+    let (mut other, mut input) = UnixStream::pair().expect("two ends of a socket");
+    input.write_all(b"unread").expect("it has room");
+    other.write_all(bytes).expect("it has room");
+    input.into()
+}
+
 /// Where it cannot write or read, the program says so once and stops, also where the input has no
-/// end.
+/// end. Of a line that a failed read cuts short nothing is printed.
 fn failures() {
     assert_eq!(said_when_full("labels", b"set 1 a\n").escape_ascii().to_string(), CANNOT_WRITE);
     let folder = std::fs::File::open("/").expect("a folder opens, but cannot be read");
-    let (printed, said) = printed_and_said("labels", folder);
-    assert!(printed.is_empty());
-    assert_eq!(said.escape_ascii().to_string(), CANNOT_READ);
-    println!("labels: 2 failures of input and output, both said");
+    let inputs: [(OwnedFd, &[u8]); 3] = [
+        (folder.into(), b""),
+        (failing_behind(b"set 5 ac\nset 9 rc\n"), b"ok 1\nok 2\n"),
+        (failing_behind(b"set 5 ac\nset 9 rc"), b"ok 1\n"),
+    ];
+    for (input, wanted) in inputs {
+        let (printed, said) = printed_and_said("labels", input);
+        assert_eq!(printed.escape_ascii().to_string(), wanted.escape_ascii().to_string());
+        assert_eq!(said.escape_ascii().to_string(), CANNOT_READ);
+    }
+    println!("labels: 4 failures of input and output, each said");
 }
 
 fn main() {

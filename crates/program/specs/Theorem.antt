@@ -75,7 +75,7 @@ InputSays = (input a b : List ℕ) → length a ≡ bufferLength → length b �
     → ProgramSays input (startConsole a b)
 
 -- The program has run to the end of some input, on buffers that held a and b: the ledger's book stands in one of them,
--- as `turned` says, and the bytes at the front of `out`, written last, end what is printed for that input.
+-- as `turned` says, and the bytes at the front of `out`, the last to be printed, end what is printed for that input.
 pub record ProgramRan (a b : List ℕ) (bytes : ℕ) (turned : Bool) (one two out : List ℕ) : Type 0 where
   pub input : List ℕ
   pub printed : saidFor input (startConsole a b) ++ take bytes out ≡ program input

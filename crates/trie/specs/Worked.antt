@@ -49,6 +49,22 @@ wide255 =
 abbrev deep : ℕ → List Entry
 deep n = leaves (text "a") ++ (entry (text "a" ++ replicate n 0x7A) 0 ∷ entry (text "bx") 0 ∷ entry (text "by") 0 ∷ [])
 
+-- The second example of docs/FORMAT.md: two siblings with children, a score field of 2 bytes, a label cut to 7.
+abbrev twoAndCut : List Entry
+twoAndCut =
+    entry (text "rc") 900 ∷ entry (text "rl") 20 ∷ entry (text "sine sweep") 300 ∷ entry (text "square") 300 ∷ []
+
+abbrev twoAndCutTrie : List ℕ
+twoAndCutTrie =
+    0x31 ∷ 0x00 ∷ 0x00 ∷ 0x00 ∷ 0x29 ∷ 0x00 ∷ 0x04
+    ∷ 0x91 ∷ 0x03 ∷ 0x84 ∷ 0x0A ∷ 0x72
+    ∷ 0x99 ∷ 0x02 ∷ 0x58 ∷ 0x06 ∷ 0x73
+    ∷ 0x01 ∷ 0x63
+    ∷ 0x89 ∷ 0x03 ∷ 0x70 ∷ 0x6C
+    ∷ 0x17 ∷ 0x0F ∷ 0x69 ∷ 0x6E ∷ 0x65 ∷ 0x20 ∷ 0x73 ∷ 0x77 ∷ 0x65
+    ∷ 0x0D ∷ 0x71 ∷ 0x75 ∷ 0x61 ∷ 0x72 ∷ 0x65
+    ∷ 0x0A ∷ 0x65 ∷ 0x70 ∷ []
+
 -- Siblings inner, leaf, inner. The second inner node's field, 5, is the length of what stands under the first.
 abbrev innerLeafInner : List Entry
 innerLeafInner =
@@ -77,6 +93,7 @@ images =
     ∷ (trieImage E gives P4)
     -- siblings inner, leaf, inner; leaf, inner
     ∷ (trieImage innerLeafInner gives innerLeafInnerTrie)
+    ∷ (trieImage twoAndCut gives twoAndCutTrie)
     ∷ (trieImage (entry (text "a") 9 ∷ entry (text "bx") 3 ∷ entry (text "by") 3 ∷ [])
     gives trieOf 3 (0x41 ∷ 0x09 ∷ 0x61 ∷ 0x59 ∷ 0x06 ∷ 0x07 ∷ 0x62 ∷ 0x01 ∷ 0x78 ∷ 0x09 ∷ 0x79 ∷ []))
     -- 254 other bytes in the group: the field counts itself, FF; 255: two bytes, 257

@@ -1,0 +1,290 @@
+//! The inputs: books of all sizes, names that begin each other, ranges that are split in many ways,
+//! damaged tries; every call on them, refused ones included.
+use super::measure::Measure;
+use label_book::{key, Book, Panel};
+use label_book::{BOOK_MAX, COUNT_MAX, ENTRIES_MAX, ENTRY_MAX, NAME_MAX, SHEET_MAX, TRIE_MAX};
+use label_book_tests::make::{self, NAMES, SCORES};
+use label_book_tests::random::Random;
+use label_book_tests::reference::script::{self, Call, Kind, ANSWER};
+use label_book_tests::reference::{book, sheet, Entries};
+
+const SIZES: [usize; 11] = [0, 1, 2, 7, 8, 9, 16, 17, 129, 1023, 1024];
+const ANSWER_ROOM: usize = COUNT_MAX * ENTRY_MAX;
+
+pub fn all(measure: &mut Measure, seed: u64) {
+    let random = &mut Random::new(seed);
+    empty(measure);
+    sizes(measure, random);
+    nested(measure, random);
+    ranges(measure);
+    damaged_tries(measure, random);
+    places(measure);
+    merges(measure, random);
+    panels(measure);
+    scripts(measure, random);
+}
+
+fn empty(measure: &mut Measure) {
+    measure.kind = "room for the empty book, or not";
+    (0..9).for_each(|room| measure.empty(room));
+}
+
+/// A book's entries in every image, as the library writes them.
+struct Images {
+    book: Vec<u8>,
+    sheet: Vec<u8>,
+    trie: Vec<u8>,
+}
+
+fn images(held: &Entries) -> Images {
+    let book = Book::from_sheet(&sheet::image(held)).expect("it is a sheet");
+    Images { book: book.image().to_vec(), sheet: book.sheet(), trie: book.trie() }
+}
+
+/// Books of many sizes with names and scores of every kind, whole and damaged.
+fn sizes(measure: &mut Measure, random: &mut Random) {
+    for n in SIZES {
+        for (names, scores) in NAMES.iter().flat_map(|&names| SCORES.map(|scores| (names, scores)))
+        {
+            let held = make::entries(random, n, names, scores);
+            let mut images = images(&held);
+            measure.kind = "books of many sizes";
+            every_call(measure, random, &held, &images);
+            measure.kind = "damaged books, sheets and tries";
+            for image in [&mut images.book, &mut images.sheet, &mut images.trie] {
+                *image = make::damaged(random, image);
+            }
+            every_call(measure, random, &held, &images);
+        }
+    }
+}
+
+/// Every call on images or what is left of them, with arguments that are held, close to it or not
+/// allowed, and destinations that are too short or not.
+fn every_call(measure: &mut Measure, random: &mut Random, held: &Entries, images: &Images) {
+    let (n, book) = (held.len(), &images.book);
+    measure.check(book);
+    for room in [SHEET_MAX, random.below(SHEET_MAX)] {
+        measure.list(book, room);
+        measure.build(&images.sheet, room);
+    }
+    for room in [TRIE_MAX, random.below(TRIE_MAX)] {
+        measure.write_trie(book, room);
+    }
+    for _ in 0..4 {
+        let name = make::asked(random, held);
+        let room = random.pick(&[BOOK_MAX, BOOK_MAX, book.len()]);
+        measure.set(book, &name, random.any() as u32, room);
+        measure.withdraw(book, &name, room);
+        measure.find(book, &name);
+        measure.name_of(book, &name, make::room(random, ENTRY_MAX));
+        measure.name_at(book, make::number(random, n), make::room(random, ENTRY_MAX));
+        measure.head(book, make::number(random, n.div_ceil(8)));
+        every_completion(measure, random, images, &name);
+    }
+}
+
+/// The calls that take a prefix: a name, and the start of it.
+fn every_completion(measure: &mut Measure, random: &mut Random, images: &Images, name: &[u8]) {
+    for prefix in [name, &name[..random.below(name.len() + 1)]] {
+        measure.prefix_range(&images.book, prefix);
+        for k in [COUNT_MAX, make::count(random)] {
+            let (room, ranges) = (make::room(random, ANSWER_ROOM), make::room(random, COUNT_MAX));
+            measure.complete(&images.book, prefix, k, room, ranges);
+            measure.complete_trie(&images.trie, prefix, k, room);
+        }
+    }
+}
+
+/// The names of one byte again and again, up to 48 times, each the start of the next.
+fn chain(byte: u8) -> impl Iterator<Item = Vec<u8>> {
+    (1..=NAME_MAX).map(move |length| vec![byte; length])
+}
+
+/// Books whose groups of names stand below each other as deep as can be.
+fn nested_books() -> [Entries; 4] {
+    let branches = (b' '..=b'~').flat_map(chain).take(ENTRIES_MAX);
+    // The start of one chain, and many that leave it late.
+    let leaving = (0..ENTRIES_MAX - NAME_MAX).map(|i| {
+        let end = [b' ' + (i / 90) as u8, b' ' + (i % 90) as u8];
+        [vec![b'a'; NAME_MAX - 2], end.to_vec()].concat()
+    });
+    // Each label 7 bytes, so that groups of one node stand below each other.
+    let sevens = (1..=NAME_MAX.div_ceil(7)).map(|i| vec![b'a'; (7 * i).min(NAME_MAX)]);
+    [
+        scored(chain(b'a'), |_| 7),
+        scored(branches, |i| i as u32),
+        scored(chain(b'a').chain(leaving), |i| (i % 5) as u32),
+        scored(sevens, |_| 7),
+    ]
+}
+
+fn scored(names: impl Iterator<Item = Vec<u8>>, score: impl Fn(usize) -> u32) -> Entries {
+    names.enumerate().map(|(i, name)| (name, score(i))).collect()
+}
+
+fn nested(measure: &mut Measure, random: &mut Random) {
+    measure.kind = "names that begin each other";
+    for held in nested_books() {
+        let images = images(&held);
+        (0..10).for_each(|_| every_call(measure, random, &held, &images));
+        for name in held.keys().step_by(held.len().div_ceil(50)) {
+            every_completion(measure, random, &images, name);
+        }
+    }
+}
+
+/// The score of a position, of so many: which part of a range is left when its best is offered.
+const SHAPES: [(&str, fn(usize, usize) -> u32); 4] = [
+    ("the best of every range is its first", |_, _| 7),
+    ("scores fall", |i, n| (n - i) as u32),
+    ("scores rise", |i, _| i as u32),
+    ("the best of every range is in its middle", |i, _| (i + 1).trailing_zeros()),
+];
+
+/// Completions for every count from books of every shape, with prefixes that begin many names, one
+/// or none.
+fn ranges(measure: &mut Measure) {
+    let start = vec![b'a'; NAME_MAX - 1];
+    let lasts = (b' '..=b'~').map(|last| [&start[..], &[last]].concat());
+    let numbers = (0..ENTRIES_MAX - 96).map(|i| format!("b{i:04}").into_bytes());
+    let names: Vec<Vec<u8>> = lasts.chain(numbers).collect();
+    for (kind, score) in SHAPES {
+        measure.kind = kind;
+        let held = scored(names.iter().cloned(), |i| score(i, names.len()));
+        let Images { book, trie, .. } = images(&held);
+        let last = [&start[..], b"~"].concat();
+        for prefix in [&[][..], b"a", b"b", &start, &last, b"c"] {
+            for k in 0..=COUNT_MAX + 1 {
+                measure.complete(&book, prefix, k, ANSWER_ROOM, COUNT_MAX);
+                measure.complete_trie(&trie, prefix, k, ANSWER_ROOM);
+            }
+        }
+    }
+}
+
+/// The trie of a chain, whose last node, at 48 bytes, is said to have children; so many bytes of
+/// them are there.
+fn too_deep(children: usize) -> Vec<u8> {
+    const LABEL_OF_ONE: u8 = 1;
+    const LAST: u8 = 1 << 3;
+    const CHILD_FIELD_OF_ONE: u8 = 1 << 4;
+    let mut image = images(&scored(chain(b'a'), |_| 7)).trie;
+    // Its group is a leaf of one byte, the empty label, and this node, which has now three bytes.
+    image.truncate(image.len() - 2);
+    image.extend([CHILD_FIELD_OF_ONE | LAST | LABEL_OF_ONE, 4, b'a']);
+    image.extend([0, LAST | LABEL_OF_ONE, b'a'].iter().take(children));
+    let total = image.len() as u32;
+    image[1..5].copy_from_slice(&total.to_be_bytes());
+    image
+}
+
+/// Tries cut at a byte or with a wrong one, deep down too.
+fn damaged_tries(measure: &mut Measure, random: &mut Random) {
+    measure.kind = "a trie with a node too deep";
+    for children in 0..=3 {
+        measure.complete_trie(&too_deep(children), b"a", COUNT_MAX, ANSWER_ROOM);
+    }
+    measure.kind = "damaged tries";
+    for held in nested_books() {
+        let image = images(&held).trie;
+        let every = image.len().div_ceil(200);
+        for at in (0..image.len()).step_by(every) {
+            measure.complete_trie(&image[..at], b"", COUNT_MAX, ANSWER_ROOM);
+            for byte in [image[at] ^ 1, image[at] ^ 8, image[at] ^ 16, random.byte()] {
+                let mut damaged = image.clone();
+                damaged[at] = byte;
+                measure.complete_trie(&damaged, b"a", COUNT_MAX, ANSWER_ROOM);
+            }
+        }
+    }
+}
+
+/// Names set and withdrawn at each place of the first bucket, of one in the middle and of the last,
+/// new ones on both sides of each; the destination has room, or too little.
+fn places(measure: &mut Measure) {
+    measure.kind = "edits at each place of a bucket";
+    for n in [8, 9, 1023, 1024] {
+        let names = (0..n).map(|i| format!("{}{i:04}", "x".repeat(i % 40)).into_bytes());
+        let held = scored(names, |i| (i % 9) as u32);
+        let book = book::image(&held);
+        let buckets = [0..8, n / 2..n / 2 + 8, n.saturating_sub(9)..n];
+        let positions = (0..n).filter(|at| buckets.iter().any(|bucket| bucket.contains(at)));
+        let names: Vec<&Vec<u8>> = held.keys().collect();
+        for name in positions.map(|at| names[at]) {
+            let before = [&name[..name.len() - 1], b" "].concat();
+            for asked in [name, &before, &[&name[..], b"~"].concat()] {
+                for room in [BOOK_MAX, book.len(), 20] {
+                    measure.set(&book, asked, 5, room);
+                    measure.set(&book, asked, u32::MAX, room);
+                    measure.withdraw(&book, asked, room);
+                }
+            }
+        }
+    }
+}
+
+/// Merges of a book with itself, with one that it shares nothing or half with, with too many names,
+/// and of damaged books; the destination has room, or too little.
+fn merges(measure: &mut Measure, random: &mut Random) {
+    measure.kind = "merges";
+    for (sizes, shared) in [([0, 0], 0), ([9, 9], 4), ([512, 512], 0), ([1024, 1024], 1024)] {
+        for places in make::PLACES {
+            let (names, scores) = (random.pick(&NAMES), random.pick(&SCORES));
+            let pair = make::pair(random, sizes, shared, places, names, scores);
+            let [first, second] = pair.map(|held| book::image(&held));
+            for room in [BOOK_MAX, first.len(), 6] {
+                measure.merge(&first, &second, room);
+                measure.merge(&first, &make::damaged(random, &second), room);
+                measure.merge(&make::damaged(random, &first), &second, room);
+            }
+        }
+    }
+    let books = nested_books().map(|held| book::image(&held));
+    for (first, second) in books.iter().flat_map(|a| books.iter().map(move |b| (a, b))) {
+        measure.merge(first, second, BOOK_MAX);
+    }
+}
+
+/// Every key, with texts of many lengths, allowed or not, and every row highlighted.
+fn panels(measure: &mut Measure) {
+    measure.kind = "keys of a panel";
+    let [nested, .., sevens] = nested_books().map(|held| book::image(&held));
+    let keys = [key::RECOUNT, key::UP, key::DOWN, key::ERASE, key::TAKE, b'a', b'~', 0x03, 0xFF];
+    let lengths = [0, 1, 2, 20, 43, 47, 48, 49];
+    let texts = lengths.iter().flat_map(|&len| [(b'a', len), (b'b', len), (0x1F, len)]);
+    for book in [&nested[..], &sevens, &nested[..40]] {
+        for (text, len) in texts.clone() {
+            for (highlight, key) in (0..7).flat_map(|row| keys.map(|key| (row, key))) {
+                let mut panel = Panel { text: [text; NAME_MAX], len, highlight, rows: 0 };
+                measure.press(book, &mut panel, key);
+            }
+        }
+    }
+}
+
+/// Scripts of sets and withdrawals, with refused ones among them, and damaged; buffers with room
+/// for the book, too short or of two lengths.
+fn scripts(measure: &mut Measure, random: &mut Random) {
+    measure.kind = "scripts";
+    for names in NAMES {
+        for length in [7, 100, 2000] {
+            let mut held = Entries::new();
+            let calls: Vec<Call> = (0..60)
+                .map(|_| {
+                    let name = make::asked(random, &held);
+                    let new = make::name(random, names, &held);
+                    held.insert(new.clone(), 0);
+                    let kind = random.pick(&[Kind::Set, Kind::Set, Kind::Withdraw]);
+                    Call { kind, score: random.any() as u32, name: random.pick(&[name, new]) }
+                })
+                .collect();
+            let script = script::bytes(&calls);
+            let out = ANSWER * calls.len();
+            for rooms in [[length, length, out], [length, length, out - 1], [length, 8, out]] {
+                measure.run(&script, rooms);
+                measure.run(&script[..random.below(script.len())], rooms);
+            }
+        }
+    }
+}
