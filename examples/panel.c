@@ -1,8 +1,8 @@
 /*
  * A term's first lesson: a teacher starts a book and edits it, a course's book is merged into it, a
  * student types the start of a name and takes one that is offered, the teacher keeps the book as a
- * sheet and writes a trie of it. Build and run it with examples/run-c; examples/panel.rs is the same
- * in Rust and prints the same, which is in examples/expected.
+ * sheet and writes a trie of it. Build and run it with examples/run-c; examples/panel.rs is the
+ * same in Rust and prints the same, which is in examples/expected.
  */
 #include <stdbool.h>
 #include <stdio.h>
@@ -33,8 +33,8 @@ static void must(uint8_t number, const char *call) {
     exit(1);
 }
 
-/* Takes over what an edit did. After an accepted edit the buffers change roles; after a refusal they
- * stay, and so does the book. */
+/* Takes over what an edit did. After an accepted edit the buffers change roles; after a refusal
+ * they stay, and so does the book. */
 static void edited(struct bench *b, uint8_t number, size_t entries, size_t bytes) {
     if (number != LABEL_BOOK_OK) {
         printf("declined, %u: %s\n", (unsigned)number, label_book_refusal_text(number));
@@ -47,8 +47,8 @@ static void edited(struct bench *b, uint8_t number, size_t entries, size_t bytes
 static void set(struct bench *b, const char *name, uint32_t score) {
     size_t entries, bytes;
     printf("set \"%s\" to %u: ", name, (unsigned)score);
-    uint8_t number = label_book_set(book(b), LABEL_BOOK_BOOK_MAX, bytes_of(name), strlen(name), score,
-                                    other(b), LABEL_BOOK_BOOK_MAX, &entries, &bytes);
+    uint8_t number = label_book_set(book(b), LABEL_BOOK_BOOK_MAX, bytes_of(name), strlen(name),
+                                    score, other(b), LABEL_BOOK_BOOK_MAX, &entries, &bytes);
     edited(b, number, entries, bytes);
 }
 
@@ -155,7 +155,8 @@ static void offer_from_trie(const struct bench *b) {
     static uint8_t trie[LABEL_BOOK_TRIE_MAX];
     uint8_t answer[2 * LABEL_BOOK_ENTRY_MAX];
     size_t entries, trie_bytes, offered, bytes, looks;
-    must(label_book_write_trie(book(b), LABEL_BOOK_BOOK_MAX, trie, sizeof trie, &entries, &trie_bytes),
+    must(label_book_write_trie(book(b), LABEL_BOOK_BOOK_MAX, trie, sizeof trie, &entries,
+                               &trie_bytes),
          "label_book_write_trie");
     must(label_book_complete_trie(trie, trie_bytes, bytes_of("rc"), 2, 2, answer, sizeof answer,
                                   &offered, &bytes, &looks),

@@ -1,7 +1,7 @@
 //! A term's first lesson: a teacher starts a book and edits it, a course's book is merged into it,
 //! a student types the start of a name and takes one that is offered, the teacher keeps the book as
-//! a sheet and writes a trie of it. Build and run it with examples/run-rust; examples/panel.c is the
-//! same in C and prints the same, which is in examples/expected.
+//! a sheet and writes a trie of it. Build and run it with examples/run-rust; examples/panel.c is
+//! the same in C and prints the same, which is in examples/expected.
 use label_book::{entries, key, Book, Entries, Panel, Refusal, Written};
 use label_book::{ENTRY_MAX, PANEL_ROWS};
 use std::borrow::Cow;

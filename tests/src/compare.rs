@@ -106,7 +106,8 @@ impl Compare {
                 format!("\ndestination {lent}\nours   {left}\nsecond {wanted}")
             });
             let lines: String = lines.collect();
-            format!("sources\n{a}\n{b}\nnumbers {numbers:?}{lines}\nours   {told:?}\nsecond {expected:?}")
+            let told = format!("ours   {told:?}\nsecond {expected:?}");
+            format!("sources\n{a}\n{b}\nnumbers {numbers:?}{lines}\n{told}")
         };
         count(&mut self.agreed, call, agrees, told.0, difference);
         (told, wanted)

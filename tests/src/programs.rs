@@ -9,8 +9,8 @@ fn start(program: &str, stdin: Stdio, stdout: Stdio) -> Child {
     child.unwrap_or_else(|error| panic!("target/bin/{program}: {error}"))
 }
 
-/// Runs a program on a pipe that `feed` writes to while the output comes out, since pipes are small.
-/// What a program that ends early leaves in the pipe is lost.
+/// Runs a program on a pipe that `feed` writes to while the output comes out, since pipes are
+/// small. What a program that ends early leaves in the pipe is lost.
 fn fed(program: &str, stdout: Stdio, feed: impl FnOnce(ChildStdin) + Send + 'static) -> Output {
     let mut child = start(program, Stdio::piped(), stdout);
     let stdin = child.stdin.take().unwrap();

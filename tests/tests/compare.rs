@@ -364,7 +364,8 @@ fn worked(compare: &mut Compare) {
     for (name, score) in [("rc step", 9), ("rl", 12), ("ac", 5), ("rc", 9)] {
         book = compare.set(&book, name.as_bytes(), score, &[0xEE; 200]).1;
     }
-    let p3 = "21 00 00 00 2C 00 04 00 00 00 05 00 00 00 09 00 00 00 09 00 00 00 0C 00 1B 00 03 02 61 63 00 02 72 63 02 05 20 73 74 65 70 01 01 6C";
+    let p3 = "21 00 00 00 2C 00 04 00 00 00 05 00 00 00 09 00 00 00 09 00 00 00 0C 00 1B 00 03 \
+              02 61 63 00 02 72 63 02 05 20 73 74 65 70 01 01 6C";
     assert_eq!(book[..44], bytes(p3));
     let (told, trie) = compare.write_trie(&book, &[0xEE; 28]);
     assert_eq!(told, (0, [4, 28, 0]));
@@ -410,8 +411,9 @@ fn worked_merges(compare: &mut Compare) {
 
 /// A history's run by bytes, refusals included, on buffers of 30 bytes each.
 fn worked_run(compare: &mut Compare) {
-    let script = "00 00 00 00 09 00 02 72 63  00 00 00 00 0C 00 02 72 6C  01 FF FF FF FF 00 02 7A 7A  00 00 00 00 00 00 00 \
-                  00 00 00 00 01 00 07 72 63 20 73 74 65 70  01 00 00 00 00 00 02 72 6C";
+    let script = "00 00 00 00 09 00 02 72 63  00 00 00 00 0C 00 02 72 6C  01 FF FF FF FF 00 02 7A 7A \
+                  00 00 00 00 00 00 00  00 00 00 00 01 00 07 72 63 20 73 74 65 70 \
+                  01 00 00 00 00 00 02 72 6C";
     let answers =
         "00 00 01 00 00 00 12  00 00 02 00 00 00 19  04 00 00 00 00 00 00  02 00 00 00 00 00 00 \
                    07 00 00 00 00 00 00  00 00 01 00 00 00 12";

@@ -100,5 +100,6 @@ fn main() {
         compare(&mut counts, &trie::image(&held));
     }
     let Counts { inputs, refused, names } = counts;
-    println!("lookup_heads: {inputs} inputs, {refused} of them no books, {names} head names handed out, all agree");
+    let books = format!("{inputs} inputs, {refused} of them no books");
+    println!("lookup_heads: {books}, {names} head names handed out, all agree");
 }

@@ -60,7 +60,8 @@ impl fmt::Display for Refusal {
         f.write_str(match self {
             Refusal::NotLaidOut => "not laid out as a book, sheet, trie or script, or cut off",
             Refusal::NotAllowed => {
-                "a name or prefix that is not allowed (a name has 1 to 48 bytes, each from 20 to 7E)"
+                "a name or prefix that is not allowed \
+                 (a name has 1 to 48 bytes, each from 20 to 7E)"
             }
             Refusal::CountOutOfRange => "the number of names asked for is not 1 to 16",
             Refusal::NotHeld => "the book does not hold that name",

@@ -37,7 +37,8 @@ fn p1_p2_empty() {
 #[test]
 fn p3_book() {
     let image = bytes(
-        "21 00 00 00 2C 00 04 00 00 00 05 00 00 00 09 00 00 00 09 00 00 00 0C 00 1B 00 03 02 61 63 00 02 72 63 02 05 20 73 74 65 70 01 01 6C",
+        "21 00 00 00 2C 00 04 00 00 00 05 00 00 00 09 00 00 00 09 00 00 00 0C 00 1B 00 03 \
+         02 61 63 00 02 72 63 02 05 20 73 74 65 70 01 01 6C",
     );
     assert_eq!(book::image(&e()), image);
     assert_eq!(book::read(&image), Some(e()));
@@ -191,7 +192,8 @@ fn a_child_field_counts_itself() {
 fn a_smaller_common_byte_is_refused() {
     // "rc step" with one common byte where two are shared.
     let image = bytes(
-        "21 00 00 00 2D 00 04 00 00 00 05 00 00 00 09 00 00 00 09 00 00 00 0C 00 1B 00 03 02 61 63 00 02 72 63 01 06 63 20 73 74 65 70 01 01 6C",
+        "21 00 00 00 2D 00 04 00 00 00 05 00 00 00 09 00 00 00 09 00 00 00 0C 00 1B 00 03 \
+         02 61 63 00 02 72 63 01 06 63 20 73 74 65 70 01 01 6C",
     );
     assert_eq!(book::read(&image), None);
 }
@@ -221,8 +223,8 @@ fn panel_keys() {
 fn program_output() {
     let input = b"set 5 ac\nset 9 rc\nset 9 rc step\nset 12 rl\ntop 2 r\ndel zz";
     assert_eq!(program::run(input), b"ok 1\nok 2\nok 3\nok 4\n12 rl\n9 rc\nlooks 2\nno 4\n");
-    let input =
-        b"\nset 5 \ntop 2\ntop 2 \ntop 0 a\ntop 17 \x80\nset 4294967296 a\nset 0000000001  a\nset 00000000001 a\nDEL a\ndel \n";
+    let input = b"\nset 5 \ntop 2\ntop 2 \ntop 0 a\ntop 17 \x80\nset 4294967296 a\n\
+          set 0000000001  a\nset 00000000001 a\nDEL a\ndel \n";
     assert_eq!(
         program::run(input),
         b"bad\nno 2\nbad\nlooks 0\nno 3\nno 2\nbad\nok 1\nbad\nbad\nno 2\n"
