@@ -411,7 +411,8 @@ fn worked_merges(compare: &mut Compare) {
 
 /// A history's run by bytes, refusals included, on buffers of 30 bytes each.
 fn worked_run(compare: &mut Compare) {
-    let script = "00 00 00 00 09 00 02 72 63  00 00 00 00 0C 00 02 72 6C  01 FF FF FF FF 00 02 7A 7A \
+    let script =
+        "00 00 00 00 09 00 02 72 63  00 00 00 00 0C 00 02 72 6C  01 FF FF FF FF 00 02 7A 7A \
                   00 00 00 00 00 00 00  00 00 00 00 01 00 07 72 63 20 73 74 65 70 \
                   01 00 00 00 00 00 02 72 6C";
     let answers =

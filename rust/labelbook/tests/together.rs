@@ -2,7 +2,6 @@
 mod common;
 
 use common::{book_of, run_all, Desk, Outcome, BOOK, EMPTY_BOOK};
-use std::sync::atomic::{AtomicBool, Ordering};
 use std::thread;
 
 const ROUNDS: usize = 5;
@@ -112,15 +111,13 @@ fn made_at_once(desk: &Desk) {
 /// While edits follow each other, every look finds a book.
 fn reading_meanwhile(desk: &Desk) {
     desk.write("a.book", &EMPTY_BOOK);
-    let done = AtomicBool::new(false);
     thread::scope(|scope| {
-        scope.spawn(|| {
+        let editor = scope.spawn(|| {
             for i in 0..100 {
                 desk.does(&["set", "a.book", "1", &format!("name {i}")]);
             }
-            done.store(true, Ordering::Relaxed);
         });
-        while !done.load(Ordering::Relaxed) {
+        while !editor.is_finished() {
             let look = desk.run(&["check", "a.book"]).outcome();
             look.is(0, &look.out, "");
         }
