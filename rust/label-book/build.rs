@@ -1,5 +1,5 @@
 //! Links the proved library, liblabel_book.a: the one in LABEL_BOOK_LIB_DIR if that is set (as
-//! `./install PREFIX` puts it into PREFIX/lib), else the one that `rt staticlib label_book` writes.
+//! `./install PREFIX` puts it into PREFIX/lib), else the one that `./build library` writes.
 use std::env;
 use std::path::PathBuf;
 
@@ -18,9 +18,7 @@ fn main() {
     println!("cargo::rerun-if-changed={}", archive.display());
     if !archive.is_file() {
         println!("cargo::error=there is no {ARCHIVE} in {}", folder.display());
-        println!(
-            "cargo::error=write it with `rt staticlib label_book`, in the repository's folder,"
-        );
+        println!("cargo::error=write it with `./build library`, in the repository's folder,");
         println!("cargo::error=or set LABEL_BOOK_LIB_DIR to the folder that has it");
         return;
     }

@@ -103,17 +103,26 @@ pub fn read(mut arguments: impl Iterator<Item = OsString>) -> Result<Request, Fa
         return Err(usage("a command is missing".to_string()));
     };
     match word.as_bytes() {
-        b"help" | b"-h" | b"--help" => match arguments.next() {
-            Some(topic) => named(&topic).map(|command| Request::Help(Some(command))),
-            None => Ok(Request::Help(None)),
-        },
-        b"-V" | b"--version" => Ok(Request::Version),
+        b"help" | b"-h" | b"--help" => {
+            let topic = arguments.next();
+            no_more(arguments)?;
+            topic.map(|topic| named(&topic)).transpose().map(Request::Help)
+        }
+        b"-V" | b"--version" => no_more(arguments).map(|()| Request::Version),
         _ => {
             let command = named(&word)?;
             request(command, arguments)
                 .map_err(|words| Failure::Usage { words, command: Some(command.word) })
         }
     }
+}
+
+fn no_more(mut arguments: impl Iterator<Item = OsString>) -> Result<(), Failure> {
+    let Some(extra) = arguments.next() else {
+        return Ok(());
+    };
+    let words = format!("{} is too much", quoted(extra.as_bytes()));
+    Err(Failure::Usage { words, command: None })
 }
 
 fn named(word: &OsString) -> Result<&'static Command, Failure> {

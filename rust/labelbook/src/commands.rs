@@ -1,14 +1,11 @@
 //! What each command does.
 use crate::arguments::Request;
 use crate::failure::Failure;
-use crate::files::{note, print, Loaded, Source, Target};
+use crate::files::{note, print, Loaded, Source, Target, TRIE_VERSION};
 use crate::save::Held;
 use crate::{help, lines};
 use label_book::{Book, Refusal, Written, BOOK_MAX, COUNT_MAX, ENTRY_MAX, FRONT, TRIE_MAX};
 use std::path::Path;
-
-/// The first byte of a trie; docs/FORMAT.md.
-const TRIE_VERSION: u8 = 0x31;
 
 pub fn run(request: Request) -> Result<(), Failure> {
     match request {

@@ -14,7 +14,7 @@ pub enum Failure {
     /// Arguments that make no sense, and the command whose help says more.
     Usage { words: String, command: Option<&'static str> },
     /// The library declines.
-    Refused { place: String, refusal: Refusal },
+    Refused { place: String, refusal: Refusal, hint: &'static str },
     /// Lines of text that no book can be built from.
     Data { place: String, words: String },
     /// A file that cannot be read or written.
@@ -25,7 +25,12 @@ pub enum Failure {
 
 impl Failure {
     pub fn refused(place: impl Display, refusal: Refusal) -> Failure {
-        Failure::Refused { place: place.to_string(), refusal }
+        Failure::Refused { place: place.to_string(), refusal, hint: "" }
+    }
+
+    /// A refused book that seems to be something else.
+    pub fn no_book(place: impl Display, refusal: Refusal, hint: &'static str) -> Failure {
+        Failure::Refused { place: place.to_string(), refusal, hint }
     }
 
     pub fn data(place: impl Display, words: impl Into<String>) -> Failure {
@@ -45,8 +50,9 @@ impl Failure {
             Failure::Usage { words, command: Some(command) } => {
                 Some(format!("{command}: {words}\n`labelbook help {command}` says more"))
             }
-            Failure::Refused { place, refusal } => {
-                Some(format!("{place}: refused, {}: {refusal}", refusal.number()))
+            Failure::Refused { place, refusal, hint } => {
+                let joint = if hint.is_empty() { "" } else { "; " };
+                Some(format!("{place}: refused, {}: {refusal}{joint}{hint}", refusal.number()))
             }
             Failure::Data { place, words } | Failure::File { place, words } => {
                 Some(format!("{place}: {words}"))

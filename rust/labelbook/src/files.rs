@@ -10,6 +10,10 @@ use std::os::fd::AsFd;
 use std::os::unix::fs::{FileTypeExt, MetadataExt};
 use std::path::{Path, PathBuf};
 
+/// The first bytes of images that are no books; docs/FORMAT.md.
+pub const TRIE_VERSION: u8 = 0x31;
+const SHEET_VERSION: u8 = 0x11;
+
 /// What is read: a file, or standard input.
 pub enum Source {
     Standard,
@@ -64,7 +68,11 @@ impl Loaded {
     /// The book in what [`front`] gave.
     pub fn from_front(place: impl fmt::Display, front: &[u8]) -> Result<Loaded, Failure> {
         let lent = front.get(..BOOK_MAX).unwrap_or(front);
-        let book = Book::from_image(lent).map_err(|refusal| Failure::refused(place, refusal))?;
+        let book = Book::from_image(lent).map_err(|refusal| match front.first() {
+            Some(&TRIE_VERSION) => Failure::no_book(place, refusal, "it begins as a trie does"),
+            Some(&SHEET_VERSION) => Failure::no_book(place, refusal, "it begins as a sheet does"),
+            _ => Failure::refused(place, refusal),
+        })?;
         let more = front.len() > book.image().len();
         Ok(Loaded { book, more })
     }
@@ -85,10 +93,22 @@ impl Target {
 
     /// Declines to make a file that is there, unless it may be replaced.
     pub fn allow(&self, force: bool) -> Result<(), Failure> {
+        if self.leads_nowhere() {
+            let words = "it is a symbolic link to a file that is not there";
+            return Err(Failure::file(self, io::Error::other(words)));
+        }
         if force || !self.exists() {
             return Ok(());
         }
         Err(Failure::file(self, save::exists_already()))
+    }
+
+    fn leads_nowhere(&self) -> bool {
+        let Target::File(path) = self else {
+            return false;
+        };
+        let missing = |error: io::Error| error.kind() == ErrorKind::NotFound;
+        self.exists() && fs::metadata(path).is_err_and(missing)
     }
 
     pub fn is(&self, source: &Source) -> bool {

@@ -37,8 +37,9 @@ commands can be joined (a file that is really called - is ./-):
 Saving. set, withdraw and merge change FILE: a new file is written beside it, brought to the disk,
 and renamed to FILE. Whatever happens, FILE is the old book or the new one, whole. Meanwhile FILE is
 locked (flock), so that of two edits at the same time, from two windows, both are kept; reading
-needs no lock. A symbolic link is followed, and the file keeps its mode. A crash can leave a file
-.labelbook-*.tmp in the folder; while no labelbook runs there, such files can be deleted.
+needs no lock. A symbolic link is followed, and the file keeps its mode; a second name of the same
+file (a hard link) keeps the old book. A crash can leave a file .labelbook-*.tmp in the folder;
+while no labelbook runs there, such files can be deleted.
 
 Exit status:
   0         done

@@ -64,11 +64,12 @@ pub fn book(source: &Source) -> Result<Book, Failure> {
 
 /// The entry in a line; what is wrong with it, if it is none.
 fn entry(line: &[u8]) -> Result<(u32, &[u8]), String> {
-    let line = line.strip_suffix(b"\n").unwrap_or(line);
+    let (whole, line) = (line, line.strip_suffix(b"\n").unwrap_or(line));
     if line.is_empty() {
         return Err("the line is empty; it should be SCORE NAME".to_string());
     }
-    if line.ends_with(b"\r") {
+    // A line that was looked at in part does not end there.
+    if line.ends_with(b"\r") && (whole.len() < LINE_LOOK || whole.ends_with(b"\n")) {
         return Err(CR_HINT.to_string());
     }
     let space = line.iter().position(|byte| *byte == b' ');

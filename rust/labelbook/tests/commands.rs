@@ -3,7 +3,7 @@ mod common;
 
 use common::random::Random;
 use common::{book_of, lines_of, long_names, run_all, Desk, BOOK, EMPTY_BOOK, LINES, TRIE};
-use common::{FULL, NOT_1_TO_16, NOT_ALLOWED, NOT_A_BOOK, NOT_HELD};
+use common::{A_TRIE, FULL, NOT_1_TO_16, NOT_ALLOWED, NOT_A_BOOK, NOT_HELD};
 use std::collections::BTreeMap;
 use std::ffi::{OsStr, OsString};
 use std::os::unix::ffi::{OsStrExt, OsStringExt};
@@ -49,6 +49,8 @@ fn usage(desk: &Desk) {
     general(&["sett", "a.book"], "there is no command `sett`");
     general(&["--forc"], "there is no command `--forc`");
     general(&["help", "ac\ndc"], "there is no command `ac\\ndc`");
+    general(&["help", "set", "ac"], "`ac` is too much");
+    general(&["--version", "ac"], "`ac` is too much");
     for command in COMMANDS {
         let no_option = format!("there is no option `--all`; {BEHIND}");
         wrong_usage(desk, &[command, "--all", "x"], &no_option);
@@ -133,7 +135,7 @@ fn check(desk: &Desk) {
     let wanted = format!("1024 entries, {} bytes\n", full.image().len());
     desk.prints(&["check", "full.book"], wanted);
     desk.write("a.trie", &TRIE);
-    desk.fails(&["check", "a.trie"], 1, &format!("a.trie: {NOT_A_BOOK}"));
+    desk.fails(&["check", "a.trie"], 1, &format!("a.trie: {NOT_A_BOOK}; {A_TRIE}"));
     desk.run(&["check", "-"]).fails(desk, 1, &format!("standard input: {NOT_A_BOOK}"));
     desk.fails(&["check", "b.book"], 74, "b.book: No such file or directory (os error 2)");
 }
@@ -149,7 +151,7 @@ fn list(desk: &Desk) {
     entries.sort_by(|a, b| a.1.cmp(&b.1));
     desk.prints(&["list", "full.book"], lines_of(&entries));
     desk.write("a.trie", &TRIE);
-    desk.fails(&["list", "a.trie"], 1, &format!("a.trie: {NOT_A_BOOK}"));
+    desk.fails(&["list", "a.trie"], 1, &format!("a.trie: {NOT_A_BOOK}; {A_TRIE}"));
     desk.run(&["list", "-"]).input("21").fails(desk, 1, &format!("standard input: {NOT_A_BOOK}"));
     desk.fails(&["list", "b.book"], 74, "b.book: No such file or directory (os error 2)");
 }
@@ -166,8 +168,8 @@ fn set(desk: &Desk) {
     desk.fails(&["set", "a.book", "1", ""], 2, &format!("a.book: {NOT_ALLOWED}"));
     desk.fails(&["set", "b.book", "1", "a"], 74, "b.book: No such file or directory (os error 2)");
     desk.write("a.trie", &TRIE);
-    desk.fails(&["set", "a.trie", "1", "a"], 1, &format!("a.trie: {NOT_A_BOOK}"));
-    desk.fails(&["set", "a.trie", "1", ""], 1, &format!("a.trie: {NOT_A_BOOK}"));
+    desk.fails(&["set", "a.trie", "1", "a"], 1, &format!("a.trie: {NOT_A_BOOK}; {A_TRIE}"));
+    desk.fails(&["set", "a.trie", "1", ""], 1, &format!("a.trie: {NOT_A_BOOK}; {A_TRIE}"));
 
     let mut entries = long_names(1024);
     desk.write("full.book", book_of(&entries).image());
@@ -341,8 +343,12 @@ fn trie(desk: &Desk) {
     desk.fails(&["trie", "b.book", "a.trie"], 74, exists);
     desk.does(&["trie", "b.book", "a.trie", "--force"]);
     assert_eq!(desk.read("a.trie"), book_of(&[(1, "b")]).trie());
-    desk.fails(&["trie", "a.trie", "c.trie"], 1, &format!("a.trie: {NOT_A_BOOK}"));
-    desk.fails(&["trie", "a.trie", "b.trie", "--force"], 1, &format!("a.trie: {NOT_A_BOOK}"));
+    desk.fails(&["trie", "a.trie", "c.trie"], 1, &format!("a.trie: {NOT_A_BOOK}; {A_TRIE}"));
+    desk.fails(
+        &["trie", "a.trie", "b.trie", "--force"],
+        1,
+        &format!("a.trie: {NOT_A_BOOK}; {A_TRIE}"),
+    );
     desk.fails(&["trie", "c.book", "c.trie"], 74, "c.book: No such file or directory (os error 2)");
     desk.fails(&["trie", "--force", "a.book", "a.book"], 74, "a.book: it is FILE itself");
     let full = book_of(&long_names(1024));

@@ -152,6 +152,8 @@ fn carriage_returns(desk: &Desk) {
     wrong(desk, longest, 65, &format!("line 1: {HINT}"));
     // Elsewhere it is a byte like others that are not allowed.
     wrong(desk, "5 a\rc\n", 2, &format!("line 1: {NOT_ALLOWED}"));
+    let longer = format!("5 {}\r and more\n", "n".repeat(58));
+    wrong(desk, longer, 2, &format!("line 1: {NOT_ALLOWED}"));
     let crs = LINES.replace('\n', "\r\n");
     let script = format!("tr -d '\\r' | '{}' build a.book", common::PROGRAM);
     let mut command = Command::new("sh");

@@ -5,8 +5,11 @@ mod common;
 use common::shim::{Call, Shim, EEXIST, EINTR, EINVAL, EIO, ENOSPC, EPERM};
 use common::{run_all, Desk, Run, BOOK, EMPTY_BOOK, LINES, TRIE};
 use std::fs;
+use std::os::unix::fs::PermissionsExt;
 
 const KILLED: i32 = 128 + 9;
+/// Not that of the temporary file, so that it has to be given.
+const OLD_MODE: u32 = 0o640;
 
 fn main() {
     run_all(&[
@@ -65,6 +68,8 @@ impl Saving {
         desk.write("c.book", common::book_of(&[(4, "one"), (5, "two")]).image());
         if let Some(old) = self.old {
             desk.write(self.file, old);
+            let mode = fs::Permissions::from_mode(OLD_MODE);
+            fs::set_permissions(desk.path(self.file), mode).unwrap();
         }
     }
 

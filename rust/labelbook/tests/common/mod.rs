@@ -18,6 +18,17 @@ pub const PROGRAM: &str = env!("CARGO_BIN_EXE_labelbook");
 
 pub const NOT_A_BOOK: &str =
     "refused, 1: not laid out as a book, sheet, trie or script, or cut off";
+pub const A_TRIE: &str = "it begins as a trie does";
+
+/// What is said of bytes that are no book.
+pub fn refused(image: &[u8]) -> String {
+    match image.first() {
+        Some(0x31) => format!("{NOT_A_BOOK}; {A_TRIE}"),
+        Some(0x11) => format!("{NOT_A_BOOK}; it begins as a sheet does"),
+        _ => NOT_A_BOOK.to_string(),
+    }
+}
+
 pub const NOT_ALLOWED: &str = "refused, 2: a name or prefix that is not allowed \
                                (a name has 1 to 48 bytes, each from 20 to 7E)";
 pub const NOT_1_TO_16: &str = "refused, 3: the number of names asked for is not 1 to 16";
