@@ -1,9 +1,9 @@
 //! Each command: what it prints, the exit status, and every refusal with its message.
 mod common;
 
-use common::random::Random;
 use common::{book_of, lines_of, long_names, run_all, Desk, BOOK, EMPTY_BOOK, LINES, TRIE};
 use common::{A_TRIE, FULL, NOT_1_TO_16, NOT_ALLOWED, NOT_A_BOOK, NOT_HELD};
+use label_book_tests::random::Random;
 use std::collections::BTreeMap;
 use std::ffi::{OsStr, OsString};
 use std::os::unix::ffi::{OsStrExt, OsStringExt};

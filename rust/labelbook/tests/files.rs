@@ -1,11 +1,11 @@
 //! Files as they come: damaged, cut, endless, links, pipes, folders, full disks, closed streams.
 mod common;
 
-use common::random::Random;
 use common::shim::{Shim, EPERM};
 use common::{
     book_of, long_names, refused, run_all, Desk, BOOK, EMPTY_BOOK, LINES, NOT_A_BOOK, TRIE,
 };
+use label_book_tests::random::Random;
 use std::fs::{self, File, Permissions};
 use std::os::unix::ffi::OsStrExt;
 use std::os::unix::fs::{chown, symlink, MetadataExt, PermissionsExt};

@@ -1,9 +1,9 @@
 //! Books from lines of text: what `list` prints is taken back, and a wrong line is named.
 mod common;
 
-use common::random::Random;
 use common::{book_of, lines_of, long_names, run_all, Desk, BOOK, EMPTY_BOOK, LINES};
 use common::{FULL, NOT_ALLOWED};
+use label_book_tests::random::Random;
 use std::collections::BTreeMap;
 use std::fs::File;
 use std::process::{Command, Stdio};
@@ -55,6 +55,12 @@ fn build(desk: &Desk) {
     assert_eq!(desk.read("notes"), desk.read("a.book"));
 }
 
+/// A name of up to `most` bytes, each one that is allowed.
+fn name(random: &mut Random, most: usize) -> Vec<u8> {
+    let length = random.between(1, most);
+    (0..length).map(|_| random.between(0x20, 0x7E) as u8).collect()
+}
+
 /// Names that are long and alike, long and different, short, and with spaces at every end.
 fn sample_books() -> Vec<Vec<(u32, Vec<u8>)>> {
     let mut random = Random::new(5);
@@ -65,7 +71,7 @@ fn sample_books() -> Vec<Vec<(u32, Vec<u8>)>> {
     });
     let mut books: Vec<Vec<(u32, Vec<u8>)>> = vec![Vec::new(), alike, different.collect()];
     for (count, most) in [(1, 48), (2, 1), (16, 2), (17, 3), (90, 4), (300, 48), (1024, 48)] {
-        let entries = (0..count).map(|_| (random.name(most), random.any() as u32));
+        let entries = (0..count).map(|_| (name(&mut random, most), random.any() as u32));
         let entries: BTreeMap<Vec<u8>, u32> = entries.collect();
         books.push(entries.into_iter().map(|(name, score)| (score, name)).collect());
     }

@@ -11,7 +11,6 @@ use std::path::{Path, PathBuf};
 use std::process::{Command, Output, Stdio};
 use std::sync::atomic::{AtomicUsize, Ordering};
 
-pub mod random;
 pub mod shim;
 
 pub const PROGRAM: &str = env!("CARGO_BIN_EXE_labelbook");
