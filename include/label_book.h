@@ -133,7 +133,7 @@
  * LABEL_BOOK_SHEET_MAX. For LABEL_BOOK_TRIE_MAX, which is not proved, docs/FORMAT.md argues.
  *
  * That this file declares those functions as they are is not proved: .ci/c-names compares every
- * prototype, struct and number of it with the sources, and tests/c calls all of them by it. NULL
+ * prototype, struct and constant of it with the sources, and tests/c calls all of them by it. NULL
  * with length 0 and the stack are tested, too, not proved.
  */
 #ifndef LABEL_BOOK_H
