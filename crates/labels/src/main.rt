@@ -3,8 +3,8 @@
 // is `InputSays` in crate `program`. The contracts here promise the console that is kept from one read to the next, and
 // at the end the ledger's book. Of standard input and output themselves they promise nothing, since no contract of `io`
 // or `libc` says which bytes a read gives or what a write does with its own: a program that read nothing would keep
-// them too. Where a read or a write fails, the program says so on standard error, prints nothing more and stops reading;
-// the language has no exit status.
+// them too. Where a read or a write fails, the program says so on standard error, prints nothing more and stops
+// reading; the language has no exit status.
 use limits::BUFFER_LENGTH;
 use limits::KEPT_BYTES;
 use limits::LINE_ROOM;
@@ -118,9 +118,8 @@ fn read_part(
 }
 
 // Reads to the end of the input. A proved loop has to end, so it counts its reads down from a number that no run uses
-// up. The console afterwards is the one that some bytes lead
-// to. They are all that was read, one read behind the other, but the contract cannot name them: each read overwrites
-// `input`, so that no buffer holds them in the end.
+// up. The console afterwards is the one that some bytes lead to. They are all that was read, one read behind the other,
+// but the contract cannot name them: each read overwrites `input`, so that no buffer holds them in the end.
 fn read_all(
     input: &mut [u8],
     line: &mut [u8],
@@ -149,7 +148,8 @@ fn read_all(
 }
 
 // Runs to the end of the input: the book of no entries, the lines read, and the last one if no line feed ends it. As
-// `main` has no contract, this is what the program promises. Of a line that a failed read cuts short nothing is printed.
+// `main` has no contract, this is what the program promises. Of a line that a failed read cuts short nothing is
+// printed.
 fn run(
     input: &mut [u8],
     line: &mut [u8],
