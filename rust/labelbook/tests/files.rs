@@ -306,20 +306,23 @@ fn paths(desk: &Desk) {
     desk.prints(&["list", "./-b"], "1 -b\n");
 }
 
+/// Commands that write to standard output.
+const PRINTING: [&[&str]; 9] = [
+    &["check", "a.book"],
+    &["list", "a.book"],
+    &["top", "a.book", "1"],
+    &["trie", "a.book", "-"],
+    &["merge", "a.book", "a.book", "-o", "-"],
+    &["build", "-"],
+    &["help"],
+    &["help", "set"],
+    &["--version"],
+];
+
 fn a_full_disk(desk: &Desk) {
     let full = || File::options().write(true).open("/dev/full").unwrap();
     desk.write("a.book", &BOOK);
-    for arguments in [
-        &["check", "a.book"][..],
-        &["list", "a.book"],
-        &["top", "a.book", "1"],
-        &["trie", "a.book", "-"],
-        &["merge", "a.book", "a.book", "-o", "-"],
-        &["build", "-"],
-        &["help"],
-        &["help", "set"],
-        &["--version"],
-    ] {
+    for arguments in PRINTING {
         let words = "standard output: No space left on device (os error 28)";
         desk.run(arguments).stdout(full()).fails(desk, 74, words);
     }
@@ -361,16 +364,7 @@ fn a_limit_on_files(desk: &Desk) {
 /// Whoever read the output has gone: no message, no panic, and the status that shells know.
 fn closed_pipes(desk: &Desk) {
     desk.write("a.book", book_of(&long_names(1024)).image());
-    for arguments in [
-        &["check", "a.book"][..],
-        &["list", "a.book"],
-        &["top", "a.book", "1"],
-        &["trie", "a.book", "-"],
-        &["merge", "a.book", "a.book", "-o", "-"],
-        &["build", "-"],
-        &["help"],
-        &["--version"],
-    ] {
+    for arguments in PRINTING {
         let (reader, writer) = std::io::pipe().unwrap();
         drop(reader);
         desk.run(arguments).stdout(writer).gives(141, "", "");
