@@ -116,14 +116,17 @@ static void join(struct bench *b) {
 }
 
 /* The student: types a letter, moves down, slips once, and takes a name. Meanwhile the teacher
- * withdraws one that is offered. */
+ * withdraws the highlighted one, so that the next is on its row, and adds one above: the highlight
+ * stays on its name. */
 static void type(struct bench *b) {
-    struct label_book_panel panel = {{0}, 0, 0, 0};
+    struct label_book_panel panel = {0};
     press(b, &panel, 'r');
     press(b, &panel, LABEL_BOOK_KEY_DOWN);
     press(b, &panel, LABEL_BOOK_KEY_DOWN);
     press(b, &panel, 0x7F);
     withdraw(b, "rl");
+    press(b, &panel, LABEL_BOOK_KEY_RECOUNT);
+    set(b, "ramp", 30);
     press(b, &panel, LABEL_BOOK_KEY_RECOUNT);
     press(b, &panel, LABEL_BOOK_KEY_TAKE);
     size_t found, position;

@@ -76,7 +76,8 @@ fn join(book: &mut Book) -> Result<(), Refusal> {
 }
 
 /// The student: types a letter, moves down, slips once, and takes a name. Meanwhile the teacher
-/// withdraws one that is offered.
+/// withdraws the highlighted one, so that the next is on its row, and adds one above: the highlight
+/// stays on its name.
 fn type_keys(book: &mut Book) -> Result<(), Refusal> {
     let mut panel = Panel::default();
     press(book, &mut panel, b'r')?;
@@ -84,6 +85,8 @@ fn type_keys(book: &mut Book) -> Result<(), Refusal> {
     press(book, &mut panel, key::DOWN)?;
     press(book, &mut panel, 0x7F)?;
     withdraw(book, "rl");
+    press(book, &mut panel, key::RECOUNT)?;
+    set(book, "ramp", 30);
     press(book, &mut panel, key::RECOUNT)?;
     press(book, &mut panel, key::TAKE)?;
     if let Some(found) = book.find(panel.typed())? {

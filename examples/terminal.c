@@ -1,7 +1,8 @@
 /*
  * A panel in a terminal: the student types the start of a set-up's name, sees the best names that
  * begin with it, and takes one. The book is in a file, and the file is followed: an edit from a
- * second window (`labelbook set FILE ...`) shows within a moment, whatever is typed meanwhile.
+ * second window (`labelbook set FILE ...`) shows within a moment, whatever is typed meanwhile, and
+ * the highlight stays on its name.
  *
  *     examples/run-terminal [FILE]    builds it and runs it
  *
@@ -210,8 +211,9 @@ static void press(struct bench *b, uint8_t key) {
     if (key == LABEL_BOOK_KEY_TAKE) load_set_up(b, rows);
 }
 
-/* Looks whether the file has changed, and follows it. A file that cannot be opened is tried again
- * at every look; what was said about a key stays then. */
+/* Looks whether the file has changed, and follows it; by the key that only recounts the highlight
+ * finds its name in the new book. A file that cannot be opened is tried again at every look; what
+ * was said about a key stays then. */
 static void follow(struct bench *b) {
     struct stat now;
     if (stat(b->path, &now) == 0 && same_file(&now, &b->seen)) return;
@@ -511,6 +513,7 @@ int main(int argc, char **argv) {
         fprintf(stderr, "terminal: %s: %s\n", bench.path, why);
         return NO_BOOK;
     }
+    press(&bench, LABEL_BOOK_KEY_RECOUNT); /* the panel holds the name that it highlights first */
     handle_all();
     open_asked = 1;
     run(&bench);

@@ -69,7 +69,9 @@
  *   1  LABEL_BOOK_NOT_LAID_OUT        a book, sheet, trie or script that is not laid out as such,
  *                                     or is cut off by its buffer
  *   2  LABEL_BOOK_NOT_ALLOWED         a name or prefix that is not allowed; a panel whose length is
- *                                     over 48, or that holds a byte within it that is not allowed
+ *                                     over 48, or whose text has a byte within it that is not
+ *                                     allowed; a panel whose held name is neither of length 0 nor
+ *                                     a name that is allowed
  *   3  LABEL_BOOK_COUNT_OUT_OF_RANGE  a completion of 0 or more than LABEL_BOOK_COUNT_MAX entries
  *   4  LABEL_BOOK_NOT_HELD            withdraw, name_of: a name that the book does not hold
  *   5  LABEL_BOOK_FULL                set: a new name where 1,024 are held; merge: more than 1,024
@@ -121,7 +123,7 @@
  *   label_book_complete         20096
  *   label_book_write_trie      168512
  *   label_book_complete_trie    30720
- *   label_book_press             3712
+ *   label_book_press             4672
  *   label_book_run               1280
  *
  *
@@ -146,9 +148,10 @@
 extern "C" {
 #endif
 
-/* The version, as text and as a number to compare: 0xAABBCC is AA.BB.CC. */
-#define LABEL_BOOK_VERSION "1.1.0"
-#define LABEL_BOOK_VERSION_NUMBER 0x010100
+/* The version, as text and as a number to compare: 0xAABBCC is AA.BB.CC. In 1.2 the panel's struct
+ * has grown: a program that has a panel must be compiled anew. */
+#define LABEL_BOOK_VERSION "1.2.0"
+#define LABEL_BOOK_VERSION_NUMBER 0x010200
 
 /* The most there can be. */
 #define LABEL_BOOK_NAME_MAX 48      /* bytes of a name or prefix */
@@ -191,11 +194,16 @@ struct label_book_range {
     size_t last;
 };
 
-/* What is typed, the first len bytes of text, and the highlighted row, from 0, of the rows offered
- * for it. Zeros are an empty panel: `= {0}` in C, `= {}` in C++. */
+/* What is typed, the first len bytes of text; the highlighted row, from 0, of the rows offered for
+ * it; and the name on that row, the first held_len bytes of held, with held_len 0 if there are no
+ * rows. Each key reads and updates it: by the held name it finds the highlighted row again where
+ * the book was edited meanwhile. So who sets text or highlight without a key makes held_len 0.
+ * Zeros are an empty panel: `= {0}` in C, `= {}` in C++. */
 struct label_book_panel {
     uint8_t text[LABEL_BOOK_NAME_MAX];
     size_t len, highlight, rows;
+    uint8_t held[LABEL_BOOK_NAME_MAX];
+    size_t held_len;
 };
 
 /* The structs are laid out as the library has them: x86-64, where size_t has 8 bytes. */
@@ -208,8 +216,10 @@ struct label_book_panel {
 LABEL_BOOK_ASSERT(sizeof(size_t) == 8, "the label book is built for x86-64 alone");
 LABEL_BOOK_ASSERT(sizeof(struct label_book_range) == 32, "a range has 32 bytes");
 LABEL_BOOK_ASSERT(offsetof(struct label_book_range, last) == 24, "last stands at byte 24");
-LABEL_BOOK_ASSERT(sizeof(struct label_book_panel) == 72, "a panel has 72 bytes");
+LABEL_BOOK_ASSERT(sizeof(struct label_book_panel) == 128, "a panel has 128 bytes");
 LABEL_BOOK_ASSERT(offsetof(struct label_book_panel, len) == 48, "len stands at byte 48");
+LABEL_BOOK_ASSERT(offsetof(struct label_book_panel, held) == 72, "held stands at byte 72");
+LABEL_BOOK_ASSERT(offsetof(struct label_book_panel, held_len) == 120, "held_len is at byte 120");
 #undef LABEL_BOOK_ASSERT
 #endif
 
@@ -350,15 +360,26 @@ uint8_t label_book_complete_trie(const uint8_t *trie, size_t trie_len,
  *   LABEL_BOOK_KEY_DOWN     moves the highlight down, stopping at the last row
  *   LABEL_BOOK_KEY_TAKE     replaces the text by the highlighted name; highlight 0; without rows
  *                           nothing
- *   LABEL_BOOK_KEY_RECOUNT  nothing: the rows are counted again, after an edit of the book
+ *   LABEL_BOOK_KEY_RECOUNT  nothing: the rows are counted again, after an edit of the book, and
+ *                           the highlight finds its name
  *
  * Tells the rows: how many names are offered for the text with k = LABEL_BOOK_PANEL_ROWS. They are
- * counted before the key acts and again after it, each time lowering a highlight past the last row
- * to it, to 0 if there are none; so the book may have changed since the key before. The rows given
- * in are not read, nor the text past len, which an accepted key makes zero. To see the names, ask
- * label_book_complete, or label_book_rows_of in label_book_util.h.
+ * counted before the key acts and again after it. Before it acts, the highlight goes to the row
+ * that has the held name, whatever highlight was given in. Where that name is no longer on a row,
+ * or held_len is 0, the highlight given in stays; past the last row it is lowered to it, to 0 if
+ * there are none. After the key the held name is the one on the highlighted row, with held_len 0 if
+ * there are no rows. All of this holds for a key that does nothing, too.
+ *
+ * So the highlight stays on its name when the book was edited since the key before, and
+ * LABEL_BOOK_KEY_TAKE takes that name. A panel that shows its list anew after an edit presses
+ * LABEL_BOOK_KEY_RECOUNT first: its highlight is then still on the same name, if that is still
+ * offered. To see the names, ask label_book_complete, or label_book_rows_of in label_book_util.h.
+ *
+ * The rows given in are not read, nor the text past len and held past held_len, which an accepted
+ * key makes zero.
  * Refusals: 1 the book; 2 len is over LABEL_BOOK_NAME_MAX, or a byte of the text within it is not
- * allowed; 8 another key; 9 a key that appends, at LABEL_BOOK_NAME_MAX bytes. */
+ * allowed, or the held name is neither of length 0 nor a name that is allowed; 8 another key; 9 a
+ * key that appends, at LABEL_BOOK_NAME_MAX bytes. */
 uint8_t label_book_press(const uint8_t *book, size_t book_len, struct label_book_panel *panel,
                          uint8_t key, size_t *rows);
 

@@ -301,22 +301,164 @@ static void key_gives(struct label_book_panel *panel, int key, uint8_t number, s
     SAME(panel->highlight, highlight);
 }
 
+/* The panel holds just this name, with zeros behind it. */
+static void holds(const struct label_book_panel *panel, const char *name) {
+    uint8_t held[LABEL_BOOK_NAME_MAX] = {0};
+    memcpy(held, name, strlen(name));
+    SAME(panel->held_len, strlen(name));
+    SAME(memcmp(panel->held, held, sizeof held) == 0, 1);
+}
+
 static void keys(void) {
     struct label_book_panel panel;
     memset(&panel, 0, sizeof panel);
     bench_of_e(&bench);
     key_gives(&panel, LABEL_BOOK_KEY_RECOUNT, LABEL_BOOK_OK, 4, 0, 0);
+    holds(&panel, "rl");
     key_gives(&panel, 'r', LABEL_BOOK_OK, 3, 1, 0);
     SAME(panel.rows, 3);
     key_gives(&panel, LABEL_BOOK_KEY_UP, LABEL_BOOK_OK, 3, 1, 0);
     key_gives(&panel, LABEL_BOOK_KEY_DOWN, LABEL_BOOK_OK, 3, 1, 1);
+    holds(&panel, "rc");
     key_gives(&panel, LABEL_BOOK_KEY_TAKE, LABEL_BOOK_OK, 2, 2, 0);
     SAME_BYTES(panel.text, 3, "72 63 00");
+    holds(&panel, "rc");
+    key_gives(&panel, ' ', LABEL_BOOK_OK, 1, 3, 0);
+    holds(&panel, "rc step");
+    key_gives(&panel, LABEL_BOOK_KEY_ERASE, LABEL_BOOK_OK, 2, 2, 0);
+    holds(&panel, "rc");
     key_gives(&panel, LABEL_BOOK_KEY_ERASE, LABEL_BOOK_OK, 3, 1, 0);
     SAME_BYTES(panel.text, 2, "72 00");
+    holds(&panel, "rl");
+    key_gives(&panel, 0x7F, LABEL_BOOK_NO_SUCH_KEY, 0, 1, 0);
+    key_gives(&panel, 'x', LABEL_BOOK_OK, 0, 2, 0);
+    holds(&panel, "");
+}
+
+/* The highlight given in counts where no name is held, else the held name. */
+static void highlights_given_in(void) {
+    struct label_book_panel panel;
+    memset(&panel, 0, sizeof panel);
+    bench_of_e(&bench);
     panel.highlight = 99;
+    key_gives(&panel, LABEL_BOOK_KEY_RECOUNT, LABEL_BOOK_OK, 4, 0, 3);
+    holds(&panel, "ac");
+    panel.highlight = 1;
+    key_gives(&panel, LABEL_BOOK_KEY_RECOUNT, LABEL_BOOK_OK, 4, 0, 3);
+    panel.highlight = 1;
+    panel.held_len = 0;
+    key_gives(&panel, LABEL_BOOK_KEY_RECOUNT, LABEL_BOOK_OK, 4, 0, 1);
+    holds(&panel, "rc");
+}
+
+/* Each key goes on from the row on which the held name now stands. */
+static void a_name_that_moves(void) {
+    struct label_book_panel panel;
+    memset(&panel, 0, sizeof panel);
+    bench_of_e(&bench);
+    key_gives(&panel, 'r', LABEL_BOOK_OK, 3, 1, 0);
+    key_gives(&panel, LABEL_BOOK_KEY_DOWN, LABEL_BOOK_OK, 3, 1, 1);
+    bench_set(&bench, "rlc", 20);
+    key_gives(&panel, LABEL_BOOK_KEY_RECOUNT, LABEL_BOOK_OK, 4, 1, 2);
+    holds(&panel, "rc");
+    bench_set(&bench, "rc", 30);
+    key_gives(&panel, LABEL_BOOK_KEY_RECOUNT, LABEL_BOOK_OK, 4, 1, 0);
+    holds(&panel, "rc");
+    bench_set(&bench, "rx", 40);
+    key_gives(&panel, LABEL_BOOK_KEY_DOWN, LABEL_BOOK_OK, 5, 1, 2);
+    holds(&panel, "rlc");
+    bench_set(&bench, "ry", 50);
+    key_gives(&panel, LABEL_BOOK_KEY_UP, LABEL_BOOK_OK, 5, 1, 2);
+    holds(&panel, "rc");
+    bench_set(&bench, "rz", 60);
+    key_gives(&panel, LABEL_BOOK_KEY_TAKE, LABEL_BOOK_OK, 2, 2, 0);
+    SAME_BYTES(panel.text, 3, "72 63 00");
+    holds(&panel, "rc");
+}
+
+/* On the row that it had, or on the last one. */
+static void a_name_no_longer_offered(void) {
+    struct label_book_panel panel;
+    memset(&panel, 0, sizeof panel);
+    bench_of_e(&bench);
+    key_gives(&panel, 'r', LABEL_BOOK_OK, 3, 1, 0);
+    key_gives(&panel, LABEL_BOOK_KEY_DOWN, LABEL_BOOK_OK, 3, 1, 1);
+    key_gives(&panel, LABEL_BOOK_KEY_DOWN, LABEL_BOOK_OK, 3, 1, 2);
+    holds(&panel, "rc step");
+    bench_set(&bench, "rx", 20);
+    bench_set(&bench, "ry", 20);
+    bench_set(&bench, "rz", 20); /* "rc step" would be the sixth */
+    key_gives(&panel, LABEL_BOOK_KEY_RECOUNT, LABEL_BOOK_OK, 5, 1, 2);
+    holds(&panel, "rz");
+    bench_empty(&bench);
+    bench_set(&bench, "ra", 1);
+    bench_set(&bench, "rb", 1);
+    key_gives(&panel, LABEL_BOOK_KEY_RECOUNT, LABEL_BOOK_OK, 2, 1, 1);
+    holds(&panel, "rb");
+    bench_empty(&bench);
+    key_gives(&panel, LABEL_BOOK_KEY_TAKE, LABEL_BOOK_OK, 0, 1, 0);
+    holds(&panel, "");
+}
+
+/* A panel with this text and held name. Every other byte of it is FILL, which is not allowed. */
+static struct label_book_panel panel_with(const char *text, const char *held) {
+    struct label_book_panel panel;
+    memset(&panel, FILL, sizeof panel);
+    memcpy(panel.text, text, strlen(text));
+    memcpy(panel.held, held, strlen(held));
+    panel.len = strlen(text);
+    panel.held_len = strlen(held);
+    return panel;
+}
+
+static void bytes_behind_lengths(void) {
+    struct label_book_panel panel = panel_with("r", "rc step");
+    bench_of_e(&bench);
     key_gives(&panel, LABEL_BOOK_KEY_RECOUNT, LABEL_BOOK_OK, 3, 1, 2);
-    key_gives(&panel, 0x7F, LABEL_BOOK_NO_SUCH_KEY, 0, 1, 2);
+    holds(&panel, "rc step");
+    SAME(panel.rows, 3);
+    panel = panel_with("", "");
+    key_gives(&panel, LABEL_BOOK_KEY_ERASE, LABEL_BOOK_OK, 4, 0, 3);
+    SAME_BYTES(panel.text, 2, "00 00");
+    holds(&panel, "ac");
+    panel = panel_with("r", "ac"); /* which does not begin so */
+    key_gives(&panel, LABEL_BOOK_KEY_UP, LABEL_BOOK_OK, 3, 1, 1);
+    holds(&panel, "rc");
+    panel = panel_with("q", letters(48));
+    key_gives(&panel, LABEL_BOOK_KEY_TAKE, LABEL_BOOK_OK, 0, 1, 0);
+    holds(&panel, "");
+}
+
+/* A key is refused with this number, and leaves every byte of the panel. */
+static void key_refused(const uint8_t *book, size_t book_len, struct label_book_panel panel,
+                        int key, uint8_t number) {
+    const struct label_book_panel before = panel;
+    one = UNTOLD;
+    SAME(label_book_press(book, book_len, &panel, (uint8_t)key, &one), number);
+    SAME(one, 0);
+    SAME(memcmp(&panel, &before, sizeof panel) == 0, 1);
+}
+
+static void refused_held_names(void) {
+    static const char *const refused[] = {"\x1F", "\x7F", "rc\x1F", "rc\x7F", "\xFFrc"};
+    struct label_book_panel panel = panel_with("r", "rc");
+    bench_of_e(&bench);
+    key_refused(BOOK, panel, 0x7F, LABEL_BOOK_NO_SUCH_KEY);
+    key_refused(BOOK, panel_with(letters(48), "rc"), 'x', LABEL_BOOK_TEXT_FULL);
+    key_refused(BOOK, panel_with("\x1F", "rc"), 'x', LABEL_BOOK_NOT_ALLOWED);
+    memset(panel.held, 'x', sizeof panel.held);
+    panel.held_len = LABEL_BOOK_NAME_MAX + 1;
+    key_refused(BOOK, panel, LABEL_BOOK_KEY_RECOUNT, LABEL_BOOK_NOT_ALLOWED);
+    panel.held_len = (size_t)-1;
+    key_refused(BOOK, panel, LABEL_BOOK_KEY_RECOUNT, LABEL_BOOK_NOT_ALLOWED);
+    for (size_t i = 0; i < sizeof refused / sizeof refused[0]; i++) {
+        panel = panel_with("r", refused[i]);
+        key_refused(BOOK, panel, LABEL_BOOK_KEY_RECOUNT, LABEL_BOOK_NOT_ALLOWED);
+        key_refused(BOOK, panel, LABEL_BOOK_KEY_ERASE, LABEL_BOOK_NOT_ALLOWED);
+        key_refused(BOOK, panel, 0x7F, LABEL_BOOK_NOT_ALLOWED);
+        key_refused(BOOK, panel_with(letters(48), refused[i]), 'x', LABEL_BOOK_NOT_ALLOWED);
+        key_refused(no_book, sizeof no_book, panel, 'x', LABEL_BOOK_NOT_LAID_OUT);
+    }
 }
 
 static void refused_panels(void) {
@@ -436,8 +578,13 @@ int main(void) {
     test("complete: k 16 and 17, and its other refusals", refused_completions);
     test("write_trie: P2, P4, lone names of 7 and 8 bytes", tries);
     test("complete_trie: P5 to P7, k 16 and 17", completion_from_a_trie);
-    test("press: every key", keys);
+    test("press: every key, and the name that is then held", keys);
+    test("press: a highlight given in, with and without a held name", highlights_given_in);
+    test("press: the highlight stays on its name while the book is edited", a_name_that_moves);
+    test("press: a held name that is no longer offered", a_name_no_longer_offered);
+    test("press: bytes behind the lengths of the text and the held name", bytes_behind_lengths);
     test("press: its refusals", refused_panels);
+    test("press: held names that are refused, and the panel as it was", refused_held_names);
     test("press: five rows of five names and of six", five_rows);
     test("run: E by a script with a refused call", histories);
     test("run: its refusals", refused_runs);

@@ -195,6 +195,28 @@ static void rows_of_e(void) {
     SAME(rows.count, 0);
 }
 
+/* After a key that only counts, the highlighted row is that of the held name. */
+static void rows_of_an_edited_book(void) {
+    struct label_book_panel panel = panel_of("r", 1);
+    struct label_book_rows rows;
+    size_t told;
+    memset(&rows, 0, sizeof rows);
+    bench_of_e(&bench);
+    SAME(label_book_press(bench_book(&bench), bench_bytes(&bench), &panel, LABEL_BOOK_KEY_DOWN,
+                          &told), LABEL_BOOK_OK);
+    bench_set(&bench, "rlc", 20);
+    SAME(label_book_press(bench_book(&bench), bench_bytes(&bench), &panel, LABEL_BOOK_KEY_RECOUNT,
+                          &told), LABEL_BOOK_OK);
+    SAME(label_book_rows_of(bench_book(&bench), bench_bytes(&bench), &panel, &rows), LABEL_BOOK_OK);
+    SAME(rows.count, 4);
+    same_entry(&rows.row[0], "rlc", 20);
+    same_entry(&rows.row[panel.highlight], "rc", 9);
+    SAME_BYTES(panel.held, panel.held_len, "72 63");
+    panel.held_len = LABEL_BOOK_NAME_MAX + 1; /* which is not read for the rows */
+    SAME(label_book_rows_of(bench_book(&bench), bench_bytes(&bench), &panel, &rows), LABEL_BOOK_OK);
+    SAME(rows.count, 4);
+}
+
 static void rows_of_long_names(void) {
     struct label_book_panel panel = panel_of("", 0);
     struct label_book_rows rows;
@@ -242,6 +264,7 @@ int main(void) {
     test("name_text: of 0, 2, 48 and too many bytes", names_as_text);
     test("refusal_text: different words for each number", words_of_refusals);
     test("rows_of: three rows and none", rows_of_e);
+    test("rows_of: the highlighted row after an edit", rows_of_an_edited_book);
     test("rows_of: the five best of 1,024 long names", rows_of_long_names);
     test("rows_of: refused as a key is", refused_rows);
     return status();

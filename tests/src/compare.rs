@@ -327,17 +327,20 @@ impl Compare {
         self.writes("complete_trie", [trie, prefix], &[k], dst, ours, other)
     }
 
-    /// A key of the panel, which is then as the second implementation leaves it.
-    pub fn press(&mut self, book: &[u8], panel: &mut Panel, key: u8) {
+    /// A key of the panel, which is then as the second implementation leaves it. It stands between
+    /// two others, which stay as they are.
+    pub fn press(&mut self, book: &[u8], panel: &mut Panel, key: u8) -> Told {
         let before = panel.clone();
         let answer = crate::reference::panel::press(book, panel, key);
-        let mut lent = before.clone();
-        let told = calls::press(self.sources[0].lend(book), &mut lent, key);
+        let beside = Panel { text: [0xA5; 48], len: 3, held: [0x5A; 48], ..Panel::default() };
+        let mut lent = [beside.clone(), before.clone(), beside.clone()];
+        let told = calls::press(self.sources[0].lend(book), &mut lent[1], key);
         let expected = match answer {
             Ok(rows) => (0, [rows as u64, 0, 0]),
             Err(number) => (number, [0; 3]),
         };
-        let agrees = told == expected && lent == *panel && self.sources[0].holds(book);
+        let wanted = [beside.clone(), panel.clone(), beside];
+        let agrees = told == expected && lent == wanted && self.sources[0].holds(book);
         count(&mut self.agreed, "press", agrees, told.0, || {
             let (ours, second) = (format!("{told:?} {lent:?}"), format!("{expected:?} {panel:?}"));
             format!(
@@ -346,6 +349,7 @@ impl Compare {
             )
         });
         assert!(answer.is_ok() || *panel == before);
+        told
     }
 
     pub fn cases(&self) -> u64 {

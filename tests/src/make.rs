@@ -1,6 +1,7 @@
-//! Entries, names, damaged images and arguments to try.
+//! Entries, names, damaged images, panels and arguments to try.
 use crate::random::Random;
 use crate::reference::*;
+use label_book::{key, Panel, PANEL_ROWS};
 
 /// How the names of a book are made.
 #[derive(Clone, Copy, Debug)]
@@ -274,4 +275,123 @@ pub fn damaged(random: &mut Random, image: &[u8]) -> Vec<u8> {
         }
     }
     bytes
+}
+
+/// The names on the rows of a text.
+fn rows(entries: &Entries, text: &[u8]) -> Vec<Vec<u8>> {
+    calls::rows(entries, text, PANEL_ROWS)
+}
+
+/// The bytes at the front of 48, and any bytes behind them.
+fn in_front(random: &mut Random, bytes: &[u8]) -> [u8; LONGEST_NAME] {
+    let mut all: [u8; LONGEST_NAME] = random.bytes(LONGEST_NAME).try_into().unwrap();
+    let end = bytes.len().min(LONGEST_NAME);
+    all[..end].copy_from_slice(&bytes[..end]);
+    all
+}
+
+/// A name on a row of the text, or any that the book has.
+fn offered(random: &mut Random, entries: &Entries, text: &[u8]) -> Vec<u8> {
+    match rows(entries, text)[..] {
+        [] => some_name(random, entries),
+        ref rows => random.pick(rows),
+    }
+}
+
+/// A name of the book that is on no row of the text; none if all are.
+fn not_offered(random: &mut Random, entries: &Entries, text: &[u8]) -> Vec<u8> {
+    let rows = rows(entries, text);
+    let others: Vec<&Vec<u8>> = entries.keys().filter(|name| !rows.contains(name)).collect();
+    others.get(random.below(others.len())).map_or(vec![], |name| name.to_vec())
+}
+
+/// A held name, in 48 bytes, and its length: on a row of the text, in the book and on no row, close
+/// to a row's, in no book, none; with a byte that is not allowed, or a length that is none. Any
+/// bytes stand behind it.
+pub fn held_name(
+    random: &mut Random,
+    entries: &Entries,
+    text: &[u8],
+) -> ([u8; LONGEST_NAME], usize) {
+    let mut name = offered(random, entries, text);
+    match random.below(24) {
+        0 | 1 => name = not_offered(random, entries, text),
+        2 => {
+            name.pop();
+        }
+        3 => {
+            // The rest of the name stands behind its length.
+            let length = random.below(name.len() + 1);
+            return (in_front(random, &name), length);
+        }
+        4 => name.push(allowed_byte(random)),
+        5 => name.resize(LONGEST_NAME, b' '),
+        6 => name = self::name(random, Names::Any, entries),
+        7 => name.clear(),
+        8 | 9 if !name.is_empty() => {
+            let at = random.below(name.len());
+            name[at] = random.pick(&[0, 0x1F, 0x7F, 0x80, 0xFF]);
+        }
+        10 => {
+            let lengths = [49, 50, 64, 256, 1 << 32, (1 << 32) + name.len(), usize::MAX];
+            return (in_front(random, &name), random.pick(&lengths));
+        }
+        _ => {}
+    }
+    // A name of 49 bytes loses its last byte, not its length.
+    (in_front(random, &name), name.len())
+}
+
+/// A panel that nobody typed on: the start of a name of the book or what is close to it, any row,
+/// any held name.
+pub fn panel(random: &mut Random, entries: &Entries) -> Panel {
+    let mut text = some_name(random, entries);
+    match random.below(8) {
+        0 => text = asked(random, entries),
+        1 => {}
+        2 | 3 => text.truncate(random.below(text.len() + 1)),
+        // Short, so that there are rows.
+        _ => text.truncate(random.below(3)),
+    }
+    let (held, held_len) = held_name(random, entries, &text);
+    let len = if random.chance(20) { number(random, LONGEST_NAME) } else { text.len() };
+    let (highlight, rows) = (number(random, PANEL_ROWS), number(random, PANEL_ROWS));
+    Panel { text: in_front(random, &text), len, highlight, rows, held, held_len }
+}
+
+/// A key: any byte, one that is no sign or next to one of these, the next byte of a name on a row.
+pub fn key(random: &mut Random, entries: &Entries, text: &[u8]) -> u8 {
+    match random.below(10) {
+        0 => random.byte(),
+        1 => random.pick(&[0x03, 0x07, 0x09, 0x0C, 0x0E, 0x1F, b' ', b'~', 0x7F, 0x80, 0xFF]),
+        2..=6 => random.pick(&[key::RECOUNT, key::UP, key::DOWN, key::DOWN, key::ERASE, key::TAKE]),
+        _ => offered(random, entries, text).get(text.len()).copied().unwrap_or(b'a'),
+    }
+}
+
+/// Changes the entries as a teacher does while a text is typed and a name held: a new name that the
+/// text begins, another score, a withdrawal.
+pub fn edit(random: &mut Random, entries: &mut Entries, panel: &Panel) {
+    let held = panel.held.get(..panel.held_len).unwrap_or_default().to_vec();
+    let scores = random.pick(&SCORES);
+    let score = score(random, scores);
+    let known = match random.below(4) {
+        0 | 1 if entries.contains_key(&held) => held,
+        2 => some_name(random, entries),
+        _ => offered(random, entries, panel.typed()),
+    };
+    match random.below(4) {
+        0 => {
+            entries.remove(&known);
+        }
+        1 if !known.is_empty() => {
+            entries.insert(known, score);
+        }
+        _ => {
+            let start = if is_prefix(panel.typed()) { panel.typed() } else { &[] };
+            let mut new = [start, &word(random, b"abcxyz ~", 1, 4)].concat();
+            new.truncate(LONGEST_NAME);
+            entries.insert(new, score);
+        }
+    }
 }

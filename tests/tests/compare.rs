@@ -1,7 +1,6 @@
 //! Random and hostile inputs through the C interface, compared with the second implementation.
 //! Seeded and bounded: the same cases in every run. `LONG=1` runs many more rounds, each with
 //! another seed.
-use label_book::Panel;
 use label_book_tests::calls as ours;
 use label_book_tests::compare::Compare;
 use label_book_tests::make::{self, Names, Scores, NAMES, PLACES, SCORES};
@@ -11,6 +10,8 @@ use std::collections::BTreeSet;
 
 #[path = "compare/histories.rs"]
 mod histories;
+#[path = "compare/panels.rs"]
+mod panels;
 #[path = "compare/scripts.rs"]
 mod scripts;
 
@@ -307,52 +308,6 @@ fn damaged_merges(compare: &mut Compare, random: &mut Random, rounds: usize) {
     }
 }
 
-/// Panels: keys one after the other, the book changing between them; and states that nobody typed.
-fn panels(compare: &mut Compare, random: &mut Random, rounds: usize) {
-    for _ in 0..rounds {
-        let n = random.below(30);
-        let (names, scores) = (random.pick(&NAMES), random.pick(&SCORES));
-        let mut held = make::entries(random, n, names, scores);
-        let mut panel = Panel {
-            text: random.bytes(48).try_into().unwrap(),
-            len: 0,
-            highlight: random.below(9),
-            rows: 1,
-        };
-        for _ in 0..40 {
-            match random.below(12) {
-                0 => {
-                    let gone = make::some_name(random, &held);
-                    held.remove(&gone);
-                }
-                1 => {
-                    let typed = make::asked(random, &held);
-                    panel.len = make::number(random, 48);
-                    panel.highlight = make::number(random, 5);
-                    panel.rows = make::number(random, 5);
-                    let end = typed.len().min(48);
-                    panel.text[..end].copy_from_slice(&typed[..end]);
-                }
-                _ => {}
-            }
-            let mut image = book::image(&held);
-            if random.chance(50) {
-                image = make::damaged(random, &image);
-            }
-            let key = match random.below(6) {
-                0 => random.byte(),
-                1 => random.pick(&[0x00, 0x01, 0x02, 0x02, 0x08, 0x0D, 0x1F, 0x7F, 0x80]),
-                2 => random.pick(&[0x02, 0x0D, 0x08]),
-                _ => {
-                    let name = make::some_name(random, &held);
-                    name.get(panel.len).copied().unwrap_or(b'a')
-                }
-            };
-            compare.press(&image, &mut panel, key);
-        }
-    }
-}
-
 fn bytes(hex: &str) -> Vec<u8> {
     hex.split_whitespace().map(|b| u8::from_str_radix(b, 16).unwrap()).collect()
 }
@@ -436,6 +391,7 @@ fn round(compare: &mut Compare, seed: u64) {
     worked(compare);
     worked_merges(compare);
     worked_run(compare);
+    panels::worked(compare);
     sizes(compare, &mut random, 40);
     every_place(compare, &mut random, 6);
     damage(compare, &mut random, 600);
@@ -463,7 +419,8 @@ fn round(compare: &mut Compare, seed: u64) {
     scripts::hostile_calls(compare, &mut random);
     scripts::hostile_buffers(compare, &mut random);
     scripts::noise(compare, &mut random, 20_000);
-    panels(compare, &mut random, 150);
+    panels::keys(compare, &mut random, 600);
+    panels::every_key(compare, &mut random, 60);
     merges(compare, &mut random);
     damaged_merges(compare, &mut random, 300);
 }

@@ -261,17 +261,21 @@ fn completing(tried: &mut Tried, given: &Given) {
     }
 }
 
-/// The bytes of a panel on which some bytes are typed.
-fn panel(len: usize) -> Vec<u8> {
-    let numbers = [len, 0, 0].map(usize::to_ne_bytes).concat();
-    [vec![b'r'; NAME_MAX], numbers].concat()
+/// The bytes of a panel on which some bytes are typed and a name of some bytes is held.
+fn panel(len: usize, held_len: usize) -> Vec<u8> {
+    let (name, numbers) = ([b'r'; NAME_MAX], [len, 0, 0].map(usize::to_ne_bytes).concat());
+    let bytes = [&name[..], &numbers, &name, &held_len.to_ne_bytes()].concat();
+    assert_eq!(bytes.len(), size_of::<Panel>());
+    bytes
 }
 
 fn pressing(tried: &mut Tried, given: &Given) {
-    for ((book, &len), &key) in
-        triples(&given.books, &[0, 1, NAME_MAX, NAME_MAX + 1], &[key::RECOUNT, key::TAKE, b'r', 3])
+    let lengths = [0, 1, NAME_MAX, NAME_MAX + 1];
+    let keys = [key::RECOUNT, key::TAKE, b'r', 3];
+    for (book, ((&len, &held_len), &key)) in
+        pairs(&given.books, &triples(&lengths, &lengths, &keys).collect::<Vec<_>>())
     {
-        tried.call("press", [book, &panel(len)], |[s, p], [a, ..]| unsafe {
+        tried.call("press", [book, &panel(len, held_len)], |[s, p], [a, ..]| unsafe {
             c::label_book_press(s.at, s.len, p.at.cast::<Panel>(), key, a)
         });
     }

@@ -1,5 +1,4 @@
 //! The calls that the benchmark compares with answer as the second implementation does.
-use label_book::Panel;
 use label_book_tests::make::{self, Names, Scores, NAMES, PLACES, SCORES};
 use label_book_tests::random::Random;
 use label_book_tests::reference::{book, calls, sheet, trie, Entries};
@@ -37,24 +36,15 @@ fn ask(random: &mut Random, buffer: &[u8], page: &[u8], held: &Entries) {
         |d| calls::complete(buffer, prefix, k, d, 15),
     );
     same(&whole, |d| plain::write_trie(buffer, d), |d| calls::write_trie(buffer, d));
-    let mut panel = Panel {
-        text: [b'a'; 48],
-        len: make::number(random, 48),
-        highlight: make::number(random, 5),
-        rows: 9,
-    };
-    let typed = prefix.len().min(48);
-    panel.text[..typed].copy_from_slice(&prefix[..typed]);
-    if random.chance(2) {
-        panel.len = typed;
+    for _ in 0..8 {
+        let mut panel = make::panel(random, held);
+        let key = make::key(random, held, panel.typed());
+        let mut other = panel.clone();
+        assert_eq!(
+            (plain::press(buffer, &mut panel, key), &panel),
+            (reference::panel::press(buffer, &mut other, key), &other)
+        );
     }
-    let key =
-        if random.chance(2) { random.byte() } else { random.pick(&[0, 1, 2, 8, 0x0D, b'a', b'x']) };
-    let mut other = panel.clone();
-    assert_eq!(
-        (plain::press(buffer, &mut panel, key), &panel),
-        (reference::panel::press(buffer, &mut other, key), &other)
-    );
     assert_eq!(plain::find(buffer, &name), calls::find(buffer, &name));
     assert_eq!(plain::prefix_range(buffer, prefix), calls::prefix_range(buffer, prefix));
     assert_eq!(plain::head(buffer, bucket), calls::head(buffer, bucket));

@@ -200,7 +200,7 @@ fn edits_followed() -> Result<(), Refusal> {
     save_and_see(&mut window, &saved, 4, &rows);
     saved.set(b"rlc", 1)?;
     let rows = [(13, "rz"), (12, "rl"), (9, "rc"), (9, "rc step"), (1, "rlc")];
-    save_and_see(&mut window, &saved, 4, &rows);
+    save_and_see(&mut window, &saved, 3, &rows);
     for name in ["rc step", "rlc", "rr"] {
         saved.withdraw(name.as_bytes())?;
     }
@@ -232,19 +232,49 @@ fn edited_by_labelbook() {
     window.press_and_see(b"", &Shown { names: 7, ..shown("r", &rows) });
 }
 
+/// The highlight stays on its name while the teacher's program adds better ones above it, and Enter
+/// takes that name.
+fn name_followed() {
+    let mut window = Window::new("name followed", &lesson());
+    let path = window.path();
+    window.press_and_see(&[b"r", DOWN].concat(), &Shown { highlight: 1, ..shown_for_r() });
+    labelbook(&["set", &path, "50", "rz"]);
+    window.wait_for_news(READ_AGAIN);
+    let rows = [(4_294_967_295, "rlc"), (50, "rz"), (12, "rl"), (9, "rc"), (9, "rc step")];
+    let wanted = Shown { names: 8, highlight: 2, ..shown("r", &rows) };
+    window.see(&Shown { news: READ_AGAIN.into(), ..wanted.clone() });
+    window.press_and_see(b"", &wanted);
+    labelbook(&["set", &path, "60", "ry"]);
+    window.wait_for_news(READ_AGAIN);
+    let rows = [(4_294_967_295, "rlc"), (12, "rl")];
+    let loaded = "loaded rl, score 12".into();
+    window.press_and_see(b"\r", &Shown { names: 9, loaded, ..shown("rl", &rows) });
+}
+
+/// So it does before the first key: the name that is highlighted at the start is held.
+fn first_name_followed() {
+    let mut window = Window::new("first name followed", &book(&[("rc", 9), ("rl", 12)]));
+    window.see(&Shown { names: 2, ..shown("", &[(12, "rl"), (9, "rc")]) });
+    labelbook(&["set", &window.path(), "20", "rlc"]);
+    window.wait_for_news(READ_AGAIN);
+    let rows = [(20, "rlc"), (12, "rl"), (9, "rc")];
+    window.press_and_see(b"", &Shown { names: 3, highlight: 1, ..shown("", &rows) });
+}
+
 /// The file is written over in place: the same inode, then also the same number of bytes.
 fn written_in_place() {
     let mut window = Window::new("written in place", &lesson());
-    for (names, rows) in [
-        (2, &[(30, "rc"), (20, "rl")]),
-        (2, &[(40, "rl"), (30, "rc")]),
-        (2, &[(31, "rc"), (20, "rl")]),
+    for (highlight, rows) in [
+        (0, &[(30, "rc"), (20, "rl")]),
+        (1, &[(40, "rl"), (30, "rc")]),
+        (0, &[(31, "rc"), (20, "rl")]),
     ] {
         window.press(b"");
         let written = book(&rows.map(|(score, name)| (name, score)));
         fs::write(window.path(), written.image()).expect("the file is written");
         window.wait_for_news(READ_AGAIN);
-        window.see(&Shown { names, news: READ_AGAIN.into(), ..shown("", rows) });
+        let wanted = Shown { names: 2, highlight, ..shown("", rows) };
+        window.see(&Shown { news: READ_AGAIN.into(), ..wanted });
     }
 }
 
@@ -386,6 +416,7 @@ fn any_keys() {
     let mut random = Random::new(seed);
     let mut bench = Bench::default();
     (0..40).for_each(|_| bench.set_any(&mut random));
+    bench.press(key::RECOUNT);
     let mut window = Window::new("any keys", &bench.book);
     for _ in 0..200 {
         if random.chance(6) {
@@ -547,7 +578,7 @@ fn not_started(case: &str, command: &str, message: &str, status: i32) {
     assert_eq!(window.screen.line(2), format!("left with {status}"), "{case}");
 }
 
-const CASES: [fn(); 20] = [
+const CASES: [fn(); 22] = [
     typing,
     highlight,
     erasing,
@@ -557,6 +588,8 @@ const CASES: [fn(); 20] = [
     escapes,
     || edits_followed().expect("edits that no book refuses"),
     edited_by_labelbook,
+    name_followed,
+    first_name_followed,
     written_in_place,
     no_book_anymore,
     no_file_anymore,

@@ -3,7 +3,6 @@ use Prim.Native.Nat.{_%_, _*_, _+_, _<_, _≤_, suc, zero, ℕ}
 use mathlib.Core.Path.{_∙_, _≡_, ap, refl, sym}
 use mathlib.Core.Bool.{Bool, true}
 use mathlib.Core.List.{List, [], _++_, _∷_, append-assoc}
-use lib.Dec.{leb}
 use lib.ListN.{drop, getD, length, take}
 use lib.Seq.{drop-append-seam, drop-cons, drop-drop}
 use native.Mathlib.Numerals.{add-one}
@@ -12,11 +11,10 @@ use borrow.Author.Tests.{eq-eqb}
 use Rattle.octets.specs.Octets.{begins, below}
 use Rattle.octets.proofs.Lists.{at-all}
 use Rattle.octets.proofs.Order.{begins-append, begins-split}
-use Rattle.octets.proofs.Tests.{and-true}
 use Rattle.entries.specs.Entries.{Entry, at, names, noEntry}
 use Rattle.entries.specs.Names.{allowedBytes, isName, isPrefix}
 use Rattle.entries.proofs.Span.{rising-at}
-use Rattle.entries.proofs.Valid.{Valid, length-names, name-above, valid-of}
+use Rattle.entries.proofs.Valid.{Valid, length-names, name-above, name-prefix, valid-of}
 use Rattle.book_laws.specs.Cursor.{Sound, Step, Stepped, nameIn, recordIs}
 use Rattle.book.specs.Records.{bucketHead, bucketSize, lastOr, recordName, recordOf, records}
 use Rattle.book_laws.specs.Ahead.{Ahead}
@@ -30,10 +28,6 @@ pub names-at : (es : List Entry) (i : ℕ) → i < length es → getD (names es)
 names-at [] i h = absurd (omega arith)
 names-at (e ∷ es) zero h = refl
 names-at (e ∷ es) (suc i) h = names-at es i (omega arith)
-
-name-prefix : (w : List ℕ) → isName w ≡ true → isPrefix w ≡ true
-unfolding isName
-name-prefix w h = and-true (leb 1 (length w)) (isPrefix w) h .1
 
 -- one step
 module _

@@ -6,7 +6,7 @@ use mathlib.Core.List.{List, [], _∷_}
 use lib.Dec.{eqb, ltb}
 use lib.ListN.{length}
 use native.Mathlib.Omega.{arith}
-use borrow.Author.Tests.{eq-eqb, eqb-true, ltb-false, ltb-true}
+use borrow.Author.Tests.{eq-eqb, eqb-true, ltb-false, ltb-true, ne-eqb}
 use Rattle.octets.specs.Octets.{begins, below, same}
 use Rattle.octets.proofs.Lists.{get-in, keep-first, keep-length}
 use Rattle.octets.proofs.Order.{begins-between, begins-self, below-irrefl, below-total, below-trans, same-eq, same-refl}
@@ -16,7 +16,7 @@ use Rattle.entries.specs.Entries.{Entry, at, holds, nameBelow, named, noEntry, 
 use Rattle.entries_laws.specs.Place.{isBefore, place}
 use Rattle.entries.proofs.BestList.{in-holds}
 use Rattle.entries.proofs.Matches.{first-fits}
-use Rattle.entries.proofs.Span.{rising-at}
+use Rattle.entries.proofs.Span.{position-same, rising-at}
 
 -- what is not below the key but below a name that the key begins is begun by it too
 before-begun : (p v w : List ℕ) → below v w ≡ true → begins p w ≡ true → below v p ≡ false → begins p v ≡ true
@@ -111,6 +111,23 @@ place-held w es r l e =
     let h : holds w es ≡ true = rw e at
     (in-holds (at es (place false w es)) es (get-in noEntry es (place false w es) l)) in
     (h, sym (place-position w es r h))
+
+-- the entry at a position has a name that is held exactly if it is the name's position
+pub named-at : (w : List ℕ) (es : List Entry) → rising es ≡ true → holds w es ≡ true → (j : ℕ) → j < length es
+    → named w (at es j) ≡ eqb j (position w es)
+named-at w es r h j l =
+    let p = position-at w es h in
+    by-test (named w (at es j))
+    (λ t.
+    let e = position-same es r j (position w es) l (p .0) (same-eq (at es j .name) w t ∙ sym (p .1)) in
+    t ∙ sym (eq-eqb j (position w es) e))
+    (λ t.
+    t
+    ∙ sym
+    (ne-eqb j (position w es)
+    (λ e.
+    let s : named w (at es j) ≡ true = rw (e, p .1) (same-refl w) in
+    false≢true (sym t ∙ s))))
 
 -- the matches of a prefix stand between its two places
 begun-not-below : (p w : List ℕ) → begins p w ≡ true → below w p ≡ false

@@ -85,9 +85,9 @@ pub use trie_calls::write_trie;
 // The panel, as defined in `crates/panel/specs/Panel.antt`.
 
 // press(book: &[u8], panel: &mut Panel, key: u8) -> Pressed
-// A key: the lent state is updated in place, and its rows are told: `press`.
+// A key: the lent state is updated in place, from the row with the held name, and its rows are told: `press`.
 pub use panel_calls::press;
-// The lent state: { text, len, highlight, rows }.
+// The lent state: { text, len, highlight, rows, held, held_len }.
 pub use panel::Panel;
 // Refused(number), or Rows(count).
 pub use answer::Pressed;

@@ -1,1 +1,2 @@
+pub mod Highlight
 pub mod Refused

@@ -1,2 +1,3 @@
+pub mod Highlight
 pub mod Panel
 pub mod Worked

@@ -1,4 +1,4 @@
--- The panel's typing state and its keys (document 01, "Sheet, finding, panel, program").
+-- The panel's typing state and its keys (document 01, "Sheet, finding, panel, program"; document 02, request b).
 use Prim.Native.Nat.{_+_, _-_, min, ℕ}
 use mathlib.Core.Bool.{Bool, _&&_, _||_, not}
 use mathlib.Core.List.{List, [], _++_, _∷_}
@@ -7,9 +7,9 @@ use lib.ListN.{length, replicate, take}
 use mathlib.Core.Path.{_≡_}
 use Rattle.octets.specs.Lists.{any, if_then_else_}
 use Rattle.entries.specs.Completion.{completion}
-use Rattle.entries.specs.Entries.{Entry, at}
-use Rattle.entries.specs.Names.{isPrefix, longestName}
-use Rattle.answer.specs.Answers.{Answer, _when_, onAnswer, unless}
+use Rattle.entries.specs.Entries.{Entry, at, holds, position}
+use Rattle.entries.specs.Names.{isName, isPrefix, longestName}
+use Rattle.answer.specs.Answers.{Answer, Check, _when_, onAnswer, unless}
 use Rattle.book.specs.Book.{inBook, isBook}
 use Rattle.panel.specs.declared.Panel.{Panel}
 use Rattle.answer.specs.declared.Pressed.{Pressed}
@@ -30,9 +30,26 @@ panelCount = 5
 abbrev pub offeredFor : List Entry → List ℕ → List Entry
 offeredFor es w = completion es w panelCount
 
--- a row past the last is lowered to it, 0 without rows
+-- the name on the highlighted row; without rows the empty one, that of `noEntry`
+abbrev pub highlighted : List Entry → Typing → List ℕ
+highlighted es t = at (offeredFor es (t .typed)) (t .row) .name
+
+-- a row number past the last row of those offered is lowered to it, to 0 without rows
+abbrev pub lowerTo : List Entry → ℕ → ℕ
+lowerTo offered row = min row (length offered - 1)
+
 unfoldable pub lowered : List Entry → Typing → Typing
-lowered es t = typing (t .typed) (min (t .row) (length (offeredFor es (t .typed)) - 1))
+lowered es t = typing (t .typed) (lowerTo (offeredFor es (t .typed)) (t .row))
+
+-- the row that has a name; another row if the name is not offered
+abbrev pub rowWith : List ℕ → List Entry → ℕ → ℕ
+rowWith w offered other = if holds w offered then position w offered else other
+
+-- the highlight goes to the row that has the held name; if it is not offered, as one of length 0 never is, the row
+-- number is lowered
+unfoldable pub onHeld : List Entry → List ℕ → Typing → Typing
+onHeld es held t =
+    let offered = offeredFor es (t .typed) in typing (t .typed) (rowWith held offered (lowerTo offered (t .row)))
 
 -- keys 20 to 7E append
 abbrev pub appends : ℕ → Bool
@@ -54,15 +71,13 @@ abbrev pub raised : Typing → Typing
 raised t = typing (t .typed) (t .row - 1)
 
 abbrev pub movedDown : List Entry → Typing → Typing
-movedDown es t = typing (t .typed) (min (t .row + 1) (length (offeredFor es (t .typed)) - 1))
+movedDown es t = typing (t .typed) (lowerTo (offeredFor es (t .typed)) (t .row + 1))
 
 -- take the highlighted name, if there are rows
 abbrev pub nameTaken : List Entry → Typing → Typing
-nameTaken es t =
-    let offered = offeredFor es (t .typed) in
-    if eqb (length offered) 0 then t else typing (at offered (t .row) .name) 0
+nameTaken es t = if eqb (length (offeredFor es (t .typed))) 0 then t else typing (highlighted es t) 0
 
--- what a listed key does to the text and the row, once the row is lowered; 00 only recounts
+-- what a listed key does to the text and the row, once the highlight is on the held name or lowered; 00 only recounts
 unfoldable pub acts : List Entry → ℕ → Typing → Typing
 acts es key t =
     if appends key then appended key t
@@ -72,19 +87,29 @@ acts es key t =
     else if eqb key 0x0D then nameTaken es t
     else t
 
--- the state afterwards: bytes past the text are zero, the rows are counted
+-- 48 bytes: a text, zeros behind it
+abbrev pub padded : List ℕ → List ℕ
+padded w = w ++ replicate (longestName - length w) 0
+
+-- the state afterwards: bytes past the text and past the held name are zero, the rows are counted, the held name is the
+-- highlighted one
 unfoldable pub panelOf : List Entry → Typing → Panel
 panelOf es t =
     record {
-      text = t .typed ++ replicate (longestName - length (t .typed)) 0;
+      text = padded (t .typed);
       len = length (t .typed);
       highlight = t .row;
       rows = length (offeredFor es (t .typed));
+      held = padded (highlighted es t);
+      «held_len» = length (highlighted es t);
     }
 
--- the typed part of the text, which is all of it that is read
+-- the typed part of the text and the held name, which is all of either that is read
 abbrev pub typedIn : Panel → List ℕ
 typedIn p = take (p .len) (p .text)
+
+abbrev pub heldIn : Panel → List ℕ
+heldIn p = take (p .«held_len») (p .held)
 
 -- what a panel holds for a key to work on
 abbrev pub typingIn : Panel → Typing
@@ -94,25 +119,34 @@ typingIn p = typing (typedIn p) (p .highlight)
 abbrev pub isTyped : Panel → Bool
 isTyped p = leb (p .len) longestName && isPrefix (typedIn p)
 
+-- the held name has length 0, or is an allowed one of at most 48 bytes
+abbrev pub isHeld : Panel → Bool
+isHeld p = eqb (p .«held_len») 0 || (leb (p .«held_len») longestName && isName (heldIn p))
+
 -- an answer, the number of rows, and the panel afterwards
 pub record AfterKey : Type 0 where
   pub answer : Answer ℕ
   pub panel : Panel
 
--- a key: rows are counted and the highlight lowered before it acts and after
-unfoldable pub press : List ℕ → Panel → ℕ → AfterKey
-press book p key =
-    let es = inBook book in
-    let new = panelOf es (lowered es (acts es key (lowered es (typingIn p)))) in
-    let answer =
-    unless
-    (1 when not (isBook book)
-    ∷ 2 when not (isTyped p)
+-- what a key leads to: rows are counted before it acts, where the highlight goes to the held name or is lowered, and
+-- again after, where it is lowered
+abbrev pub typingAfter : List Entry → Panel → ℕ → Typing
+typingAfter es p key = lowered es (acts es key (onHeld es (heldIn p) (typingIn p)))
+
+-- what a key is refused for
+abbrev pub keyChecks : List ℕ → Panel → ℕ → List Check
+keyChecks book p key =
+    1 when not (isBook book)
+    ∷ 2 when not (isTyped p && isHeld p)
     ∷ 8 when not (isListed key)
     ∷ 9 when (appends key && leb longestName (p .len))
-    ∷ [])
-    (new .rows)
-    in
+    ∷ []
+
+-- a key: its answer, and the panel that it leaves
+unfoldable pub press : List ℕ → Panel → ℕ → AfterKey
+press book p key =
+    let new = panelOf (inBook book) (typingAfter (inBook book) p key) in
+    let answer = unless (keyChecks book p key) (new .rows) in
     record { answer = answer; panel = onAnswer answer p new }
 
 -- a key answers r and leaves the panel `left`, as its definition says

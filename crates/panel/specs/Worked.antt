@@ -7,35 +7,65 @@ use Rattle.octets.specs.Octets.{be, fromBe}
 use Rattle.octets.specs.Table.{Row, _gives_, failing}
 use Rattle.octets.specs.Text.{text}
 use Rattle.entries.specs.Completion.{completion}
-use Rattle.entries.specs.Entries.{valid}
+use Rattle.entries.specs.Entries.{entry, valid, with, without}
 use Rattle.entries.specs.Names.{allowedBytes, isName, isPrefix, isScore}
 use Rattle.book.specs.Records.{recordLength, recordName, recordOf}
 use Rattle.book.specs.Book.{bookImage, entriesIn, imageIn, offset, offsets, peak, peaks, readBook, readIn, recordsAt}
 use Rattle.book.specs.Book.{scores}
 use Rattle.frame.specs.Frame.{countOf, framed, readAs}
-use Rattle.book.specs.Shown.{P1, P3, changed, letters, shownLength, spare}
+use Rattle.book.specs.Shown.{E, P1, P3, changed, letters, shownLength, spare}
 use Rattle.panel.specs.declared.Panel.{Panel}
-use Rattle.panel.specs.Panel.{acts, lowered, panelOf, press}
+use Rattle.panel.specs.Panel.{acts, lowered, onHeld, panelOf, press}
 
--- a panel before a key: the typed text, bytes that are not read behind it, the highlighted row, rows that are not read
+-- a panel before a key: the typed text, the highlighted row and the held name; bytes behind both and rows that are not
+-- read
+abbrev holding : List ℕ → ℕ → List ℕ → Panel
+holding w row h =
+    record {
+      text = w ++ spare (48 - length w);
+      len = length w;
+      highlight = row;
+      rows = 99;
+      held = h ++ spare (48 - length h);
+      «held_len» = length h;
+    }
+
 abbrev before : List ℕ → ℕ → Panel
-before w row = record { text = w ++ spare (48 - length w); len = length w; highlight = row; rows = 99 }
+before w row = holding w row []
 
--- a panel whose length is over 48
+-- a panel of 48 bytes of text and of name that says that they are so long
+abbrev saying : ℕ → ℕ → Panel
+saying n m =
+    record {
+      text = replicate 48 0x78;
+      len = n;
+      highlight = 1;
+      rows = 99;
+      held = replicate 48 0x78;
+      «held_len» = m;
+    }
+
+-- one of the two lengths is over 48
 abbrev tooLong : ℕ → Panel
-tooLong n = record { text = replicate 48 0x78; len = n; highlight = 1; rows = 99 }
+tooLong n = saying n 1
+
+abbrev holdsTooLong : ℕ → Panel
+holdsTooLong m = saying 1 m
 
 -- A key as numbers: the refusal or 0, the rows reported, then the panel.
 abbrev shownPanel : Panel → List ℕ
-shownPanel p = p .len ∷ p .highlight ∷ p .rows ∷ p .text
+shownPanel p = (p .len ∷ p .highlight ∷ p .rows ∷ p .text) ++ (p .«held_len» ∷ p .held)
 
 abbrev key : List ℕ → Panel → ℕ → List ℕ
 key book p c = shownLength (press book p c .answer) ++ shownPanel (press book p c .panel)
 
--- an accepted key leaves this text, row and rows, zeros behind the text, and reports the rows; a refused one leaves the
--- panel
-abbrev leaves : List ℕ → ℕ → ℕ → List ℕ
-leaves w row rows = 0 ∷ rows ∷ length w ∷ row ∷ rows ∷ w ++ replicate (48 - length w) 0
+-- an accepted key leaves this text, row, rows and held name, zeros behind the text and the name, and reports the rows;
+-- a refused one leaves the panel
+abbrev zeros : List ℕ → List ℕ
+zeros w = replicate (48 - length w) 0
+
+abbrev leaves : List ℕ → ℕ → ℕ → List ℕ → List ℕ
+leaves w row rows h = (0 ∷ rows ∷ length w ∷ row ∷ rows ∷ w ++ zeros w) ++ (length h ∷ h ++ zeros h)
 
 abbrev refuses : ℕ → Panel → List ℕ
 refuses n p = n ∷ 0 ∷ shownPanel p
@@ -48,48 +78,98 @@ seven = bookImage (letters 0x61 (replicate 7 0))
 abbrev moving : List Row
 moving =
     -- 00 only recounts; a highlight past the last row is lowered to it, to 0 without rows
-    (key (P3 ++ spare 3) (before (text "r") 1) 0x00 gives leaves (text "r") 1 3)
-    ∷ (key P3 (before (text "r") 2) 0x00 gives leaves (text "r") 2 3)
-    ∷ (key P3 (before (text "r") 3) 0x00 gives leaves (text "r") 2 3)
-    ∷ (key P3 (before (text "r") 4294967296) 0x00 gives leaves (text "r") 2 3)
-    ∷ (key P3 (before (text "q") 3) 0x00 gives leaves (text "q") 0 0)
-    ∷ (key P1 (before [] 3) 0x00 gives leaves [] 0 0)
+    (key (P3 ++ spare 3) (before (text "r") 1) 0x00 gives leaves (text "r") 1 3 (text "rc"))
+    ∷ (key P3 (before (text "r") 2) 0x00 gives leaves (text "r") 2 3 (text "rc step"))
+    ∷ (key P3 (before (text "r") 3) 0x00 gives leaves (text "r") 2 3 (text "rc step"))
+    ∷ (key P3 (before (text "r") 4294967296) 0x00 gives leaves (text "r") 2 3 (text "rc step"))
+    ∷ (key P3 (before (text "q") 3) 0x00 gives leaves (text "q") 0 0 [])
+    ∷ (key P1 (before [] 3) 0x00 gives leaves [] 0 0 [])
     -- up: from row 1, from row 0, from a row past the last
-    ∷ (key P3 (before (text "r") 1) 0x01 gives leaves (text "r") 0 3)
-    ∷ (key P3 (before (text "r") 0) 0x01 gives leaves (text "r") 0 3)
-    ∷ (key P3 (before (text "r") 7) 0x01 gives leaves (text "r") 1 3)
+    ∷ (key P3 (before (text "r") 1) 0x01 gives leaves (text "r") 0 3 (text "rl"))
+    ∷ (key P3 (before (text "r") 0) 0x01 gives leaves (text "r") 0 3 (text "rl"))
+    ∷ (key P3 (before (text "r") 7) 0x01 gives leaves (text "r") 1 3 (text "rc"))
     -- down: from row 1, from the last row, from a row past it, without rows
-    ∷ (key P3 (before (text "r") 1) 0x02 gives leaves (text "r") 2 3)
-    ∷ (key P3 (before (text "r") 2) 0x02 gives leaves (text "r") 2 3)
-    ∷ (key P3 (before (text "r") 7) 0x02 gives leaves (text "r") 2 3)
-    ∷ (key P3 (before (text "q") 0) 0x02 gives leaves (text "q") 0 0)
+    ∷ (key P3 (before (text "r") 1) 0x02 gives leaves (text "r") 2 3 (text "rc step"))
+    ∷ (key P3 (before (text "r") 2) 0x02 gives leaves (text "r") 2 3 (text "rc step"))
+    ∷ (key P3 (before (text "r") 7) 0x02 gives leaves (text "r") 2 3 (text "rc step"))
+    ∷ (key P3 (before (text "q") 0) 0x02 gives leaves (text "q") 0 0 [])
     -- five rows at most
-    ∷ (key seven (before [] 6) 0x00 gives leaves [] 4 5)
-    ∷ (key seven (before [] 4) 0x02 gives leaves [] 4 5)
+    ∷ (key seven (before [] 6) 0x00 gives leaves [] 4 5 (text "e"))
+    ∷ (key seven (before [] 4) 0x02 gives leaves [] 4 5 (text "e"))
     ∷ []
 
 abbrev typingKeys : List Row
 typingKeys =
     -- append: the highlight is 0 again
-    (key P3 (before (text "r") 2) 0x63 gives leaves (text "rc") 0 2)
-    ∷ (key P3 (before (text "rc") 1) 0x20 gives leaves (text "rc ") 0 1)
-    ∷ (key P3 (before (text "r") 1) 0x7E gives leaves (text "r~") 0 0)
-    ∷ (key P3 (before [] 9) 0x61 gives leaves (text "a") 0 1)
+    (key P3 (before (text "r") 2) 0x63 gives leaves (text "rc") 0 2 (text "rc"))
+    ∷ (key P3 (before (text "rc") 1) 0x20 gives leaves (text "rc ") 0 1 (text "rc step"))
+    ∷ (key P3 (before (text "r") 1) 0x7E gives leaves (text "r~") 0 0 [])
+    ∷ (key P3 (before [] 9) 0x61 gives leaves (text "a") 0 1 (text "ac"))
     -- append at 47 bytes; erase and recount at 48
-    ∷ (key P3 (before (replicate 47 0x78) 0) 0x78 gives leaves (replicate 48 0x78) 0 0)
-    ∷ (key P3 (before (replicate 48 0x78) 0) 0x08 gives leaves (replicate 47 0x78) 0 0)
-    ∷ (key P3 (before (replicate 48 0x78) 0) 0x00 gives leaves (replicate 48 0x78) 0 0)
+    ∷ (key P3 (before (replicate 47 0x78) 0) 0x78 gives leaves (replicate 48 0x78) 0 0 [])
+    ∷ (key P3 (before (replicate 48 0x78) 0) 0x08 gives leaves (replicate 47 0x78) 0 0 [])
+    ∷ (key P3 (before (replicate 48 0x78) 0) 0x00 gives leaves (replicate 48 0x78) 0 0 [])
     -- erase; on empty text the highlight stays, or is lowered
-    ∷ (key P3 (before (text "rc") 1) 0x08 gives leaves (text "r") 0 3)
-    ∷ (key P3 (before (text "r") 2) 0x08 gives leaves [] 0 4)
-    ∷ (key P3 (before [] 2) 0x08 gives leaves [] 2 4)
-    ∷ (key P3 (before [] 7) 0x08 gives leaves [] 3 4)
+    ∷ (key P3 (before (text "rc") 1) 0x08 gives leaves (text "r") 0 3 (text "rl"))
+    ∷ (key P3 (before (text "r") 2) 0x08 gives leaves [] 0 4 (text "rl"))
+    ∷ (key P3 (before [] 2) 0x08 gives leaves [] 2 4 (text "rc step"))
+    ∷ (key P3 (before [] 7) 0x08 gives leaves [] 3 4 (text "ac"))
     -- take the highlighted name; past the last row the last; no change without rows
-    ∷ (key P3 (before (text "r") 1) 0x0D gives leaves (text "rc") 0 2)
-    ∷ (key P3 (before [] 3) 0x0D gives leaves (text "ac") 0 1)
-    ∷ (key P3 (before (text "r") 7) 0x0D gives leaves (text "rc step") 0 1)
-    ∷ (key seven (before [] 6) 0x0D gives leaves (text "e") 0 1)
-    ∷ (key P3 (before (text "q") 7) 0x0D gives leaves (text "q") 0 0)
+    ∷ (key P3 (before (text "r") 1) 0x0D gives leaves (text "rc") 0 2 (text "rc"))
+    ∷ (key P3 (before [] 3) 0x0D gives leaves (text "ac") 0 1 (text "ac"))
+    ∷ (key P3 (before (text "r") 7) 0x0D gives leaves (text "rc step") 0 1 (text "rc step"))
+    ∷ (key seven (before [] 6) 0x0D gives leaves (text "e") 0 1 (text "e"))
+    ∷ (key P3 (before (text "q") 7) 0x0D gives leaves (text "q") 0 0 [])
+    ∷ []
+
+-- E after an edit: ra added, of the highest score
+abbrev added : List ℕ
+added = bookImage (with (entry (text "ra") 20) E)
+
+-- rl withdrawn
+abbrev withdrawn : List ℕ
+withdrawn = bookImage (without (text "rl") E)
+
+-- rc withdrawn
+abbrev gone : List ℕ
+gone = bookImage (without (text "rc") E)
+
+-- rc given the lowest score
+abbrev rescored : List ℕ
+rescored = bookImage (with (entry (text "rc") 1) E)
+
+-- a book of one name of 48 bytes
+abbrev longest : List ℕ
+longest = bookImage (entry (replicate 48 0x78) 7 ∷ [])
+
+abbrev holdingKeys : List Row
+holdingKeys =
+    -- the held name wins over the row number
+    (key P3 (holding (text "r") 0 (text "rc step")) 0x00 gives leaves (text "r") 2 3 (text "rc step"))
+    ∷ (key P3 (holding (text "r") 9 (text "rl")) 0x00 gives leaves (text "r") 0 3 (text "rl"))
+    -- the book was edited while rc was highlighted on row 1: recounted, up, down, taken
+    ∷ (key added (holding (text "r") 1 (text "rc")) 0x00 gives leaves (text "r") 2 4 (text "rc"))
+    ∷ (key added (holding (text "r") 1 (text "rc")) 0x01 gives leaves (text "r") 1 4 (text "rl"))
+    ∷ (key added (holding (text "r") 1 (text "rc")) 0x02 gives leaves (text "r") 3 4 (text "rc step"))
+    ∷ (key added (holding (text "r") 1 (text "rc")) 0x0D gives leaves (text "rc") 0 2 (text "rc"))
+    ∷ (key withdrawn (holding (text "r") 1 (text "rc")) 0x00 gives leaves (text "r") 0 2 (text "rc"))
+    ∷ (key rescored (holding (text "r") 1 (text "rc")) 0x00 gives leaves (text "r") 2 3 (text "rc"))
+    -- no longer offered: withdrawn, sixth of seven, not begun by the text; the row number is lowered
+    ∷ (key gone (holding (text "r") 1 (text "rc")) 0x00 gives leaves (text "r") 1 2 (text "rc step"))
+    ∷ (key gone (holding (text "r") 2 (text "rc")) 0x0D gives leaves (text "rc step") 0 1 (text "rc step"))
+    ∷ (key seven (holding [] 2 (text "f")) 0x00 gives leaves [] 2 5 (text "c"))
+    ∷ (key seven (holding [] 9 (text "f")) 0x00 gives leaves [] 4 5 (text "e"))
+    ∷ (key P3 (holding (text "r") 2 (text "ac")) 0x00 gives leaves (text "r") 2 3 (text "rc step"))
+    ∷ (key P3 (holding (text "r") 1 (text "r")) 0x00 gives leaves (text "r") 1 3 (text "rc"))
+    -- append and erase: the name on the first row is held
+    ∷ (key P3 (holding (text "r") 2 (text "rc step")) 0x63 gives leaves (text "rc") 0 2 (text "rc"))
+    ∷ (key P3 (holding (text "r") 2 (text "rc step")) 0x08 gives leaves [] 0 4 (text "rl"))
+    -- keys that do nothing themselves: 08 on empty text, 0D without rows
+    ∷ (key P3 (holding [] 0 (text "ac")) 0x08 gives leaves [] 3 4 (text "ac"))
+    ∷ (key P3 (holding (text "q") 3 (text "rc")) 0x0D gives leaves (text "q") 0 0 [])
+    -- a name of 48 bytes, and one of 48 allowed bytes that no book has
+    ∷ (key longest (holding [] 1 (replicate 48 0x78)) 0x00 gives leaves [] 0 1 (replicate 48 0x78))
+    ∷ (key P3 (holding [] 1 (replicate 48 0x7E)) 0x00 gives leaves [] 1 4 (text "rc"))
     ∷ []
 
 abbrev refusing : List Row
@@ -108,16 +188,24 @@ refusing =
     ∷ (key P3 (tooLong 4294967296) 0x7F gives refuses 2 (tooLong 4294967296))
     ∷ (key P3 (before (text "r\u{7f}") 1) 0x00 gives refuses 2 (before (text "r\u{7f}") 1))
     ∷ (key P3 (before (text "\u{1f}r") 1) 0x03 gives refuses 2 (before (text "\u{1f}r") 1))
+    -- 2: a held name longer than 48 bytes, or with a byte that is not allowed; before 8 and 9
+    ∷ (key P3 (holdsTooLong 49) 0x00 gives refuses 2 (holdsTooLong 49))
+    ∷ (key P3 (holdsTooLong 4294967296) 0x7F gives refuses 2 (holdsTooLong 4294967296))
+    ∷ (key P3 (holding (text "r") 1 (text "rc\u{7f}")) 0x63 gives refuses 2 (holding (text "r") 1 (text "rc\u{7f}")))
+    ∷ (key P3 (holding (text "r") 1 (text "\u{1f}")) 0x7F gives refuses 2 (holding (text "r") 1 (text "\u{1f}")))
+    ∷ (key P3 (holding (replicate 48 0x78) 1 (0x00 ∷ [])) 0x78 gives refuses 2
+    (holding (replicate 48 0x78) 1 (0x00 ∷ [])))
     -- 1: no book, before all
     ∷ (key (take 43 P3) (before (text "r") 1) 0x00 gives refuses 1 (before (text "r") 1))
     ∷ (key (changed P3 26 (1 ∷ [])) (tooLong 49) 0x7F gives refuses 1 (tooLong 49))
+    ∷ (key (take 43 P3) (holdsTooLong 49) 0x00 gives refuses 1 (holdsTooLong 49))
     ∷ []
 
 abbrev table : List Row
-table = moving ++ typingKeys ++ refusing
+table = moving ++ typingKeys ++ holdingKeys ++ refusing
 
 worked : failing 0 table ≡ []
 unfolding be fromBe allowedBytes isPrefix isName isScore valid completion recordOf recordName recordLength framed
-    countOf readAs scores peak peaks recordsAt offset offsets imageIn entriesIn readIn bookImage readBook lowered acts
-    panelOf press
+    countOf readAs scores peak peaks recordsAt offset offsets imageIn entriesIn readIn bookImage readBook lowered
+    onHeld acts panelOf press
 worked = refl

@@ -1,20 +1,11 @@
 // The panel's keys, over a panel by value.
 use answer::Pressed;
 use frame_code::Image;
-use limits::KEY_DOWN;
-use limits::KEY_ERASE;
-use limits::KEY_TAKE;
-use limits::KEY_UP;
 ghost use mathlib.Core.Path.{_≡_};
-ghost use mathlib.Core.Bool.{true};
-ghost use Prim.Native.Nat.{_<_};
-ghost use Rattle.entries.specs.Names.{longestName};
 ghost use Rattle.book.specs.Book.{inBook};
 ghost use Rattle.book_laws.specs.Held.{Held};
-ghost use Rattle.panel.specs.Panel.{PressedAs, acts, appends, press, typingIn};
-ghost use Rattle.panel_typing.specs.Typing.{Typed};
-ghost use Rattle.panel_keys.specs.Keys.{refusal};
-ghost use Rattle.panel_rows.specs.Rows.{RowsCounted};
+ghost use Rattle.panel.specs.Panel.{PressedAs, panelOf, press, typingAfter};
+ghost use Rattle.panel_keys.specs.Keys.{Ready, refusal};
 
 // The panel and the answer after a key.
 pub struct KeyDone {
@@ -22,27 +13,23 @@ pub struct KeyDone {
     pub answer: Pressed,
 }
 
-// What a listed key does to the text and the highlight.
+// The panel after a key. What is offered before it is looked at only where the key depends on it.
 fn act(book: &[u8], n: usize, p: panel::Panel, key: u8) -> panel::Panel
-    requires { ⌜ Held (now book) n × RowsCounted (inBook (now book)) p × (appends key ≡ true → p .len < longestName) ⌝ }
-    ensures { λ r. ⌜ Typed (acts (inBook (now (book .entry))) key (typingIn p)) r ⌝ }
+    requires { ⌜ Held (now book) n × Ready p key ⌝ }
+    ensures { λ r. ⌜ r ≡ panelOf (inBook (now (book .entry))) (typingAfter (inBook (now (book .entry))) p key) ⌝ }
 {
-    if panel_typing::appends(key) {
-        return panel_typing::append(p, key);
+    if panel_typing::changes_text(p.len, key) {
+        return panel_show::show_first(book, n, panel_typing::change_text(p, key));
     }
-    if key == KEY_ERASE {
-        return panel_typing::erase(p);
+    let s = panel_rows::rows_of(book, n, p);
+    let lowered = panel_typing::lower(p.highlight, s.count);
+    let row = panel_rows::held_row(book, n, p, s, lowered);
+    if panel_typing::takes(key, s.count) {
+        let taken = panel_show::take_name(book, n, p, panel_rows::row_at(s, row));
+        return panel_show::show_first(book, n, taken);
     }
-    if key == KEY_UP {
-        return panel_typing::up(p);
-    }
-    if key == KEY_DOWN {
-        return panel_rows::down(book, p);
-    }
-    if key == KEY_TAKE {
-        return panel_rows::take_name(book, n, p);
-    }
-    p
+    let to = panel_typing::moved(key, row, s.count);
+    panel_show::show(book, n, p, panel_rows::row_at(s, to))
 }
 
 // A refusal, which leaves the panel as it was.
@@ -55,7 +42,7 @@ fn refuse(p: panel::Panel, number: u8) -> KeyDone
     }
 }
 
-// A key, over a panel by value: the checks in the table's order, the rows counted before the key acts and again after.
+// A key, over a panel by value: the checks in the table's order, then what the key does.
 pub fn step_in(book: &[u8], p: panel::Panel, key: u8) -> KeyDone
     ensures { λ r. ⌜ PressedAs (press (now (book .entry)) p key) (r .answer) (r .panel) ⌝ }
 {
@@ -65,14 +52,16 @@ pub fn step_in(book: &[u8], p: panel::Panel, key: u8) -> KeyDone
     if !panel_typing::is_typed(p) {
         return refuse(p, 2);
     }
+    if !panel_typing::is_held(p) {
+        return refuse(p, 2);
+    }
     if !panel_typing::is_listed(key) {
         return refuse(p, 8);
     }
-    let before = panel_rows::settle(book, n, p);
-    if panel_typing::is_full(p, key) {
+    if panel_typing::is_full(p.len, key) {
         return refuse(p, 9);
     }
-    let after = panel_rows::settle(book, n, act(book, n, before, key));
+    let after = act(book, n, p, key);
     KeyDone {
         panel: after,
         answer: Pressed::Rows(after.rows),

@@ -1,111 +1,183 @@
--- The rows of a panel: how many are offered, and the name in one of them.
+-- The rows of a panel: the positions that completion offers, and the row of a name among them.
 use Prim.Native.Nat.{_+_, _-_, _<_, _≤_, min, suc, zero, ℕ}
 use mathlib.Core.Path.{_∙_, _≡_, ap, refl, sym}
-use mathlib.Core.Bool.{false, true}
+use mathlib.Core.Logic.{inl, inr}
+use mathlib.Core.Bool.{false, false≢true, true}
 use mathlib.Core.List.{List, [], _∷_, map}
-use lib.ListN.{getD, length, length-map, length-take}
+use lib.Dec.{eqb, ltb}
+use lib.ListN.{drop, drop-of-length-le, getD, length, length-map, length-take, take}
 use lib.Seq.{getD-take, length-take-le}
 use native.Mathlib.Omega.{arith}
-use borrow.Author.Tests.{eq-eqb, ne-eqb}
+use borrow.Author.Tests.{eq-eqb, eqb-false, eqb-true, le-ltb, lt-ltb, ne-eqb}
+use Rattle.octets.specs.Lists.{_∈_}
 use Rattle.octets.proofs.Lists.{get-in, sort-length}
+use Rattle.octets.proofs.Order.{same-eq}
+use Rattle.octets.proofs.Tests.{by-test, suc-ltb}
+use Rattle.octets_code.proofs.Loops.{drop-next}
 use Rattle.entries.specs.Completion.{completion, matches, maxCount}
-use Rattle.entries.specs.Entries.{Entry, at, byRank, outranks, rising}
-use Rattle.entries.specs.Names.{longestName}
+use Rattle.entries.specs.Entries.{Entry, at, byRank, holds, named, noEntry, outranks, position, rising}
+use Rattle.entries.proofs.BestList.{in-holds}
+use Rattle.entries.proofs.Valid.{no-entry}
 use Rattle.entries_laws.specs.Place.{place}
-use Rattle.entries_laws.proofs.Place.{place-matches}
+use Rattle.entries_laws.proofs.Place.{named-at, place-matches}
+use Rattle.completion.specs.declared.Range.{Range}
+use Rattle.completion.specs.Machine.{machine, openRange}
 use Rattle.completion.proofs.Machine.{machine-inside, machine-promise}
 use Rattle.completion_turn.specs.declared.Progress.{Progress}
 use Rattle.completion_turn.specs.Turns.{soFar}
-use Rattle.completion_book.specs.Offers.{Offers}
-use Rattle.panel.specs.declared.Panel.{Panel}
-use Rattle.panel.specs.Panel.{movedDown, nameTaken, offeredFor, panelCount, typedIn, typingIn}
-use Rattle.panel_typing.specs.Typing.{Typed}
-use Rattle.panel_rows.specs.Rows.{RowsCounted}
+use Rattle.completion_book.specs.Offers.{Offers, entriesAt}
+use Rattle.completion_book.proofs.Answering.{begun-some}
+use Rattle.panel.specs.Panel.{offeredFor, panelCount, rowWith}
+use Rattle.panel_rows.specs.declared.Row.{Row}
+use Rattle.panel_rows.specs.Rows.{OnRow, Rows, rowAt, rowOf}
 
--- all that match are offered, or k of them
-pub length-completion : (es : List Entry) (w : List ℕ) (k : ℕ)
-    → length (completion es w k) ≡ min k (length (matches w es))
-unfolding completion
-length-completion es w k = length-take k (byRank (matches w es)) ∙ ap (min k) (sort-length outranks (matches w es))
+-- what the machine offers are the rows
+module _ (es : List Entry) (w : List ℕ) (r : rising es ≡ true) (s : Progress)
+    (long : length (s .offered) ≡ maxCount) (o : Offers es w panelCount s) where
+  listed : entriesAt es (soFar s) ≡ offeredFor es w
+  listed = rw (o .offered) (machine-promise es w panelCount r .completes)
 
--- so they are counted by the text's two places
-pub rows-counted : (es : List Entry) (w : List ℕ)
-    → length (offeredFor es w) ≡ min panelCount (place true w es - place false w es)
-rows-counted es w = let m = place-matches w es in let l = length-completion es w panelCount in omega arith
+  pub rows-offered : Rows es w s
+  rows-offered =
+      let a = length-take-le (s .count) (s .offered) (omega (arith, o .few, long)) in
+      let b = length-map (soFar s) (at es) in
+      let l = ap length listed in
+      record {
+        inside = λ i m. machine-inside es w panelCount r i (rw (o .offered) at m);
+        few = o .few;
+        offered = listed;
+        count = omega (arith, a, b, l);
+      }
 
+-- one of them
 at-mapped : (es : List Entry) (is : List ℕ) (i : ℕ) → i < length is → at (map (at es) is) i ≡ at es (getD is i 0)
 at-mapped es [] i h = absurd (omega arith)
 at-mapped es (j ∷ is) zero h = refl
 at-mapped es (j ∷ is) (suc i) h = at-mapped es is i (omega arith)
 
--- the acts on the highlight and by it
-module _ (es : List Entry) (p : Panel) (c : RowsCounted es p) where
-  pub lowers-none : p .rows ≤ p .highlight + 1 → Typed (movedDown es (typingIn p)) p
-  lowers-none h =
-      let z : min (p .highlight + 1) (length (offeredFor es (typedIn p)) - 1) ≡ p .highlight = omega (
-        arith,
-        c .counted,
-        c .onRow,
-      ) in
-      record { holds = rw z; short = c .short }
+module _ (es : List Entry) (w : List ℕ) (s : Progress) (a : Rows es w s) (long : length (s .offered) ≡ maxCount)
+    (i : ℕ) (on : i ≤ s .count - 1) where
+  shown : 0 < s .count → i < length (soFar s)
+  shown some = omega (arith, length-take-le (s .count) (s .offered) (omega (arith, a .few, long)))
 
-  pub lowers-one :
-      (rows : ℕ) → p .highlight + 1 < p .rows
-      → Typed (movedDown es (typingIn p))
-      (record { text = p .text; len = p .len; highlight = p .highlight + 1; rows = rows })
-  lowers-one rows h =
-      let z : min (p .highlight + 1) (length (offeredFor es (typedIn p)) - 1) ≡ p .highlight + 1 = omega (
-        arith,
-        c .counted,
-      ) in
-      record { holds = rw z; short = c .short }
+  found : 0 < s .count → getD (soFar s) i 0 ≡ getD (s .offered) i 0
+  found some = getD-take (s .count) (s .offered) i 0 (omega arith)
 
-  pub takes-none : p .rows ≡ 0 → Typed (nameTaken es (typingIn p)) p
-  takes-none h =
-      record { holds = rw (eq-eqb (length (offeredFor es (typedIn p))) 0 (sym (c .counted) ∙ h)); short = c .short }
+  here : 0 < s .count → at es (getD (s .offered) i 0) ≡ at (offeredFor es w) i
+  here some = rw (← found some, ← a .offered) (sym (at-mapped es (soFar s) i (shown some)))
 
-  -- the highlighted row is offered from a position of the book
-  module _ (r : rising es ≡ true) (some : p .rows ≡ 0
-      → ⊥) (s : Progress) (long : length (s .offered) ≡ maxCount) (o : Offers es (typedIn p) panelCount s) where
-    listed : map (at es) (soFar s) ≡ offeredFor es (typedIn p)
-    listed = rw (o .offered) (machine-promise es (typedIn p) panelCount r .completes)
+  on-row-at : OnRow es w (rowAt s i)
+  on-row-at =
+      record {
+        rows = a .count;
+        inside = λ some.
+            a .inside (getD (s .offered) i 0) (rw (found some) at (get-in 0 (soFar s) i (shown some)));
+        name = by-test (eqb (s .count) 0)
+            (λ t. rw t (sym (no-entry (offeredFor es w) i (sym (a .count) ∙ eqb-true (s .count) 0 t))))
+            (λ t. let some = eqb-false (s .count) 0 t in rw t (ap (λ e. e .name) (here (omega (arith, some)))));
+      }
 
-    rows-are : s .count ≡ p .rows
-    rows-are =
-        let a = length-take-le (s .count) (s .offered) (omega (arith, o .few, long)) in
-        let b = length-map (soFar s) (at es) in
-        let l = ap length listed in
-        omega (arith, c .counted)
+  pub on-row-of : {r : Row} → r ≡ rowAt s i → OnRow es w r
+  on-row-of e = rw e on-row-at
 
-    row-in : p .highlight < s .count
-    row-in = omega (arith, rows-are, c .onRow)
+-- all that match are offered, or five of them: they are counted by the text's two places
+rows-counted : (es : List Entry) (w : List ℕ)
+    → length (offeredFor es w) ≡ min panelCount (place true w es - place false w es)
+unfolding completion
+rows-counted es w =
+    let l = length-take panelCount (byRank (matches w es)) in
+    let m = sort-length outranks (matches w es) in
+    omega (arith, l, m, place-matches w es)
 
-    pub row-offered : p .highlight < length (s .offered)
-    row-offered = omega (arith, row-in, o .few, long)
+-- the first row, from the text's two places
+module _ (es : List Entry) (w : List ℕ) {first end : ℕ} (f : first ≡ place false w es) (e : end ≡ place true w es) where
+  pub first-none : end ≤ first → OnRow es w (record { number = 0; rows = 0; position = 0 })
+  first-none h =
+      let none : length (offeredFor es w) ≡ 0 = omega (arith, f, e, rows-counted es w) in
+      record {
+        rows = sym none;
+        inside = λ some. absurd (omega arith);
+        name = sym (no-entry (offeredFor es w) 0 none);
+      }
 
-    abbrev position : ℕ
-    position = getD (s .offered) (p .highlight) 0
+  module _ (ri : rising es ≡ true) (l : first < end) {r : Range} (o : openRange es first end ≡ r ∷ []) where
+    -- the best of the range is offered first
+    offers-best : machine es w 1 .offered ≡ r .best ∷ []
+    unfolding machine
+    offers-best = rw (begun-some es w ri f e l o)
 
-    found : getD (soFar s) (p .highlight) 0 ≡ position
-    found = getD-take (s .count) (s .offered) (p .highlight) 0 row-in
+    first-of : (l : List Entry) → at (take 1 l) 0 ≡ at (take panelCount l) 0
+    first-of [] = refl
+    first-of (x ∷ l) = refl
 
-    counted-here : p .highlight < length (soFar s)
-    counted-here = omega (arith, row-in, length-take-le (s .count) (s .offered) (omega (arith, o .few, long)))
+    best-first : at es (r .best) ≡ at (offeredFor es w) 0
+    unfolding completion
+    best-first =
+        ap (λ is. at (map (at es) is) 0) (sym offers-best) ∙ ap (λ l. at l 0) (machine-promise es w 1 ri .completes)
+        ∙ first-of (byRank (matches w es))
 
-    pub row-inside : position < length es
-    row-inside =
-        machine-inside es (typedIn p) panelCount r position
-        (rw (o .offered) at (rw found at (get-in 0 (soFar s) (p .highlight) counted-here)))
-
-    row-entry : at (offeredFor es (typedIn p)) (p .highlight) ≡ at es position
-    row-entry = rw (← listed, ← found) (at-mapped es (soFar s) (p .highlight) counted-here)
-
-    pub takes-name :
-        {name : List ℕ} {len : ℕ} (rows : ℕ) → len ≤ longestName
-        → typedIn (record { text = name; len = len; highlight = 0; rows = rows }) ≡ at es position .name
-        → Typed (nameTaken es (typingIn p)) (record { text = name; len = len; highlight = 0; rows = rows })
-    takes-name rows h e =
+    pub first-some : {rows : ℕ} → rows ≡ min panelCount (end - first)
+        → OnRow es w (record { number = 0; rows = rows; position = r .best })
+    first-some {rows} n =
         record {
-          holds = rw (ne-eqb (length (offeredFor es (typedIn p))) 0 (λ q. some (c .counted ∙ q)), row-entry, e);
-          short = h;
+          rows = omega (arith, n, f, e, rows-counted es w);
+          inside = λ some. machine-inside es w 1 ri (r .best) (rw offers-best (inl refl));
+          name = rw (ne-eqb rows 0 (λ z. omega (arith, n))) (ap (λ x. x .name) best-first);
         }
+
+-- the row of a position, looked for from row i on: it is there, it is not, all are passed
+module _ (p : ℕ) (is : List ℕ) (i : ℕ) where
+  pub row-here : i < length is → getD is i 0 ≡ p → rowOf p (drop i is) ≡ 0
+  row-here h e = rw (drop-next is i h, eq-eqb (getD is i 0) p e)
+
+  pub row-next : i < length is → (getD is i 0 ≡ p → ⊥) → rowOf p (drop i is) ≡ suc (rowOf p (drop (i + 1) is))
+  row-next h n = rw (drop-next is i h, ne-eqb (getD is i 0) p n)
+
+  pub row-end : length is ≤ i → rowOf p (drop i is) ≡ 0
+  row-end h = rw (drop-of-length-le is {i = i} h)
+
+-- a name that the book holds is on the row of its position
+module _ (w : List ℕ) (es : List Entry) (r : rising es ≡ true) (h : holds w es ≡ true) where
+  on-row : (is : List ℕ) → ((i : ℕ) → i ∈ is → i < length es)
+      → (holds w (map (at es) is) ≡ ltb (rowOf (position w es) is) (length is))
+      × (position w (map (at es) is) ≡ rowOf (position w es) is)
+  on-row [] m = (refl, refl)
+  on-row (j ∷ is) m =
+      let e = named-at w es r h j (m j (inl refl)) in
+      let ih = on-row is (λ i l. m i (inr l)) in
+      by-test (eqb j (position w es))
+      (λ t. rw (e, t) (sym (lt-ltb 0 (suc (length is)) (omega arith)), refl))
+      (λ t. rw (e, t) (ih .0 ∙ sym (suc-ltb (rowOf (position w es) is) (length is)), ap suc (ih .1)))
+
+-- one that it does not hold is on no row
+off-rows : (w : List ℕ) (es : List Entry) → holds w es ≡ false → (is : List ℕ) → ((i : ℕ) → i ∈ is → i < length es)
+    → holds w (map (at es) is) ≡ false
+off-rows w es h [] m = refl
+off-rows w es h (j ∷ is) m =
+    by-test (named w (at es j))
+    (λ t.
+    let z = in-holds (at es j) es (get-in noEntry es j (m j (inl refl))) in
+    absurd (false≢true (sym h ∙ (rw (same-eq (at es j .name) w t) at z))))
+    (λ t. rw t (off-rows w es h is (λ i l. m i (inr l))))
+
+-- the row that has a name, among those offered for a text
+module _ (held : List ℕ) (es : List Entry) (w : List ℕ) (other : ℕ) (s : Progress) (a : Rows es w s) where
+  pub row-absent : holds held es ≡ false → other ≡ rowWith held (offeredFor es w) other
+  row-absent h = rw (← a .offered) (rw (off-rows held es h (soFar s) (a .inside)))
+
+  module _ (long : length (s .offered) ≡ maxCount) (r : rising es ≡ true) (h : holds held es ≡ true) {row : ℕ}
+      (e : row ≡ rowOf (position held es) (soFar s)) where
+    rows : length (soFar s) ≡ s .count
+    rows = length-take-le (s .count) (s .offered) (omega (arith, a .few, long))
+
+    abbrev on : holds held (map (at es) (soFar s)) ≡ ltb row (length (soFar s))
+    on = rw e (on-row held es r h (soFar s) (a .inside) .0)
+
+    pub row-found : row < s .count → row ≡ rowWith held (offeredFor es w) other
+    row-found l =
+        rw (← a .offered)
+        (rw (on, lt-ltb row (length (soFar s)) (omega (arith, rows)))
+        (e ∙ sym (on-row held es r h (soFar s) (a .inside) .1)))
+
+    pub row-none : s .count ≤ row → other ≡ rowWith held (offeredFor es w) other
+    row-none l = rw (← a .offered) (rw (on, le-ltb row (length (soFar s)) (omega (arith, rows))))

@@ -1,84 +1,105 @@
-// The panel's rows: counted, the highlight among them, and the name of the highlighted one taken.
-use limits::LONGEST_NAME;
+// The rows of a panel, as positions in the book: those offered for its text, the first alone, and the one that has the
+// held name.
 use limits::PANEL_COUNT;
+use lookup_find::Spot;
 ghost use mathlib.Core.Path.{_≡_};
-ghost use Prim.Native.Nat.{_≤_};
-ghost use lib.ListN.{length};
+ghost use Prim.Native.Nat.{_<_, _≤_};
+ghost use Rattle.entries.specs.Completion.{maxCount};
 ghost use Rattle.entries.specs.Names.{longestName};
 ghost use Rattle.book.specs.Book.{inBook};
 ghost use Rattle.book_laws.specs.Held.{Held};
-ghost use Rattle.panel.specs.Panel.{lowered, movedDown, nameTaken, offeredFor, panelOf, typingIn};
-ghost use Rattle.panel_typing.specs.Typing.{Typed};
-ghost use Rattle.panel_rows.specs.Rows.{RowsCounted};
+ghost use Rattle.panel.specs.Panel.{heldIn, offeredFor, rowWith, typedIn};
+ghost use Rattle.panel_rows.specs.Rows.{OnRow, Rows, rowAt, rowOf};
 
-// How many rows are offered for a text.
-fn count_rows(book: &[u8], n: usize, text: &[u8]) -> usize
-    requires { ⌜ Held (now book) n ⌝ }
-    ensures { λ r. ⌜ r ≡ length (offeredFor (inBook (now (book .entry))) (now (text .entry))) ⌝ }
-{
-    let first = book_find::place(book, n, text, false);
-    let end = book_find::place(book, n, text, true);
-    if end <= first {
-        return 0;
-    }
-    let matches = end - first;
-    if PANEL_COUNT < matches {
-        return PANEL_COUNT;
-    }
-    matches
+// A row: its number, how many rows there are, and the position of its name, of no account without rows.
+pub struct Row {
+    pub number: usize,
+    pub rows: usize,
+    pub position: usize,
 }
 
-// The panel with its rows counted, its highlight lowered, and zeros behind its text.
-pub fn settle(book: &[u8], n: usize, p: panel::Panel) -> panel::Panel
+// The first row of the panel's text; for the others nothing is looked at.
+pub fn first_row(book: &[u8], n: usize, p: panel::Panel) -> Row
     requires { ⌜ Held (now book) n × (p .len ≤ longestName) ⌝ }
-    ensures { λ r. ⌜ r ≡ panelOf (inBook (now (book .entry))) (lowered (inBook (now (book .entry))) (typingIn p)) ⌝ }
+    ensures { λ r. ⌜ OnRow (inBook (now (book .entry))) (typedIn p) r × (r .number ≡ 0) ⌝ }
 {
-    let len = p.len;
-    let mut text = p.text;
-    let rows = count_rows(book, n, &text[..len]);
-    let zeros = [0; LONGEST_NAME];
-    octets_code::copy(&mut text, len, &zeros);
-    panel::Panel {
-        text: text,
-        len: len,
-        highlight: panel_typing::lower(p.highlight, rows),
-        rows: rows,
-    }
-}
-
-// Moves the highlight down, stopping at the last row.
-pub fn down(book: &[u8], p: panel::Panel) -> panel::Panel
-    requires { ⌜ RowsCounted (inBook (now book)) p ⌝ }
-    ensures { λ r. ⌜ Typed (movedDown (inBook (now (book .entry))) (typingIn p)) r ⌝ }
-{
-    let row = p.highlight;
-    if p.rows <= row + 1 {
-        return p;
-    }
-    let mut q = p;
-    q.highlight = row + 1;
-    q
-}
-
-// Replaces the text by the highlighted name, if there are rows.
-pub fn take_name(book: &[u8], n: usize, p: panel::Panel) -> panel::Panel
-    requires { ⌜ Held (now book) n × RowsCounted (inBook (now book)) p ⌝ }
-    ensures { λ r. ⌜ Typed (nameTaken (inBook (now (book .entry))) (typingIn p)) r ⌝ }
-{
-    if p.rows == 0 {
-        return p;
-    }
-    let taken = p.highlight;
     let len = p.len;
     let text = p.text;
-    let s = completion_book::offers(book, n, &text[..len], PANEL_COUNT);
-    let offered = s.offered;
-    let c = book_find::cursor_at(book, n, offered[taken]);
-    let name = c.name;
-    panel::Panel {
-        text: name,
-        len: c.len,
-        highlight: 0,
-        rows: p.rows,
+    let first = book_find::place(book, n, &text[..len], false);
+    let end = book_find::place(book, n, &text[..len], true);
+    if end <= first {
+        return Row {
+            number: 0,
+            rows: 0,
+            position: 0,
+        };
     }
+    let all = completion_turn::open_range(book, n, first, end);
+    Row {
+        number: 0,
+        rows: octets_code::least(PANEL_COUNT, end - first),
+        position: all.best,
+    }
+}
+
+// What is offered for the panel's text.
+pub fn rows_of(book: &[u8], n: usize, p: panel::Panel) -> completion_turn::Progress
+    requires { ⌜ Held (now book) n × (p .len ≤ longestName) ⌝ }
+    ensures { λ s. ⌜ Rows (inBook (now (book .entry))) (typedIn p) s ⌝ }
+{
+    let len = p.len;
+    let text = p.text;
+    completion_book::offers(book, n, &text[..len], PANEL_COUNT)
+}
+
+// One of the rows, by its number.
+pub fn row_at(s: completion_turn::Progress, number: usize) -> Row
+    requires { ⌜ number < maxCount ⌝ }
+    ensures { λ r. ⌜ r ≡ rowAt s number ⌝ }
+{
+    let offered = s.offered;
+    Row {
+        number: number,
+        rows: s.count,
+        position: offered[number],
+    }
+}
+
+// The row of a position; the number of rows if it is in none of them.
+fn row_of(rows: &[usize], position: usize) -> usize
+    ensures { λ r. ⌜ r ≡ rowOf position (now (rows .entry)) ⌝ }
+{
+    let mut i = 0;
+    while i < rows.len() {
+        if rows[i] == position {
+            return i;
+        }
+        i += 1;
+    }
+    i
+}
+
+// The row that has the held name; another row if the name is not offered.
+pub fn held_row(
+    book: &[u8],
+    n: usize,
+    p: panel::Panel,
+    s: completion_turn::Progress,
+    other: usize,
+) -> usize
+    requires { ⌜ Held (now book) n × Rows (inBook (now book)) (typedIn p) s × (p .«held_len» ≤ longestName) ⌝ }
+    ensures { λ r. ⌜ r ≡ rowWith (heldIn p) (offeredFor (inBook (now (book .entry))) (typedIn p)) other ⌝ }
+{
+    let held = p.held;
+    let len = p.held_len;
+    let Spot::Held(position) = lookup_find::look_up(book, n, &held[..len]) else {
+        return other;
+    };
+    let offered = s.offered;
+    let count = s.count;
+    let row = row_of(&offered[..count], position);
+    if row < count {
+        return row;
+    }
+    other
 }

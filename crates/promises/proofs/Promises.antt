@@ -29,6 +29,7 @@ use Rattle.sheet.proofs.Reading.{sheet-exact}
 use Rattle.sheet.proofs.RoundTrip.{round-trips}
 use Rattle.sheet.proofs.Size.{sheet-length}
 use Rattle.panel.specs.Panel.{press}
+use Rattle.panel.proofs.Highlight.{holds-its-name, stays-on-its-name}
 use Rattle.panel.proofs.Refused.{press-refused}
 use Rattle.ledger.specs.Marked.{marked}
 use Rattle.ledger.proofs.Demand.{demand3, offers-best, trie-completes}
@@ -98,4 +99,6 @@ promises =
       inParts = in-parts;
       merged = merged;
       merging = λ first second. writes _ _ _ (λ dst. refl);
+      holdsItsName = holds-its-name;
+      staysOnItsName = stays-on-its-name;
     }

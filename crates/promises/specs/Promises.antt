@@ -1,5 +1,5 @@
--- Every promise on one page: the three demands and request a, in the order and words of documents 01 and 02. One value
--- proves them all, `promises` in proofs/Promises.antt.
+-- Every promise on one page: the three demands and requests a and b, in the order and words of documents 01 and 02. One
+-- value proves them all, `promises` in proofs/Promises.antt.
 use Prim.Native.Nat.{_*_, _≤_, ℕ}
 use mathlib.Core.Path.{_≡_}
 use mathlib.Core.Bool.{_&&_, _||_, not, true}
@@ -23,7 +23,8 @@ use Rattle.trie.specs.Reading.{readTrie}
 use Rattle.trie.specs.Trie.{trieImage}
 use Rattle.sheet.specs.Sheet.{RoundTrips, buildBook, inSheet, listBook, readSheet, sheetImage}
 use Rattle.panel.specs.declared.Panel.{Panel}
-use Rattle.panel.specs.Panel.{appends, isListed, isTyped, press}
+use Rattle.panel.specs.Panel.{appends, isHeld, isListed, isTyped, press}
+use Rattle.panel.specs.Highlight.{HoldsItsName, StaysOnItsName}
 use Rattle.ledger.specs.Demand.{Demand3·all, OffersBest, offersOf}
 use Rattle.ledger.specs.Marked.{table}
 use Rattle.script.specs.Run.{runChecks, runOf}
@@ -89,7 +90,7 @@ pub record Promises : Type 0 where
       (book : List ℕ) (p : Panel) (x : ℕ)
       → Declines
       (noBook book
-      ∷ 2 when not (isTyped p)
+      ∷ 2 when not (isTyped p && isHeld p)
       ∷ 8 when not (isListed x)
       ∷ 9 when (appends x && leb longestName (p .len))
       ∷ [])
@@ -163,3 +164,9 @@ pub record Promises : Type 0 where
       (λ dst.
       1 when not (isBook first && isBook second) ∷ 5 when ltb maxEntries (length es) ∷ noRoom dst (bookImage es) ∷ [])
       (mergeBooks first second)
+  -- REQUEST B. The panel holds the highlighted name: after every accepted key the held name is that of the highlighted
+  -- row, length 0 without rows. A held name of any other kind that is not allowed gives 2 (`keys`, above).
+  pub holdsItsName : HoldsItsName
+  -- The highlight stays on its name: while the held name is still offered for the text, no edit of the book moves the
+  -- highlight off it, and 0D takes it. For every two books, and every panel that a key left on the first.
+  pub staysOnItsName : StaysOnItsName

@@ -120,7 +120,8 @@ impl Book {
         Ok(Completion { answer, told })
     }
 
-    /// One key of a panel on this book; tells the rows.
+    /// One key of a panel on this book; tells the rows. The panel's highlight stays on its name
+    /// where the book was edited since the key before, if that name is still offered.
     ///
     /// # Errors
     /// [`Refusal::NotAllowed`], [`Refusal::NoSuchKey`], [`Refusal::TextFull`].

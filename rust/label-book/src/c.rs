@@ -16,8 +16,10 @@ pub struct Range {
     pub last: usize,
 }
 
-/// What is typed on a panel, and the highlighted row of the names offered for it. The default,
-/// all zeros, is an empty panel.
+/// What is typed on a panel, the highlighted row of the names offered for it, and the name on that
+/// row. Each key reads and updates it: by the held name it finds the highlighted row again where
+/// the book was edited meanwhile. So who sets text or highlight without a key makes `held_len` 0.
+/// The default, all zeros, is an empty panel.
 #[repr(C)]
 #[derive(Clone, Debug, PartialEq, Eq)]
 pub struct Panel {
@@ -25,10 +27,15 @@ pub struct Panel {
     pub text: [u8; crate::NAME_MAX],
     /// How many bytes are typed.
     pub len: usize,
-    /// The highlighted row, from 0.
+    /// The highlighted row, from 0. A key that finds the held name on another row goes by that.
     pub highlight: usize,
     /// How many names are offered.
     pub rows: usize,
+    /// The name on the highlighted row, in the first `held_len` bytes. A key that is accepted makes
+    /// the others zero.
+    pub held: [u8; crate::NAME_MAX],
+    /// How many bytes it has, 0 if no name is offered.
+    pub held_len: usize,
 }
 
 // One line a name, so that they can be read beside the header's.

@@ -297,6 +297,12 @@ pub fn complete_trie(
 /// One key, which changes the panel; tells the rows, at most [`PANEL_ROWS`](crate::PANEL_ROWS). The
 /// keys that are no signs are in [`key`](crate::key).
 ///
+/// Before the key acts, the highlight goes to the row that has the held name. Where that name is no
+/// longer on a row, or its length is 0, the highlight given in stays; past the last row it is
+/// lowered to it. After the key the held name is the one on the highlighted row. So the highlight
+/// stays on its name when the book was edited since the key before. To show a list anew after an
+/// edit, press [`key::RECOUNT`](crate::key::RECOUNT) first.
+///
 /// # Errors
 /// [`Refusal::NotLaidOut`], [`Refusal::NotAllowed`], [`Refusal::NoSuchKey`],
 /// [`Refusal::TextFull`].

@@ -20,8 +20,13 @@
 //! // A student types "r": rl, rc and rc step are offered, the best first.
 //! let mut panel = Panel::default();
 //! assert_eq!(book.press(&mut panel, b'r')?, 3);
-//! // One row down, and taken.
+//! // One row down.
 //! book.press(&mut panel, label_book::key::DOWN)?;
+//! assert_eq!((panel.highlight, panel.held_name()), (1, &b"rc"[..]));
+//! // A teacher adds a name with a better score: the highlight stays on "rc", which is then taken.
+//! book.set(b"rlc", 20)?;
+//! book.press(&mut panel, label_book::key::RECOUNT)?;
+//! assert_eq!((panel.highlight, panel.held_name()), (2, &b"rc"[..]));
 //! book.press(&mut panel, label_book::key::TAKE)?;
 //! assert_eq!(panel.typed(), b"rc");
 //! # Ok::<(), label_book::Refusal>(())
@@ -63,7 +68,7 @@ pub const TRIE_MAX: usize = 70_759;
 
 /// The keys of a panel that are no signs; 20 to 7E append themselves.
 pub mod key {
-    /// Only counts the rows again, after an edit of the book.
+    /// Only counts the rows again, after an edit of the book; the highlight finds its name.
     pub const RECOUNT: u8 = 0x00;
     /// One row up.
     pub const UP: u8 = 0x01;
@@ -80,10 +85,22 @@ impl Panel {
     pub fn typed(&self) -> &[u8] {
         &self.text[..self.len.min(NAME_MAX)]
     }
+
+    /// The name on the highlighted row, as the last key left it; empty if no name was offered.
+    pub fn held_name(&self) -> &[u8] {
+        &self.held[..self.held_len.min(NAME_MAX)]
+    }
 }
 
 impl Default for Panel {
     fn default() -> Panel {
-        Panel { text: [0; NAME_MAX], len: 0, highlight: 0, rows: 0 }
+        Panel {
+            text: [0; NAME_MAX],
+            len: 0,
+            highlight: 0,
+            rows: 0,
+            held: [0; NAME_MAX],
+            held_len: 0,
+        }
     }
 }

@@ -8,8 +8,9 @@ use std::fmt;
 pub enum Refusal {
     /// A book, sheet, trie or script that is not laid out as such, or is cut off by its buffer.
     NotLaidOut = 1,
-    /// A name or prefix that is not allowed; a panel whose length is over [`NAME_MAX`], or that
-    /// holds a byte within it that is not allowed.
+    /// A name or prefix that is not allowed; a panel whose length is over [`NAME_MAX`], or whose
+    /// text has a byte within it that is not allowed; a panel whose held name is neither of length
+    /// 0 nor a name that is allowed.
     ///
     /// [`NAME_MAX`]: crate::NAME_MAX
     NotAllowed = 2,

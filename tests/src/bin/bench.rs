@@ -1,7 +1,7 @@
 //! How long each call takes at three sizes, in one run with warm buffers: the static library, the
 //! same call in plain safe Rust over the same image with the same checks (`plain`), and one scan of
 //! the image's bytes.
-use label_book::{Panel, Range};
+use label_book::{key, Panel, Range};
 use label_book_tests::calls;
 use label_book_tests::make::{self, Names, Places, Scores};
 use label_book_tests::plain;
@@ -139,13 +139,21 @@ fn size(n: usize) {
         let trie = &label_book_tests::reference::trie::image(&held)[..];
         writes!(complete_trie, n, trie, trie, prefix, 5);
     }
+    // Nothing is typed, and the name on the second row is held: the first letter of the middle name
+    // is appended, the highlight moved, the held name taken.
+    let mut typed = Panel::default();
+    calls::press(image, &mut typed, key::DOWN);
+    for (call, key) in [("press", prefix[0]), ("press (02)", key::DOWN), ("press (0D)", key::TAKE)]
     {
-        let typed = Panel::default();
-        let (mut one, mut two) = (typed.clone(), typed);
-        let ours = &mut || consume(calls::press(black_box(image), &mut one, 0x02));
-        line("press", n, image, ours, &mut || {
-            consume(plain::press(black_box(image), &mut two, 0x02))
-        });
+        let ours = &mut || {
+            let mut panel = typed.clone();
+            consume((calls::press(black_box(image), &mut panel, key), panel))
+        };
+        let plain = &mut || {
+            let mut panel = typed.clone();
+            consume((plain::press(black_box(image), &mut panel, key), panel))
+        };
+        line(call, n, image, ours, plain);
     }
 }
 

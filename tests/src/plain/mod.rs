@@ -57,6 +57,12 @@ impl Name {
         &self.bytes[..self.len]
     }
 
+    /// All bytes, with zeros past the name.
+    fn padded(mut self) -> [u8; LONGEST_NAME] {
+        self.bytes[self.len..].fill(0);
+        self.bytes
+    }
+
     fn put(&mut self, kept: usize, rest: &[u8]) {
         self.bytes[kept..kept + rest.len()].copy_from_slice(rest);
         self.len = kept + rest.len();
@@ -131,7 +137,9 @@ impl<'a> Book<'a> {
         (first + 1..end).fold(first, |best, i| self.better(best, i))
     }
 
-    /// The same, by peaks for whole blocks.
+    /// The same, by peaks for whole blocks. Inlined in both of its users it makes the compiler lay
+    /// out `check` so that every call takes a quarter longer.
+    #[inline(never)]
     fn best_in(&self, first: usize, end: usize) -> usize {
         let mut best = first;
         let mut i = first;
@@ -451,6 +459,46 @@ struct Open {
     end: usize,
 }
 
+/// The positions from first to end in rank, one after the other, at most 16: the machine of open
+/// ranges. The parts left by a position wait until the next one is asked for.
+struct Ranked<'a> {
+    book: Book<'a>,
+    open: [Open; MOST_OFFERED + 1],
+    waiting: usize,
+    parts: [(usize, usize); 2],
+    looks: usize,
+}
+
+impl<'a> Ranked<'a> {
+    fn new(book: Book<'a>, first: usize, end: usize) -> Ranked<'a> {
+        let open = [Open { first: 0, best: 0, end: 0 }; MOST_OFFERED + 1];
+        Ranked { book, open, waiting: 0, parts: [(first, end), (0, 0)], looks: 0 }
+    }
+}
+
+impl Iterator for Ranked<'_> {
+    type Item = usize;
+
+    fn next(&mut self) -> Option<usize> {
+        for (first, end) in self.parts {
+            if first < end {
+                self.open[self.waiting] = Open { first, best: self.book.best_in(first, end), end };
+                self.waiting += 1;
+                self.looks += 1;
+            }
+        }
+        let at = (0..self.waiting).min_by_key(|&i| {
+            let best = self.open[i].best;
+            (std::cmp::Reverse(self.book.score(best)), best)
+        })?;
+        let Open { first, best, end } = self.open[at];
+        self.waiting -= 1;
+        self.open[at] = self.open[self.waiting];
+        self.parts = [(first, best), (best + 1, end)];
+        Some(best)
+    }
+}
+
 pub fn complete(book: &[u8], prefix: &[u8], k: usize, dst: &mut [u8], ranges: usize) -> Offered {
     let book = check(book).ok_or(1)?;
     if !is_prefix(prefix) {
@@ -462,35 +510,14 @@ pub fn complete(book: &[u8], prefix: &[u8], k: usize, dst: &mut [u8], ranges: us
     if dst.len() < 53 * k || ranges < k {
         return Err(7);
     }
-    let mut open = [Open { first: 0, best: 0, end: 0 }; MOST_OFFERED + 1];
-    let (mut waiting, mut looks, mut offered, mut bytes) = (0, 0, 0, 0);
     let (first, end) = book.range(prefix);
-    let mut parts = [(first, end), (0, 0)];
-    loop {
-        for (first, end) in parts {
-            if first < end {
-                open[waiting] = Open { first, best: book.best_in(first, end), end };
-                waiting += 1;
-                looks += 1;
-            }
-        }
-        let Some(at) = (0..waiting)
-            .min_by_key(|&i| (std::cmp::Reverse(book.score(open[i].best)), open[i].best))
-        else {
-            break;
-        };
-        let range = open[at];
-        let name = book.name_at(range.best);
-        bytes += put_entry(name.get(), book.score(range.best), &mut dst[bytes..])?.1;
+    let mut ranked = Ranked::new(book, first, end);
+    let (mut offered, mut bytes) = (0, 0);
+    for i in ranked.by_ref().take(k) {
+        bytes += put_entry(book.name_at(i).get(), book.score(i), &mut dst[bytes..])?.1;
         offered += 1;
-        if offered == k {
-            break;
-        }
-        waiting -= 1;
-        open[at] = open[waiting];
-        parts = [(range.first, range.best), (range.best + 1, range.end)];
     }
-    Ok((offered, bytes, looks))
+    Ok((offered, bytes, ranked.looks))
 }
 
 /// The entries of a sheet that was checked.

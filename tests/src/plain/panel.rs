@@ -1,48 +1,98 @@
 //! The panel in plain safe Rust.
-use super::{check, Book, Name};
+use super::{check, Book, Name, Ranked};
 use crate::reference::{is_prefix, LONGEST_NAME};
 use label_book::Panel;
 
 const SHOWN: usize = 5;
 
-/// The name at a row of those that a text begins.
-fn row(book: &Book, text: &[u8], at: usize) -> Name {
-    let (first, end) = book.range(text);
-    let mut ranked: Vec<usize> = (first..end).collect();
-    ranked.sort_by_key(|&i| (std::cmp::Reverse(book.score(i)), i));
-    book.name_at(ranked[at])
+/// How many rows a text has, and the positions on the first of them, as many as are wanted.
+#[derive(Clone, Copy)]
+struct Rows<'a> {
+    book: Book<'a>,
+    count: usize,
+    at: [usize; SHOWN],
 }
 
-fn rows(book: &Book, text: &[u8]) -> usize {
-    let (first, end) = book.range(text);
-    end.saturating_sub(first).min(SHOWN)
+impl<'a> Rows<'a> {
+    fn new(book: Book<'a>, text: &[u8], wanted: usize) -> Rows<'a> {
+        let (first, end) = book.range(text);
+        let mut rows = Rows { book, count: (end - first).min(SHOWN), at: [0; SHOWN] };
+        let ranked = Ranked::new(book, first, end).take(wanted);
+        rows.at.iter_mut().zip(ranked).for_each(|(row, position)| *row = position);
+        rows
+    }
+
+    fn lowered(&self, row: usize) -> usize {
+        row.min(self.count.saturating_sub(1))
+    }
+
+    /// The row that has a name.
+    fn row_of(&self, name: &[u8]) -> Option<usize> {
+        let position = self.book.look_up(name).ok()?;
+        self.at[..self.count].iter().position(|&at| at == position)
+    }
+
+    /// The name on a row, empty if there is none.
+    fn name(&self, row: usize) -> Name {
+        if row < self.count {
+            self.book.name_at(self.at[row])
+        } else {
+            Name::new()
+        }
+    }
+}
+
+/// The text, its rows and the highlighted one after a key. A changed text has its first row
+/// highlighted; all other keys go by the rows before. Inlined for the same reason as `best_in` is
+/// not.
+#[inline(always)]
+fn act<'a>(
+    book: Book<'a>,
+    text: &[u8],
+    held: &[u8],
+    highlight: usize,
+    key: u8,
+) -> Result<(Name, Rows<'a>, usize), u8> {
+    let mut typed = Name::new();
+    typed.put(0, text);
+    match key {
+        0x20..=0x7E if typed.len == LONGEST_NAME => return Err(9),
+        0x20..=0x7E => typed.put(typed.len, &[key]),
+        0x08 if typed.len > 0 => typed.len -= 1,
+        0x00 | 0x01 | 0x02 | 0x08 | 0x0D => {
+            let rows = Rows::new(book, text, SHOWN);
+            let may_be_offered = !held.is_empty() && held.starts_with(text);
+            let held_row = if may_be_offered { rows.row_of(held) } else { None };
+            let row = held_row.unwrap_or(rows.lowered(highlight));
+            match key {
+                0x01 => return Ok((typed, rows, row.saturating_sub(1))),
+                0x02 => return Ok((typed, rows, rows.lowered(row + 1))),
+                0x0D if rows.count > 0 => typed = rows.name(row),
+                _ => return Ok((typed, rows, row)),
+            }
+        }
+        _ => return Err(8),
+    }
+    let rows = Rows::new(book, typed.get(), 1);
+    Ok((typed, rows, 0))
 }
 
 pub fn press(book: &[u8], panel: &mut Panel, key: u8) -> Result<usize, u8> {
     let book = check(book).ok_or(1)?;
     let text = panel.text.get(..panel.len).ok_or(2)?;
-    if !is_prefix(text) {
+    let held = panel.held.get(..panel.held_len).ok_or(2)?;
+    if !is_prefix(text) || !is_prefix(held) {
         return Err(2);
     }
-    let before = rows(&book, text);
-    let lowered = panel.highlight.min(before.saturating_sub(1));
-    let (mut name, mut highlight) = (Name::new(), 0);
-    name.put(0, text);
-    match key {
-        0x20..=0x7E if name.len == LONGEST_NAME => return Err(9),
-        0x20..=0x7E => name.put(name.len, &[key]),
-        0x08 if name.len == 0 => highlight = lowered,
-        0x08 => name.len -= 1,
-        0x01 => highlight = lowered.saturating_sub(1),
-        0x02 => highlight = (lowered + 1).min(before.saturating_sub(1)),
-        0x0D if before > 0 => name = row(&book, text, lowered),
-        0x0D | 0x00 => highlight = lowered,
-        _ => return Err(8),
-    }
-    let after = rows(&book, name.get());
-    panel.text = [0; 48];
-    panel.text[..name.len].copy_from_slice(name.get());
-    (panel.len, panel.highlight, panel.rows) =
-        (name.len, highlight.min(after.saturating_sub(1)), after);
-    Ok(after)
+    let (typed, rows, row) = act(book, text, held, panel.highlight, key)?;
+    let name = rows.name(row);
+    *panel = Panel {
+        text: typed.padded(),
+        len: typed.len,
+        highlight: row,
+        rows: rows.count,
+        held: name.padded(),
+        held_len: name.len,
+    };
+    Ok(rows.count)
 }

@@ -198,25 +198,221 @@ fn a_smaller_common_byte_is_refused() {
     assert_eq!(book::read(&image), None);
 }
 
+/// A panel with zeros past the text and past the held name.
+fn panel(text: &str, highlight: usize, rows: usize, held: &str) -> Panel {
+    let mut panel =
+        Panel { len: text.len(), highlight, rows, held_len: held.len(), ..Panel::default() };
+    panel.text[..text.len()].copy_from_slice(text.as_bytes());
+    panel.held[..held.len()].copy_from_slice(held.as_bytes());
+    panel
+}
+
+/// What a key gives on a book of entries, and the panel that it leaves.
+fn pressed(entries: &Entries, before: &Panel, key: u8) -> (Result<usize, u8>, Panel) {
+    let mut panel = before.clone();
+    let answer = press(&book::image(entries), &mut panel, key);
+    (answer, panel)
+}
+
 #[test]
 fn panel_keys() {
     let book = book::image(&e());
-    let mut panel = Panel { text: [0xFF; 48], len: 0, highlight: 99, rows: 99 };
-    assert_eq!(press(&book, &mut panel, 0), Ok(4));
-    assert_eq!((panel.highlight, panel.text), (3, [0; 48]));
-    assert_eq!(press(&book, &mut panel, b'r'), Ok(3));
-    assert_eq!(press(&book, &mut panel, 2), Ok(3));
-    assert_eq!(press(&book, &mut panel, 2), Ok(3));
-    assert_eq!(press(&book, &mut panel, 2), Ok(3));
-    assert_eq!(panel.highlight, 2);
-    assert_eq!(press(&book, &mut panel, 0x0D), Ok(1));
-    assert_eq!((&panel.text[..panel.len], panel.highlight), (&b"rc step"[..], 0));
-    assert_eq!(press(&book, &mut panel, b'!'), Ok(0));
-    assert_eq!(press(&book, &mut panel, 0x0D), Ok(0));
-    assert_eq!(panel.len, 8);
-    assert_eq!(press(&book, &mut panel, 0x7F), Err(KEY));
-    panel.len = 49;
-    assert_eq!(press(&book, &mut panel, 0x7F), Err(NAME));
+    let mut at = Panel { text: [0xFF; 48], highlight: 99, rows: 99, ..Panel::default() };
+    let mut key = |key| (press(&book, &mut at, key), at.clone());
+    assert_eq!(key(0), (Ok(4), panel("", 3, 4, "ac")));
+    assert_eq!(key(b'r'), (Ok(3), panel("r", 0, 3, "rl")));
+    assert_eq!(key(2), (Ok(3), panel("r", 1, 3, "rc")));
+    assert_eq!(key(2), (Ok(3), panel("r", 2, 3, "rc step")));
+    assert_eq!(key(2), (Ok(3), panel("r", 2, 3, "rc step")));
+    assert_eq!(key(1), (Ok(3), panel("r", 1, 3, "rc")));
+    assert_eq!(key(b'c'), (Ok(2), panel("rc", 0, 2, "rc")));
+    assert_eq!(key(1), (Ok(2), panel("rc", 0, 2, "rc")));
+    assert_eq!(key(2), (Ok(2), panel("rc", 1, 2, "rc step")));
+    assert_eq!(key(8), (Ok(3), panel("r", 0, 3, "rl")));
+    assert_eq!(key(2), (Ok(3), panel("r", 1, 3, "rc")));
+    assert_eq!(key(2), (Ok(3), panel("r", 2, 3, "rc step")));
+    assert_eq!(key(0x0D), (Ok(1), panel("rc step", 0, 1, "rc step")));
+    assert_eq!(key(b'!'), (Ok(0), panel("rc step!", 0, 0, "")));
+    assert_eq!(key(0x0D), (Ok(0), panel("rc step!", 0, 0, "")));
+    assert_eq!(key(0x7F), (Err(KEY), panel("rc step!", 0, 0, "")));
+    at.len = 49;
+    assert_eq!(press(&book, &mut at, 0x7F), Err(NAME));
+    // 48 bytes, and no more.
+    let full = panel(&"x".repeat(48), 0, 0, "");
+    assert_eq!(pressed(&e(), &full, b'x'), (Err(TEXT_FULL), full.clone()));
+    assert_eq!(pressed(&e(), &full, 0), (Ok(0), full.clone()));
+}
+
+#[test]
+fn a_name_is_added_above_the_highlighted_one() {
+    // "r" offers rl 12, rc 9 and rc step 9; with the teacher's name rx 20, rl, rc, rc step.
+    let before = panel("r", 1, 3, "rc");
+    let mut entries = e();
+    entries.insert(b"rx".to_vec(), 20);
+    assert_eq!(pressed(&entries, &before, 0), (Ok(4), panel("r", 2, 4, "rc")));
+    assert_eq!(pressed(&entries, &before, 0x0D), (Ok(2), panel("rc", 0, 2, "rc")));
+    assert_eq!(pressed(&entries, &before, 1), (Ok(4), panel("r", 1, 4, "rl")));
+    assert_eq!(pressed(&entries, &before, 2), (Ok(4), panel("r", 3, 4, "rc step")));
+    // Another text: its first row, wherever the held name is.
+    assert_eq!(pressed(&entries, &before, b'c'), (Ok(2), panel("rc", 0, 2, "rc")));
+    assert_eq!(pressed(&entries, &before, 8), (Ok(5), panel("", 0, 5, "rx")));
+    // Withdrawn again, the name goes back to its row, from the last row too.
+    assert_eq!(pressed(&e(), &panel("r", 2, 4, "rc"), 0), (Ok(3), panel("r", 1, 3, "rc")));
+    assert_eq!(
+        pressed(&e(), &panel("r", 3, 4, "rc step"), 0),
+        (Ok(3), panel("r", 2, 3, "rc step"))
+    );
+    // The held name has a row, whatever the row number says.
+    for row in [0, 2, 3, 5, usize::MAX] {
+        let before = panel("r", row, 0, "rc");
+        assert_eq!(pressed(&e(), &before, 0), (Ok(3), panel("r", 1, 3, "rc")));
+        assert_eq!(pressed(&e(), &before, 0x0D), (Ok(2), panel("rc", 0, 2, "rc")));
+        assert_eq!(pressed(&e(), &before, 1), (Ok(3), panel("r", 0, 3, "rl")));
+        assert_eq!(pressed(&e(), &before, 2), (Ok(3), panel("r", 2, 3, "rc step")));
+    }
+}
+
+#[test]
+fn the_held_name_is_withdrawn() {
+    let mut entries = e();
+    entries.remove(&b"rc"[..]);
+    // "r" offers rl and rc step.
+    let before = panel("r", 1, 3, "rc");
+    assert_eq!(pressed(&entries, &before, 0), (Ok(2), panel("r", 1, 2, "rc step")));
+    assert_eq!(pressed(&entries, &before, 0x0D), (Ok(1), panel("rc step", 0, 1, "rc step")));
+    assert_eq!(pressed(&entries, &before, 1), (Ok(2), panel("r", 0, 2, "rl")));
+    assert_eq!(pressed(&entries, &before, 2), (Ok(2), panel("r", 1, 2, "rc step")));
+    // On the last row the highlight is lowered.
+    let before = panel("r", 2, 3, "rc");
+    assert_eq!(pressed(&entries, &before, 0), (Ok(2), panel("r", 1, 2, "rc step")));
+    assert_eq!(pressed(&entries, &before, 1), (Ok(2), panel("r", 0, 2, "rl")));
+    // The only row.
+    let before = panel("a", 0, 1, "ac");
+    entries.remove(&b"ac"[..]);
+    assert_eq!(pressed(&entries, &before, 0), (Ok(0), panel("a", 0, 0, "")));
+    assert_eq!(pressed(&entries, &before, 0x0D), (Ok(0), panel("a", 0, 0, "")));
+    assert_eq!(pressed(&entries, &before, 2), (Ok(0), panel("a", 0, 0, "")));
+}
+
+#[test]
+fn the_held_name_falls_below_the_fifth_row() {
+    let six = of(&[("a1", 60), ("a2", 50), ("a3", 40), ("a4", 30), ("a5", 20), ("a6", 10)]);
+    // On the fifth row, and from there no further.
+    assert_eq!(pressed(&six, &panel("a", 0, 5, "a5"), 0), (Ok(5), panel("a", 4, 5, "a5")));
+    assert_eq!(pressed(&six, &panel("a", 0, 5, "a5"), 2), (Ok(5), panel("a", 4, 5, "a5")));
+    // The sixth is in the book, but on no row.
+    assert_eq!(pressed(&six, &panel("a", 0, 5, "a6"), 0), (Ok(5), panel("a", 0, 5, "a1")));
+    assert_eq!(pressed(&six, &panel("a", 7, 5, "a6"), 0x0D), (Ok(1), panel("a5", 0, 1, "a5")));
+    // a2 at 5: a1, a3, a4, a5, a6.
+    let mut fallen = six.clone();
+    fallen.insert(b"a2".to_vec(), 5);
+    let before = panel("a", 1, 5, "a2");
+    assert_eq!(pressed(&fallen, &before, 0), (Ok(5), panel("a", 1, 5, "a3")));
+    assert_eq!(pressed(&fallen, &before, 0x0D), (Ok(1), panel("a3", 0, 1, "a3")));
+    assert_eq!(pressed(&fallen, &before, 2), (Ok(5), panel("a", 2, 5, "a4")));
+    // a2 at 15: a1, a3, a4, a5, a2.
+    fallen.insert(b"a2".to_vec(), 15);
+    assert_eq!(pressed(&fallen, &before, 0), (Ok(5), panel("a", 4, 5, "a2")));
+    assert_eq!(pressed(&fallen, &before, 0x0D), (Ok(1), panel("a2", 0, 1, "a2")));
+    // At equal scores the earlier name comes first: a2 at 10 is in front of a6, and has the row.
+    fallen.insert(b"a2".to_vec(), 10);
+    assert_eq!(pressed(&fallen, &before, 0), (Ok(5), panel("a", 4, 5, "a2")));
+    assert_eq!(pressed(&fallen, &panel("a", 4, 5, "a6"), 0), (Ok(5), panel("a", 4, 5, "a2")));
+}
+
+#[test]
+fn no_held_name_or_one_that_is_not_offered() {
+    // "r" offers rl, rc and rc step. No name held; one that does not begin with the text, in the
+    // book or not; one that begins so and is in no book; the text itself.
+    let full = "r".repeat(48);
+    for held in ["", "ac", "zz", "ra", "rc ", "rc step!", "r", "R", " ", "~", &full] {
+        for (row, lowered, name) in
+            [(0, 0, "rl"), (1, 1, "rc"), (2, 2, "rc step"), (3, 2, "rc step")]
+        {
+            let before = panel("r", row, 0, held);
+            assert_eq!(pressed(&e(), &before, 0), (Ok(3), panel("r", lowered, 3, name)));
+        }
+        let before = panel("r", usize::MAX, 9, held);
+        assert_eq!(pressed(&e(), &before, 0), (Ok(3), panel("r", 2, 3, "rc step")));
+        assert_eq!(pressed(&e(), &before, 1), (Ok(3), panel("r", 1, 3, "rc")));
+        assert_eq!(pressed(&e(), &before, 2), (Ok(3), panel("r", 2, 3, "rc step")));
+        assert_eq!(pressed(&e(), &before, 0x0D), (Ok(1), panel("rc step", 0, 1, "rc step")));
+        assert_eq!(pressed(&e(), &before, b'c'), (Ok(2), panel("rc", 0, 2, "rc")));
+        assert_eq!(pressed(&e(), &before, 8), (Ok(4), panel("", 0, 4, "rl")));
+    }
+}
+
+#[test]
+fn keys_that_change_nothing_follow_the_name() {
+    // The empty text offers rl 12, rc 9, rc step 9 and ac 5.
+    assert_eq!(pressed(&e(), &panel("", 0, 0, "rc"), 8), (Ok(4), panel("", 1, 4, "rc")));
+    assert_eq!(pressed(&e(), &panel("", 1, 4, "ac"), 8), (Ok(4), panel("", 3, 4, "ac")));
+    assert_eq!(pressed(&e(), &panel("", 7, 4, "zz"), 8), (Ok(4), panel("", 3, 4, "ac")));
+    assert_eq!(pressed(&e(), &panel("", 2, 4, ""), 8), (Ok(4), panel("", 2, 4, "rc step")));
+    // Without rows there is no name to hold.
+    for held in ["", "rc", "q", "zz"] {
+        for key in [0, 1, 2, 0x0D] {
+            assert_eq!(pressed(&e(), &panel("q", 3, 5, held), key), (Ok(0), panel("q", 0, 0, "")));
+        }
+        let none = Entries::new();
+        assert_eq!(pressed(&none, &panel("", 3, 5, held), 8), (Ok(0), Panel::default()));
+    }
+}
+
+#[test]
+fn held_names_refused() {
+    let (book, keys) = (book::image(&e()), [0, 1, 2, 8, 0x0D, b'c', 0x7F, 3]);
+    let refused = |before: &Panel| {
+        for key in keys {
+            let mut panel = before.clone();
+            assert_eq!((press(&book, &mut panel, key), &panel), (Err(NAME), before));
+            assert_eq!((press(&book[1..], &mut panel, key), &panel), (Err(IMAGE), before));
+        }
+    };
+    // "rc step" with a byte that is not allowed, at each place; the last byte of 48.
+    for byte in [0, 0x1F, 0x7F, 0x80, 0xFF] {
+        for at in 0..7 {
+            let mut before = panel("r", 0, 3, "rc step");
+            before.held[at] = byte;
+            refused(&before);
+        }
+        let mut before = panel("r", 0, 3, &"r".repeat(48));
+        before.held[47] = byte;
+        refused(&before);
+        // One byte less does not have it.
+        before.held_len = 47;
+        assert_eq!(pressed(&e(), &before, 0), (Ok(3), panel("r", 0, 3, "rl")));
+    }
+    for length in [49, 50, 256, 1 << 32, usize::MAX] {
+        refused(&Panel { held_len: length, ..panel("r", 0, 3, &"r".repeat(48)) });
+        refused(&Panel { held_len: length, ..Panel::default() });
+    }
+    // Said before a full text; and of a text that is not allowed, too.
+    let mut before = panel(&"r".repeat(48), 0, 0, "rc\x7F");
+    refused(&before);
+    before.text[0] = 0;
+    refused(&before);
+    refused(&Panel { len: 49, ..panel("", 0, 0, "rc") });
+}
+
+#[test]
+fn bytes_behind_the_held_name() {
+    for (key, left) in [
+        (0, panel("r", 1, 3, "rc")),
+        (2, panel("r", 2, 3, "rc step")),
+        (0x0D, panel("rc", 0, 2, "rc")),
+        (b'x', panel("rx", 0, 0, "")),
+    ] {
+        for byte in [0xFF, 0, b' ', b'x'] {
+            let mut before = panel("r", 0, 3, "rc");
+            before.text[1..].fill(byte);
+            before.held[2..].fill(byte);
+            assert_eq!(pressed(&e(), &before, key), (Ok(left.rows), left.clone()));
+        }
+    }
+    // No byte of it is read where its length is 0.
+    let before = Panel { held_len: 0, ..panel("r", 1, 3, "rc step") };
+    assert_eq!(pressed(&e(), &before, 0), (Ok(3), panel("r", 1, 3, "rc")));
 }
 
 #[test]

@@ -1,10 +1,11 @@
 //! The inputs: books of all sizes, names that begin each other, ranges that are split in many ways,
 //! damaged tries; every call on them, refused ones included.
 use super::measure::Measure;
-use label_book::{key, Book, Panel};
+use label_book::{key, Book, Panel, PANEL_ROWS};
 use label_book::{BOOK_MAX, COUNT_MAX, ENTRIES_MAX, ENTRY_MAX, NAME_MAX, SHEET_MAX, TRIE_MAX};
 use label_book_tests::make::{self, NAMES, SCORES};
 use label_book_tests::random::Random;
+use label_book_tests::reference::calls::rows;
 use label_book_tests::reference::script::{self, Call, Kind, ANSWER};
 use label_book_tests::reference::{book, sheet, Entries};
 
@@ -142,22 +143,32 @@ const SHAPES: [(&str, fn(usize, usize) -> u32); 4] = [
     ("the best of every range is in its middle", |i, _| (i + 1).trailing_zeros()),
 ];
 
-/// Completions for every count from books of every shape, with prefixes that begin many names, one
-/// or none.
-fn ranges(measure: &mut Measure) {
-    let start = vec![b'a'; NAME_MAX - 1];
-    let lasts = (b' '..=b'~').map(|last| [&start[..], &[last]].concat());
+/// A full book's names: many that begin with the same 47 bytes, and many that are short.
+fn many_names() -> Vec<Vec<u8>> {
+    let lasts = (b' '..=b'~').map(|last| [&START[..], &[last]].concat());
     let numbers = (0..ENTRIES_MAX - 96).map(|i| format!("b{i:04}").into_bytes());
-    let names: Vec<Vec<u8>> = lasts.chain(numbers).collect();
+    lasts.chain(numbers).collect()
+}
+
+const START: [u8; NAME_MAX - 1] = [b'a'; NAME_MAX - 1];
+
+/// Prefixes that begin many of these names, one or none.
+fn prefixes() -> [Vec<u8>; 6] {
+    let last = [&START[..], b"~"].concat();
+    [&[][..], b"a", b"b", &START, &last, b"c"].map(<[u8]>::to_vec)
+}
+
+/// Completions for every count from books of every shape.
+fn ranges(measure: &mut Measure) {
+    let names = many_names();
     for (kind, score) in SHAPES {
         measure.kind = kind;
         let held = scored(names.iter().cloned(), |i| score(i, names.len()));
         let Images { book, trie, .. } = images(&held);
-        let last = [&start[..], b"~"].concat();
-        for prefix in [&[][..], b"a", b"b", &start, &last, b"c"] {
+        for prefix in prefixes() {
             for k in 0..=COUNT_MAX + 1 {
-                measure.complete(&book, prefix, k, ANSWER_ROOM, COUNT_MAX);
-                measure.complete_trie(&trie, prefix, k, ANSWER_ROOM);
+                measure.complete(&book, &prefix, k, ANSWER_ROOM, COUNT_MAX);
+                measure.complete_trie(&trie, &prefix, k, ANSWER_ROOM);
             }
         }
     }
@@ -246,20 +257,46 @@ fn merges(measure: &mut Measure, random: &mut Random) {
     }
 }
 
-/// Every key, with texts of many lengths, allowed or not, and every row highlighted.
+/// Keys with texts of many lengths, allowed or not, and held names: none, on a row, behind the
+/// fifth, not allowed. Then with every name on a row held, and others, on books of every shape.
 fn panels(measure: &mut Measure) {
     measure.kind = "keys of a panel";
     let [nested, .., sevens] = nested_books().map(|held| book::image(&held));
-    let keys = [key::RECOUNT, key::UP, key::DOWN, key::ERASE, key::TAKE, b'a', b'~', 0x03, 0xFF];
     let lengths = [0, 1, 2, 20, 43, 47, 48, 49];
     let texts = lengths.iter().flat_map(|&len| [(b'a', len), (b'b', len), (0x1F, len)]);
     for book in [&nested[..], &sevens, &nested[..40]] {
-        for (text, len) in texts.clone() {
-            for (highlight, key) in (0..7).flat_map(|row| keys.map(|key| (row, key))) {
-                let mut panel = Panel { text: [text; NAME_MAX], len, highlight, rows: 0 };
-                measure.press(book, &mut panel, key);
+        for (byte, len) in texts.clone() {
+            let near = [0, 1, 4, 5].map(|more| (byte, len + more));
+            let others = [(byte, 0), (b'a', NAME_MAX), (0x7F, 1)];
+            for (held, held_len) in near.into_iter().chain(others) {
+                let (text, held) = ([byte; NAME_MAX], [held; NAME_MAX]);
+                keys(measure, book, &Panel { text, len, held, held_len, ..Panel::default() });
             }
         }
+    }
+    measure.kind = "keys of a panel on a full book";
+    let names = many_names();
+    for (_, score) in SHAPES {
+        let entries = scored(names.iter().cloned(), |i| score(i, names.len()));
+        let book = book::image(&entries);
+        for prefix in prefixes() {
+            let rows = rows(&entries, &prefix, PANEL_ROWS + 1);
+            for held in rows.into_iter().chain([vec![], b"a".to_vec(), vec![b'~'; NAME_MAX]]) {
+                let mut panel =
+                    Panel { len: prefix.len(), held_len: held.len(), ..Panel::default() };
+                panel.text[..prefix.len()].copy_from_slice(&prefix);
+                panel.held[..held.len()].copy_from_slice(&held);
+                keys(measure, &book, &panel);
+            }
+        }
+    }
+}
+
+/// Keys of all kinds on a panel, with rows that there are and are not.
+fn keys(measure: &mut Measure, book: &[u8], panel: &Panel) {
+    let keys = [key::RECOUNT, key::UP, key::DOWN, key::ERASE, key::TAKE, b'a', b'~', 0x03, 0xFF];
+    for (highlight, key) in [0, 2, 4, 6].iter().flat_map(|&row| keys.map(|key| (row, key))) {
+        measure.press(book, &mut Panel { highlight, ..panel.clone() }, key);
     }
 }
 

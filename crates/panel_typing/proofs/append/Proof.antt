@@ -1,10 +1,10 @@
--- `panel_typing::append` meets its contract: the byte behind the text is the key (proofs/Acts).
+-- `panel_typing::append` meets its contract: the byte behind the text is the key (proofs/Text).
 -- No loop, so no invariant. Assumes nothing.
-use mathlib.Core.Path.{_≡_}
+use mathlib.Core.Path.{_≡_, refl}
 use lib.ListN.{length}
 use borrow.Author.Needs.{needs}
 use Rattle.entries.specs.Names.{longestName}
-use Rattle.panel_typing.proofs.Acts.{appends-to}
+use Rattle.panel_typing.proofs.Text.{appends-to}
 use Rattle.panel_typing.proofs.append.Statement.{statement}
 use Rattle.panel_typing.proofs.append.Tie as tie
 
@@ -19,7 +19,7 @@ add-q : tie.Need-add-q
 add-q c = search needs
 
 returns : tie.Need-returns
-returns c = appends-to (c .args .p) (long c) (c .args .key) (c .args .p .rows) (c .pre)
+returns c = appends-to (c .args .p) (long c) _ (c .args .key) (c .pre) refl refl
 
 pub append-spec : {M : Type 1} → statement M
 append-spec = tie.close (tie.spec element-write-q add-q returns)

@@ -12,8 +12,7 @@ returns : tie.Need-returns
 returns c = rw (sym (c .before .appends .ensures) ∙ not-true (c .before .appends .result) (c .if1 .taken))
 
 returns-2 : tie.Need-returns-2
-returns-2 c =
-    let e = c .before in rw (sym (e .before .appends .ensures) ∙ not-false (e .before .appends .result) (e .if1 .left))
+returns-2 c = rw (sym (c .before .appends .ensures) ∙ not-false (c .before .appends .result) (c .if1 .left))
 
 pub is-full-spec : {M : Type 1} → statement M
 is-full-spec = tie.close (tie.spec appends-requires returns returns-2)

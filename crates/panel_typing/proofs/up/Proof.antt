@@ -1,18 +1,18 @@
--- `panel_typing::up` meets its contract: the row before, unless it is the first (proofs/Acts).
+-- `panel_typing::up` meets its contract: the row before, unless it is the first.
 -- No loop, so no invariant. Assumes nothing.
+use native.Mathlib.Omega.{arith}
 use borrow.Author.Needs.{needs}
-use Rattle.panel_typing.proofs.Acts.{raises-none, raises-one}
 use Rattle.panel_typing.proofs.up.Statement.{statement}
 use Rattle.panel_typing.proofs.up.Tie as tie
 
 returns : tie.Need-returns
-returns c = let z = c .before in raises-none (z .args .p) (z .pre) (c .if1 .taken)
+returns c = omega (arith, c .if1 .taken)
 
-sub-q : tie.Need-sub-q
-sub-q c = search needs
+sub-result : tie.Need-sub-result
+sub-result c = search needs
 
 returns-2 : tie.Need-returns-2
-returns-2 c = let z = c .before in raises-one (z .args .p) (z .pre) (z .args .p .rows)
+returns-2 c = omega arith
 
 pub up-spec : {M : Type 1} → statement M
-up-spec = tie.close (tie.spec returns sub-q returns-2)
+up-spec = tie.close (tie.spec returns sub-result returns-2)
