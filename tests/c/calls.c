@@ -351,13 +351,20 @@ static void highlights_given_in(void) {
     holds(&panel, "rc");
 }
 
-/* Each key goes on from the row on which the held name now stands. */
-static void a_name_that_moves(void) {
+/* A panel on which "r" is typed and the highlight moved down to a row of those that E offers. */
+static struct label_book_panel panel_on_row(size_t row) {
     struct label_book_panel panel;
     memset(&panel, 0, sizeof panel);
     bench_of_e(&bench);
     key_gives(&panel, 'r', LABEL_BOOK_OK, 3, 1, 0);
-    key_gives(&panel, LABEL_BOOK_KEY_DOWN, LABEL_BOOK_OK, 3, 1, 1);
+    for (size_t at = 1; at <= row; at++)
+        key_gives(&panel, LABEL_BOOK_KEY_DOWN, LABEL_BOOK_OK, 3, 1, at);
+    return panel;
+}
+
+/* Each key goes on from the row on which the held name now stands. */
+static void a_name_that_moves(void) {
+    struct label_book_panel panel = panel_on_row(1);
     bench_set(&bench, "rlc", 20);
     key_gives(&panel, LABEL_BOOK_KEY_RECOUNT, LABEL_BOOK_OK, 4, 1, 2);
     holds(&panel, "rc");
@@ -378,12 +385,7 @@ static void a_name_that_moves(void) {
 
 /* On the row that it had, or on the last one. */
 static void a_name_no_longer_offered(void) {
-    struct label_book_panel panel;
-    memset(&panel, 0, sizeof panel);
-    bench_of_e(&bench);
-    key_gives(&panel, 'r', LABEL_BOOK_OK, 3, 1, 0);
-    key_gives(&panel, LABEL_BOOK_KEY_DOWN, LABEL_BOOK_OK, 3, 1, 1);
-    key_gives(&panel, LABEL_BOOK_KEY_DOWN, LABEL_BOOK_OK, 3, 1, 2);
+    struct label_book_panel panel = panel_on_row(2);
     holds(&panel, "rc step");
     bench_set(&bench, "rx", 20);
     bench_set(&bench, "ry", 20);
