@@ -342,6 +342,21 @@ pub fn held_name(
     (in_front(random, &name), name.len())
 }
 
+/// A panel with zeros past the text and past the held name.
+pub fn panel_of(
+    text: impl AsRef<[u8]>,
+    highlight: usize,
+    rows: usize,
+    held: impl AsRef<[u8]>,
+) -> Panel {
+    let (text, held) = (text.as_ref(), held.as_ref());
+    let mut panel =
+        Panel { len: text.len(), highlight, rows, held_len: held.len(), ..Panel::default() };
+    panel.text[..text.len()].copy_from_slice(text);
+    panel.held[..held.len()].copy_from_slice(held);
+    panel
+}
+
 /// A panel that nobody typed on: the start of a name of the book or what is close to it, any row,
 /// any held name.
 pub fn panel(random: &mut Random, entries: &Entries) -> Panel {

@@ -5,7 +5,7 @@ use mathlib.Core.Logic.{inl, inr}
 use mathlib.Core.Bool.{_&&_, false, not, true}
 use mathlib.Core.List.{List, []}
 use lib.Dec.{eqb, leb}
-use lib.ListN.{length, length-take, replicate, take}
+use lib.ListN.{length, length-take, replicate}
 use lib.Seq.{take-append-seam}
 use native.Mathlib.Omega.{arith}
 use borrow.Author.Tests.{eqb-false, eqb-true, le-leb, leb-false, ne-eqb, not-false}
@@ -39,9 +39,7 @@ name-shown es t =
 
 -- what an accepted key says, and the state that it leaves
 record Accepted (book : List ℕ) (p : Panel) (key : ℕ) : Type 0 where
-  isIt : isBook book ≡ true
   typed : isTyped p ≡ true
-  held : isHeld p ≡ true
   room : (appends key && leb longestName (p .len)) ≡ false
   leaves : press book p key .panel ≡ panelOf (inBook book) (typingAfter (inBook book) p key)
 
@@ -53,9 +51,7 @@ accepted book p key rows h =
     let ok = isTyped p && isHeld p in
     let both = and-true (isTyped p) (isHeld p) (not-false ok (passed (2 when not ok) (inr (inl refl)))) in
     record {
-      isIt = not-false (isBook book) (passed (1 when not (isBook book)) (inl refl));
       typed = both .0;
-      held = both .1;
       room = passed (9 when (appends key && leb longestName (p .len))) (inr (inr (inr (inl refl))));
       leaves = rw h;
     }
@@ -150,7 +146,7 @@ module _ (book : List ℕ) (t : Typing) (h : isPrefix (t .typed) ≡ true)
       let w = highlighted es t in
       record {
         rows = rw (text-shown es t);
-        onRow = λ some. omega arith;
+        onRow = on;
         itsName = name-shown es t ∙ rw (text-shown es t);
         noName = λ none. rw (no-entry rows (t .row) none);
         padding = rw (name-shown es t);

@@ -1,5 +1,5 @@
 -- What is promised of the highlight (document 02, request b): it is on the held name, and stays on it.
-use Prim.Native.Nat.{_<_, ℕ}
+use Prim.Native.Nat.{_-_, _≤_, ℕ}
 use mathlib.Core.Path.{_≡_}
 use mathlib.Core.Bool.{_&&_, true}
 use mathlib.Core.List.{List}
@@ -10,10 +10,10 @@ use Rattle.book.specs.Book.{inBook, isBook}
 use Rattle.panel.specs.declared.Panel.{Panel}
 use Rattle.panel.specs.Panel.{AfterKey, heldIn, isHeld, isTyped, offeredFor, padded, press, typedIn}
 
--- a panel on one of its rows, whose name it holds; without rows it holds none
+-- a panel on one of its rows, whose name it holds; without rows on row 0, and it holds none
 pub record OnItsName (es : List Entry) (p : Panel) : Type 0 where
   pub rows : p .rows ≡ length (offeredFor es (typedIn p))
-  pub onRow : 0 < p .rows → p .highlight < p .rows
+  pub onRow : p .highlight ≤ p .rows - 1
   pub itsName : heldIn p ≡ at (offeredFor es (typedIn p)) (p .highlight) .name
   pub noName : p .rows ≡ 0 → p .«held_len» ≡ 0
   -- zeros behind the name

@@ -21,15 +21,15 @@ fn act(book: &[u8], n: usize, p: panel::Panel, key: u8) -> panel::Panel
     if panel_typing::changes_text(p.len, key) {
         return panel_show::show_first(book, n, panel_typing::change_text(p, key));
     }
-    let s = panel_rows::rows_of(book, n, p);
-    let lowered = panel_typing::lower(p.highlight, s.count);
-    let row = panel_rows::held_row(book, n, p, s, lowered);
-    if panel_typing::takes(key, s.count) {
-        let taken = panel_show::take_name(book, n, p, panel_rows::row_at(s, row));
+    let rows = panel_rows::rows_of(book, n, p);
+    let lowered = panel_typing::lower(p.highlight, rows.count);
+    let row = panel_rows::held_row(book, n, p, rows, lowered);
+    if panel_typing::takes(key, rows.count) {
+        let taken = panel_show::take_name(book, n, p, panel_rows::row_at(rows, row));
         return panel_show::show_first(book, n, taken);
     }
-    let to = panel_typing::moved(key, row, s.count);
-    panel_show::show(book, n, p, panel_rows::row_at(s, to))
+    let to = panel_typing::moved(key, row, rows.count);
+    panel_show::show(book, n, p, panel_rows::row_at(rows, to))
 }
 
 // A refusal, which leaves the panel as it was.

@@ -12,9 +12,9 @@ ghost use Rattle.panel_rows.specs.Rows.{OnRow, rowName};
 ghost use Rattle.panel_show.specs.Shown.{TextIs, textOf};
 
 // 48 bytes of which the first `len` are a text.
-pub struct Text {
-    pub bytes: [u8; LONGEST_NAME],
-    pub len: usize,
+struct Text {
+    bytes: [u8; LONGEST_NAME],
+    len: usize,
 }
 
 // The text with zeros behind it.

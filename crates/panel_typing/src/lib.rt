@@ -44,7 +44,7 @@ pub fn is_held(p: panel::Panel) -> bool
 }
 
 // Whether a key appends: 20 to 7E.
-pub fn appends(key: u8) -> bool
+fn appends(key: u8) -> bool
     ensures { λ r. ⌜ r ≡ appends key ⌝ }
 {
     if key < FIRST_ALLOWED {

@@ -3,6 +3,7 @@ use super::calls::*;
 use super::panel::press;
 use super::script::{Call, Kind};
 use super::*;
+use crate::make::panel_of as panel;
 use label_book::Panel;
 
 fn bytes(hex: &str) -> Vec<u8> {
@@ -196,15 +197,6 @@ fn a_smaller_common_byte_is_refused() {
          02 61 63 00 02 72 63 01 06 63 20 73 74 65 70 01 01 6C",
     );
     assert_eq!(book::read(&image), None);
-}
-
-/// A panel with zeros past the text and past the held name.
-fn panel(text: &str, highlight: usize, rows: usize, held: &str) -> Panel {
-    let mut panel =
-        Panel { len: text.len(), highlight, rows, held_len: held.len(), ..Panel::default() };
-    panel.text[..text.len()].copy_from_slice(text.as_bytes());
-    panel.held[..held.len()].copy_from_slice(held.as_bytes());
-    panel
 }
 
 /// What a key gives on a book of entries, and the panel that it leaves.

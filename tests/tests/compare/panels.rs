@@ -59,15 +59,6 @@ pub fn every_key(compare: &mut Compare, random: &mut Random, rounds: usize) {
     }
 }
 
-/// A panel with zeros past the text and past the held name.
-fn panel(text: &[u8], highlight: usize, rows: usize, held: &[u8]) -> Panel {
-    let mut panel =
-        Panel { len: text.len(), highlight, rows, held_len: held.len(), ..Panel::default() };
-    panel.text[..text.len()].copy_from_slice(text);
-    panel.held[..held.len()].copy_from_slice(held);
-    panel
-}
-
 /// A student has a name highlighted while the teacher adds others and withdraws them.
 pub fn worked(compare: &mut Compare) {
     let entries = [("ac", 5), ("rc", 9), ("rc step", 9), ("rl", 12)];
@@ -76,20 +67,20 @@ pub fn worked(compare: &mut Compare) {
     let mut at = Panel::default();
     compare.press(&book, &mut at, b'r');
     assert_eq!(compare.press(&book, &mut at, key::DOWN), (0, [3, 0, 0]));
-    assert_eq!(at, panel(b"r", 1, 3, b"rc"));
+    assert_eq!(at, make::panel_of(b"r", 1, 3, b"rc"));
     // rx, rl, rc, rc step.
     book = compare.set(&book, b"rx", 20, &[0xEE; 200]).1;
     assert_eq!(compare.press(&book, &mut at.clone(), key::TAKE), (0, [2, 0, 0]));
     assert_eq!(compare.press(&book, &mut at, key::RECOUNT), (0, [4, 0, 0]));
-    assert_eq!(at, panel(b"r", 2, 4, b"rc"));
+    assert_eq!(at, make::panel_of(b"r", 2, 4, b"rc"));
     // rx, rl, rc step: the row number stays.
     book = compare.withdraw(&book, b"rc", &[0xEE; 200]).1;
     assert_eq!(compare.press(&book, &mut at, key::RECOUNT), (0, [3, 0, 0]));
-    assert_eq!(at, panel(b"r", 2, 3, b"rc step"));
+    assert_eq!(at, make::panel_of(b"r", 2, 3, b"rc step"));
     // r1, rx, rl, rc step, taken from the fourth row.
     book = compare.set(&book, b"r1", 21, &[0xEE; 200]).1;
     assert_eq!(compare.press(&book, &mut at, key::TAKE), (0, [1, 0, 0]));
-    assert_eq!(at, panel(b"rc step", 0, 1, b"rc step"));
+    assert_eq!(at, make::panel_of(b"rc step", 0, 1, b"rc step"));
     // A byte that is not allowed, and a length over 48: nothing changes.
     for (byte, length) in [(0x7F, 7), (0x1F, 7), (0, 7), (b'r', 49)] {
         let mut refused = Panel { held_len: length, ..at.clone() };
@@ -100,5 +91,5 @@ pub fn worked(compare: &mut Compare) {
     }
     // No rows.
     assert_eq!(compare.press(&book, &mut at, b'!'), (0, [0; 3]));
-    assert_eq!(at, panel(b"rc step!", 0, 0, b""));
+    assert_eq!(at, make::panel_of(b"rc step!", 0, 0, b""));
 }
