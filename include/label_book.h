@@ -123,7 +123,7 @@
  *   label_book_complete         20096
  *   label_book_write_trie      168512
  *   label_book_complete_trie    30720
- *   label_book_press             4672
+ *   label_book_press             3584
  *   label_book_run               1280
  *
  *

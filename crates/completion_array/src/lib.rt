@@ -6,18 +6,12 @@ ghost use lib.ListN.{replicate};
 ghost use Rattle.entries.specs.Completion.{maxCount};
 ghost use Rattle.book.specs.Book.{inBook};
 ghost use Rattle.completion.specs.Machine.{noRange};
-ghost use Rattle.completion_turn.specs.Slots.{bestOf, putBoth, withoutBest};
+ghost use Rattle.completion_turn.specs.Slots.{bestOf};
 ghost use Rattle.completion_turn.specs.Turns.{Ran, Runnable};
 
 // The slots by value.
 pub struct Queue {
     pub ranges: [completion::Range; MAX_COUNT],
-}
-
-// The slots once the best is taken out, and its range.
-struct Taken {
-    queue: Queue,
-    range: completion::Range,
 }
 
 // The best of the first n slots.
@@ -38,31 +32,9 @@ fn best_of(q: Queue, n: usize) -> completion_turn::BestRange
     b
 }
 
-// Puts the ranges that are to be put, and takes the best out: the last comes into its slot.
-fn take_best(q: Queue, p: completion_turn::Progress) -> Taken
-    requires { ⌜ (p .at0 < maxCount) × (p .at1 < maxCount) × (0 < p .filled) × (p .filled ≤ maxCount) ⌝ }
-    ensures { λ t. ⌜ (t .range ≡ bestOf (putBoth (q .ranges) p) (p .filled) .range)
-        × (t .queue .ranges ≡ withoutBest (putBoth (q .ranges) p) (p .filled)) ⌝ }
-{
-    let at0 = p.at0;
-    let r0 = p.r0;
-    let at1 = p.at1;
-    let r1 = p.r1;
-    let mut ranges = q.ranges;
-    ranges[at0] = r0;
-    ranges[at1] = r1;
-    let b = best_of(Queue { ranges: ranges }, p.filled);
-    let at = b.at;
-    let range = b.range;
-    let last = ranges[p.filled - 1];
-    ranges[at] = last;
-    Taken {
-        queue: Queue { ranges: ranges },
-        range: range,
-    }
-}
-
-// Turns until none is left, with the slots in a local array.
+// Turns until none is left, with the slots in a local array. Each turn puts the ranges that are to be put and takes the
+// best out, the last coming into its slot; the slots are changed where they lie, since a turn does little beside which
+// copies of them would count.
 pub fn run(book: &[u8], start: completion_turn::Progress, slots: Queue) -> completion_turn::Progress
     requires { ⌜ Runnable (now book) (slots .ranges) start ⌝ }
     ensures { λ s. ⌜ Ran (inBook (now (book .entry))) (slots .ranges) start s ⌝ }
@@ -70,9 +42,17 @@ pub fn run(book: &[u8], start: completion_turn::Progress, slots: Queue) -> compl
     let mut p = start;
     let mut q = slots;
     while 0 < p.turns {
-        let t = take_best(q, p);
-        q = t.queue;
-        p = completion_turn::turn(book, p, t.range);
+        let at0 = p.at0;
+        let at1 = p.at1;
+        let r0 = p.r0;
+        let r1 = p.r1;
+        q.ranges[at0] = r0;
+        q.ranges[at1] = r1;
+        let b = best_of(q, p.filled);
+        let at = b.at;
+        let last = q.ranges[p.filled - 1];
+        q.ranges[at] = last;
+        p = completion_turn::turn(book, p, b.range);
     }
     p
 }

@@ -459,44 +459,38 @@ struct Open {
     end: usize,
 }
 
-/// The positions from first to end in rank, one after the other, at most 16: the machine of open
-/// ranges. The parts left by a position wait until the next one is asked for.
-struct Ranked<'a> {
-    book: Book<'a>,
-    open: [Open; MOST_OFFERED + 1],
-    waiting: usize,
-    parts: [(usize, usize); 2],
-    looks: usize,
-}
-
-impl<'a> Ranked<'a> {
-    fn new(book: Book<'a>, first: usize, end: usize) -> Ranked<'a> {
-        let open = [Open { first: 0, best: 0, end: 0 }; MOST_OFFERED + 1];
-        Ranked { book, open, waiting: 0, parts: [(first, end), (0, 0)], looks: 0 }
-    }
-}
-
-impl Iterator for Ranked<'_> {
-    type Item = usize;
-
-    fn next(&mut self) -> Option<usize> {
-        for (first, end) in self.parts {
+/// Each of the positions from first to end in rank, the first k of them, at most 16: the machine of
+/// open ranges. Gives the looks.
+fn each_ranked(
+    book: Book,
+    first: usize,
+    end: usize,
+    k: usize,
+    mut each: impl FnMut(usize),
+) -> usize {
+    let mut open = [Open { first: 0, best: 0, end: 0 }; MOST_OFFERED + 1];
+    let (mut waiting, mut looks) = (0, 0);
+    let mut parts = [(first, end), (0, 0)];
+    for _ in 0..k {
+        for (first, end) in parts {
             if first < end {
-                self.open[self.waiting] = Open { first, best: self.book.best_in(first, end), end };
-                self.waiting += 1;
-                self.looks += 1;
+                open[waiting] = Open { first, best: book.best_in(first, end), end };
+                waiting += 1;
+                looks += 1;
             }
         }
-        let at = (0..self.waiting).min_by_key(|&i| {
-            let best = self.open[i].best;
-            (std::cmp::Reverse(self.book.score(best)), best)
-        })?;
-        let Open { first, best, end } = self.open[at];
-        self.waiting -= 1;
-        self.open[at] = self.open[self.waiting];
-        self.parts = [(first, best), (best + 1, end)];
-        Some(best)
+        let Some(at) = (0..waiting)
+            .min_by_key(|&i| (std::cmp::Reverse(book.score(open[i].best)), open[i].best))
+        else {
+            break;
+        };
+        let range = open[at];
+        each(range.best);
+        waiting -= 1;
+        open[at] = open[waiting];
+        parts = [(range.first, range.best), (range.best + 1, range.end)];
     }
+    looks
 }
 
 pub fn complete(book: &[u8], prefix: &[u8], k: usize, dst: &mut [u8], ranges: usize) -> Offered {
@@ -511,13 +505,13 @@ pub fn complete(book: &[u8], prefix: &[u8], k: usize, dst: &mut [u8], ranges: us
         return Err(7);
     }
     let (first, end) = book.range(prefix);
-    let mut ranked = Ranked::new(book, first, end);
     let (mut offered, mut bytes) = (0, 0);
-    for i in ranked.by_ref().take(k) {
-        bytes += put_entry(book.name_at(i).get(), book.score(i), &mut dst[bytes..])?.1;
+    let looks = each_ranked(book, first, end, k, |i| {
+        let entry = put_entry(book.name_at(i).get(), book.score(i), &mut dst[bytes..]);
+        bytes += entry.expect("room for k entries").1;
         offered += 1;
-    }
-    Ok((offered, bytes, ranked.looks))
+    });
+    Ok((offered, bytes, looks))
 }
 
 /// The entries of a sheet that was checked.

@@ -1,5 +1,5 @@
 //! The panel in plain safe Rust.
-use super::{check, Book, Name, Ranked};
+use super::{check, each_ranked, Book, Name};
 use crate::reference::{is_prefix, LONGEST_NAME};
 use label_book::Panel;
 
@@ -17,8 +17,11 @@ impl<'a> Rows<'a> {
     fn new(book: Book<'a>, text: &[u8], wanted: usize) -> Rows<'a> {
         let (first, end) = book.range(text);
         let mut rows = Rows { book, count: (end - first).min(SHOWN), at: [0; SHOWN] };
-        let ranked = Ranked::new(book, first, end).take(wanted);
-        rows.at.iter_mut().zip(ranked).for_each(|(row, position)| *row = position);
+        let mut row = 0;
+        each_ranked(book, first, end, wanted, |position| {
+            rows.at[row] = position;
+            row += 1;
+        });
         rows
     }
 

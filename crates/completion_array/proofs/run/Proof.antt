@@ -1,6 +1,7 @@
 -- `completion_array::run` meets its contract. The loop's invariant: the machine goes on as it would have from the start
 -- (completion_turn/proofs/Turning). The measure is the number of turns left. Assumes nothing.
-use mathlib.Core.Path.{_∙_, _≡_, subst, sym}
+use Prim.Native.Nat.{_-_, _<_, _≤_}
+use mathlib.Core.Path.{_∙_, _≡_}
 use mathlib.Core.Bool.{true}
 use lib.ListN.{length}
 use native.Mathlib.Omega.{arith}
@@ -23,19 +24,19 @@ abbrev μ-loop : tie.MeasureT-loop
 μ-loop book p₀ q₀ p q = p .turns
 
 -- places that the proofs below look back to
-abbrev begin-of-turn : tie.After-turn Inv-loop μ-loop → tie.Start Inv-loop μ-loop
-begin-of-turn c = c .before .before .before .before .before .before .before
-
 abbrev begin : tie.Then1 Inv-loop μ-loop → tie.Start Inv-loop μ-loop
 begin c = c .before .before .before .before
 
-abbrev at-loop : tie.After-turn Inv-loop μ-loop → tie.At-loop Inv-loop μ-loop
-at-loop c = c .before .before .before .before .before
+abbrev turning : tie.After-r1 Inv-loop μ-loop → tie.Then1 Inv-loop μ-loop
+turning c = c .before .before
+
+abbrev searched : tie.After-turn Inv-loop μ-loop → tie.After-best-of Inv-loop μ-loop
+searched c = c .before .before .before
 
 loop-holds : tie.Need-loop-holds Inv-loop μ-loop
 loop-holds c = goes-start (c .before .pre .ready)
 
--- the slots at the start, and in the loop; what the machine has before a turn
+-- the slots at the start and in the loop, sixteen; what the machine has before a turn, and which slots it names
 slots : (z : tie.Start Inv-loop μ-loop) → length (z .args .slots .ranges) ≡ maxCount
 slots z = search (needs, length-mapped)
 
@@ -46,6 +47,52 @@ going : (t : tie.Then1 Inv-loop μ-loop)
     → Going (inBook (begin t .args .book .now)) (t .before .before .loop .q .ranges) (t .before .before .loop .p)
 going t = t .before .before .loop .inv .ready (t .if1 .taken)
 
+first : (t : tie.Then1 Inv-loop μ-loop) → t .before .before .loop .p .at0 < maxCount
+first t = omega (arith, going t .first, sixteen t)
+
+second : (t : tie.Then1 Inv-loop μ-loop) → t .before .before .loop .p .at1 < maxCount
+second t = omega (arith, going t .second, sixteen t)
+
+filled : (t : tie.Then1 Inv-loop μ-loop) → t .before .before .loop .p .filled ≤ maxCount
+filled t = omega (arith, going t .room, sixteen t, t .if1 .taken)
+
+mul-r0 : tie.Need-mul-r0 Inv-loop μ-loop
+mul-r0 c = omega (arith, first (turning c))
+
+element-set-from-r0 : tie.Need-element-set-from-r0 Inv-loop μ-loop
+element-set-from-r0 c = search (needs, first (turning c))
+
+mul-r1 : tie.Need-mul-r1 Inv-loop μ-loop
+mul-r1 c = omega (arith, second (turning c))
+
+element-set-from-r1 : tie.Need-element-set-from-r1 Inv-loop μ-loop
+element-set-from-r1 c = search (needs, second (turning c))
+
+best-of-requires : tie.Need-best-of-requires Inv-loop μ-loop
+best-of-requires c κs = (going (turning c) .some, filled (turning c))
+
+sub-last : tie.Need-sub-last Inv-loop μ-loop
+sub-last c = search needs
+
+mul-last : tie.Need-mul-last Inv-loop μ-loop
+mul-last c = omega (arith, filled (turning (c .before .before)))
+
+element-copy-out-last : tie.Need-element-copy-out-last Inv-loop μ-loop
+element-copy-out-last c =
+    let t = turning (c .before .before) in
+    let l : t .before .before .loop .p .filled - 1 < maxCount = omega (arith, going t .some, filled t) in
+    search (needs, l)
+
+-- the slot of the best is one of them
+best-at : (c : tie.After-best-of Inv-loop μ-loop) → c .best-of .result .at < maxCount
+best-at c = omega (arith, c .best-of .ensures .1, filled (turning (c .before)))
+
+mul-last-2 : tie.Need-mul-last-2 Inv-loop μ-loop
+mul-last-2 c = omega (arith, best-at (c .before .before))
+
+element-set-from-last : tie.Need-element-set-from-last Inv-loop μ-loop
+element-set-from-last c = search (needs, best-at (c .before .before))
+
 held : (t : tie.Then1 Inv-loop μ-loop)
     → Held (begin t .args .book .now) (begin t .args .start .entries)
 held t = begin t .pre .held (t .before .before .loop .inv .before (t .if1 .taken))
@@ -53,50 +100,32 @@ held t = begin t .pre .held (t .before .before .loop .inv .before (t .if1 .taken
 names : (t : tie.Then1 Inv-loop μ-loop) → rising (inBook (begin t .args .book .now)) ≡ true
 names t = held-valid (held t) .order
 
--- one turn from there
-moved : (c : tie.After-turn Inv-loop μ-loop)
-    → GoesOn (inBook (begin-of-turn c .args .book .now))
-    (at-loop c .loop .q .ranges) (at-loop c .loop .p)
-    (c .before .before .take-best .result .queue .ranges) (c .turn .result)
-moved c =
-    let k = c .before .before in
-    let t = k .before in
-    let l = at-loop c .loop in
-    subst (λ ys. GoesOn (inBook (begin t .args .book .now)) (l .q .ranges) (l .p) ys (c .turn .result))
-    (sym (k .take-best .ensures .1))
-    (turned (names t) (going t) (t .if1 .taken) (rw (k .take-best .ensures .0) at (c .turn .ensures)))
-
-take-best-requires : tie.Need-take-best-requires Inv-loop μ-loop
-take-best-requires c κs =
-    let g = going c in (
-      omega (arith, g .first, sixteen c),
-      omega (arith, g .second, sixteen c),
-      g .some,
-      omega (arith, g .room, sixteen c, c .if1 .taken),
-    )
-
 turn-requires : tie.Need-turn-requires Inv-loop μ-loop
 turn-requires c κs =
-    let k = c .before in
-    let t = k .before in
+    let k = c .before .before in
+    let t = turning (k .before) in
     let g = going t in
     record {
       held = record { isIt = held t .isIt; count = t .before .before .loop .inv .entries ∙ held t .count };
-      inside = rw (k .take-best .ensures .0) (taken-inside (names t) g (t .if1 .taken));
+      inside = rw (k .best-of .ensures .0) (taken-inside (names t) g (t .if1 .taken));
       some = t .if1 .taken;
-      filled = (g .some, omega (arith, g .room, sixteen t, t .if1 .taken));
+      filled = (g .some, filled t);
       count = omega (arith, g .few, t .if1 .taken);
       seen = g .seen;
     }
 
 loop-less : tie.Need-loop-less Inv-loop μ-loop
 loop-less c =
-    let k = c .before .before in
-    let t = k .before in
-    turns-less (names t) (going t) (t .if1 .taken) (rw (k .take-best .ensures .0) at (c .turn .ensures))
+    let k = searched c in
+    let t = turning (k .before) in
+    turns-less (names t) (going t) (t .if1 .taken) (rw (k .best-of .ensures .0) at (c .turn .ensures))
 
 loop-again : tie.Need-loop-again Inv-loop μ-loop
-loop-again c = goes-turn (at-loop c .loop .inv) (moved c)
+loop-again c =
+    let k = searched c in
+    let t = turning (k .before) in
+    let m = turned (names t) (going t) (t .if1 .taken) (rw (k .best-of .ensures .0) at (c .turn .ensures)) in
+    rw (k .best-of .ensures .0) (goes-turn (t .before .before .loop .inv) m)
 
 returns : tie.Need-returns Inv-loop μ-loop
 returns c = goes-end (c .before .before .loop .inv) (omega (arith, c .if1 .left))
@@ -108,7 +137,16 @@ run-spec =
     Inv-loop
     μ-loop
     loop-holds
-    take-best-requires
+    mul-r0
+    element-set-from-r0
+    mul-r1
+    element-set-from-r1
+    best-of-requires
+    sub-last
+    mul-last
+    element-copy-out-last
+    mul-last-2
+    element-set-from-last
     turn-requires
     loop-less
     loop-again
