@@ -33,8 +33,8 @@ fn best_of(q: Queue, n: usize) -> completion_turn::BestRange
 }
 
 // Turns until none is left, with the slots in a local array. Each turn puts the ranges that are to be put and takes the
-// best out, the last coming into its slot; the slots are changed where they lie, since a turn does little beside which
-// copies of them would count.
+// best out, the last coming into its slot. The slots are changed where they lie: a turn does so little that copying them
+// would count.
 pub fn run(book: &[u8], start: completion_turn::Progress, slots: Queue) -> completion_turn::Progress
     requires { ⌜ Runnable (now book) (slots .ranges) start ⌝ }
     ensures { λ s. ⌜ Ran (inBook (now (book .entry))) (slots .ranges) start s ⌝ }

@@ -137,8 +137,8 @@ impl<'a> Book<'a> {
         (first + 1..end).fold(first, |best, i| self.better(best, i))
     }
 
-    /// The same, by peaks for whole blocks. Inlined in both of its users it makes the compiler lay
-    /// out `check` so that every call takes a quarter longer.
+    /// The same, by peaks for whole blocks. Not inlined, since the compiler was seen to lay `check`
+    /// out so that every call takes a quarter longer.
     #[inline(never)]
     fn best_in(&self, first: usize, end: usize) -> usize {
         let mut best = first;
