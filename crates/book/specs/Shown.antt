@@ -8,6 +8,7 @@ use lib.ListN.{drop, length, replicate, take}
 use Rattle.octets.specs.Lists.{concatMap, countFrom}
 use Rattle.octets.specs.Text.{text}
 use Rattle.entries.specs.Entries.{Entry, entry}
+use Rattle.entries.specs.Names.{micro, ohm}
 use Rattle.answer.specs.Answers.{Answer, FoundCounts, OfferedCounts, Outcome, SpanCounts, WrittenCounts, counts, given}
 use Rattle.answer.specs.Answers.{noneOffered, noneSpan, noneWritten, number, refused}
 
@@ -31,6 +32,40 @@ abbrev pub P4 : List ℕ
 P4 =
     0x31 ∷ 0x00 ∷ 0x00 ∷ 0x00 ∷ 0x1C ∷ 0x00 ∷ 0x04 ∷ 0x51 ∷ 0x0C ∷ 0x08 ∷ 0x72 ∷ 0x4A ∷ 0x07 ∷ 0x61 ∷ 0x63 ∷ 0x01
     ∷ 0x6C ∷ 0x59 ∷ 0x03 ∷ 0x06 ∷ 0x63 ∷ 0x00 ∷ 0x0D ∷ 0x20 ∷ 0x73 ∷ 0x74 ∷ 0x65 ∷ 0x70 ∷ []
+
+-- Names with µ and Ω (document 02, request c) in their order: 4.7 kΩ, µA, µF, Ω; their book and their trie. In both a
+-- sign stands whole behind others, and µ is what µA and µF share.
+abbrev pub kΩ : List ℕ
+kΩ = text "4.7 k" ++ ohm
+
+abbrev pub µA : List ℕ
+µA = micro ++ text "A"
+
+abbrev pub µF : List ℕ
+µF = micro ++ text "F"
+
+abbrev pub signed : List Entry
+signed = entry kΩ 7 ∷ entry µA 4 ∷ entry µF 9 ∷ entry ohm 2 ∷ []
+
+abbrev pub signedBook : List ℕ
+signedBook =
+    0x21 ∷ 0x00 ∷ 0x00 ∷ 0x00 ∷ 0x2F ∷ 0x00 ∷ 0x04 ∷ 0x00 ∷ 0x00 ∷ 0x00 ∷ 0x07 ∷ 0x00 ∷ 0x00 ∷ 0x00 ∷ 0x04 ∷ 0x00
+    ∷ 0x00 ∷ 0x00 ∷ 0x09 ∷ 0x00 ∷ 0x00 ∷ 0x00 ∷ 0x02 ∷ 0x00 ∷ 0x1B ∷ 0x00 ∷ 0x02 ∷ 0x07 ∷ 0x34 ∷ 0x2E ∷ 0x37 ∷ 0x20
+    ∷ 0x6B ∷ 0xCE ∷ 0xA9 ∷ 0x00 ∷ 0x03 ∷ 0xC2 ∷ 0xB5 ∷ 0x41 ∷ 0x02 ∷ 0x01 ∷ 0x46 ∷ 0x00 ∷ 0x02 ∷ 0xCE ∷ 0xA9 ∷ []
+
+abbrev pub signedTrie : List ℕ
+signedTrie =
+    0x31 ∷ 0x00 ∷ 0x00 ∷ 0x00 ∷ 0x1E ∷ 0x00 ∷ 0x04 ∷ 0x52 ∷ 0x09 ∷ 0x12 ∷ 0xC2 ∷ 0xB5 ∷ 0x47 ∷ 0x02 ∷ 0x34 ∷ 0x2E
+    ∷ 0x37 ∷ 0x20 ∷ 0x6B ∷ 0xCE ∷ 0xA9 ∷ 0x4A ∷ 0x05 ∷ 0xCE ∷ 0xA9 ∷ 0x01 ∷ 0x46 ∷ 0x49 ∷ 0x05 ∷ 0x41 ∷ []
+
+-- The trie of abcdefµ alone: its label is cut to 7 bytes, inside µ, and the group below begins with the other half.
+abbrev pub cutName : List ℕ
+cutName = text "abcdef" ++ micro
+
+abbrev pub cutTrie : List ℕ
+cutTrie =
+    0x31 ∷ 0x00 ∷ 0x00 ∷ 0x00 ∷ 0x13 ∷ 0x00 ∷ 0x01 ∷ 0x5F ∷ 0x01 ∷ 0x0A ∷ 0x61 ∷ 0x62 ∷ 0x63 ∷ 0x64 ∷ 0x65 ∷ 0x66
+    ∷ 0xC2 ∷ 0x09 ∷ 0xB5 ∷ []
 
 -- n bytes that no call wrote: a destination, or what stands behind an image
 abbrev pub spare : ℕ → List ℕ
@@ -62,9 +97,12 @@ seventeenBook =
 abbrev pub crowd : ℕ → List Entry
 crowd n = map (λ i. entry ((0x30 + i / 64) ∷ (0x30 + i % 64) ∷ []) 0) (countFrom 0 n)
 
--- an answer entry by hand, for scores below 256: length byte, name, 4-byte score
+-- an answer entry by hand, for scores below 256: length byte, name, 4-byte score; the name quoted, or as bytes
+abbrev pub answerFor : List ℕ → ℕ → List ℕ
+answerFor w s = length w ∷ w ++ (0x00 ∷ 0x00 ∷ 0x00 ∷ s ∷ [])
+
 abbrev pub answerEntry : String → ℕ → List ℕ
-answerEntry w s = length (text w) ∷ text w ++ (0x00 ∷ 0x00 ∷ 0x00 ∷ s ∷ [])
+answerEntry w s = answerFor (text w) s
 
 -- A reading as numbers: nothing where there is none, else 1 and each entry's length, name and score.
 abbrev pub listed : List Entry → List ℕ

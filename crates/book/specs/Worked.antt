@@ -1,5 +1,6 @@
 -- Worked cases of the book image and of its reading: one table, one proposition. The cases that document 01 marks P are
 -- in the table of the crate `ledger`.
+use Prim.Native.Nat.{_+_, ℕ}
 use mathlib.Core.Path.{_≡_, refl}
 use mathlib.Core.List.{List, [], _++_, _∷_}
 use lib.ListN.{drop, length, replicate, take}
@@ -7,13 +8,13 @@ use Rattle.octets.specs.Octets.{be, fromBe}
 use Rattle.octets.specs.Table.{Row, _gives_, failing}
 use Rattle.octets.specs.Text.{text}
 use Rattle.entries.specs.Entries.{Entry, entry, valid}
-use Rattle.entries.specs.Names.{allowedBytes, isName, isPrefix, isScore}
+use Rattle.entries.specs.Names.{allowedBytes, isName, isPrefix, isScore, micro, ohm}
 use Rattle.book.specs.Records.{recordLength, recordName, recordOf}
 use Rattle.book.specs.Book.{bookImage, entriesIn, imageIn, offset, offsets, peak, peaks, readBook, readIn}
 use Rattle.book.specs.Book.{recordsAt, scores}
 use Rattle.frame.specs.Frame.{countOf, framed, readAs}
 use Rattle.book.specs.Shown.{E, P1, P3, changed, crowd, letters, listed, seventeen, seventeenBook, shownRead}
-use Rattle.book.specs.Shown.{spare}
+use Rattle.book.specs.Shown.{signed, signedBook, spare, µF}
 
 -- 18 names: d and f tie for the best of block 0, and r is the best of block 1
 abbrev eighteen : List Entry
@@ -37,7 +38,15 @@ images =
     gives (0x21 ∷ 0x00 ∷ 0x00 ∷ 0x00 ∷ 17 ∷ 0x00 ∷ 1 ∷ 0x01 ∷ 0x02 ∷ 0x03 ∷ 0x04 ∷ 0x00 ∷ 15 ∷ 0x00 ∷ 0 ∷ 1 ∷ 0x61
     ∷ []))
     ∷ (take 4 (drop 7 (bookImage (entry (text "a") 4294967295 ∷ []))) gives (0xFF ∷ 0xFF ∷ 0xFF ∷ 0xFF ∷ []))
+    -- µ and Ω
+    ∷ (bookImage signed gives signedBook)
     ∷ []
+
+-- the book of two names of score 0, of which the second is a record of its own making; for less than 256 bytes
+abbrev twoNames : List ℕ → List ℕ → List ℕ
+twoNames first second =
+    0x21 ∷ 0x00 ∷ 0x00 ∷ 0x00 ∷ (20 + length first + length second) ∷ 0x00 ∷ 0x02 ∷ replicate 8 0x00
+    ++ (0x00 ∷ 0x13 ∷ 0x00 ∷ 0x00 ∷ length first ∷ first ++ second)
 
 -- not read: []
 abbrev readings : List Row
@@ -79,6 +88,21 @@ readings =
     ∷ (shownRead (readBook (changed P3 43 (0x7E ∷ [])))
     gives listed (entry (text "ac") 5 ∷ entry (text "rc") 9 ∷ entry (text "rc step") 9 ∷ entry (text "r~") 12 ∷ []))
     ∷ (shownRead (readBook (changed P3 43 (0x7F ∷ []))) gives [])
+    -- µ and Ω; a lone half at the end; the other half of another sign
+    ∷ (shownRead (readBook (signedBook ++ spare 2)) gives listed signed)
+    ∷ (shownRead (readBook (changed signedBook 46 (0x41 ∷ []))) gives [])
+    ∷ (shownRead (readBook (changed signedBook 46 (0xB5 ∷ []))) gives [])
+    ∷ (shownRead (readBook (changed signedBook 42 (0xC2 ∷ []))) gives [])
+    -- 46 letters and a sign, 47 and a half
+    ∷ (shownRead (readBook (bookImage (entry (replicate 46 0x78 ++ ohm) 1 ∷ [])))
+    gives listed (entry (replicate 46 0x78 ++ ohm) 1 ∷ []))
+    ∷ (shownRead (readBook (bookImage (entry (replicate 47 0x78 ++ (0xCE ∷ [])) 1 ∷ []))) gives [])
+    -- behind µ: µF and Ω; common bytes that end inside µ, with a rest that is a name by itself, and with the other half
+    ∷ (shownRead (readBook (twoNames micro (2 ∷ 1 ∷ text "F"))) gives listed (entry micro 0 ∷ entry µF 0 ∷ []))
+    ∷ (shownRead (readBook (twoNames micro (0 ∷ 2 ∷ ohm))) gives listed (entry micro 0 ∷ entry ohm 0 ∷ []))
+    ∷ (shownRead (readBook (twoNames micro (1 ∷ 2 ∷ micro))) gives [])
+    ∷ (shownRead (readBook (twoNames micro (1 ∷ 2 ∷ ohm))) gives [])
+    ∷ (shownRead (readBook (twoNames micro (1 ∷ 2 ∷ 0xB5 ∷ text "F"))) gives [])
     ∷ []
 
 abbrev table : List Row

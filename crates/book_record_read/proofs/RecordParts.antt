@@ -1,19 +1,21 @@
 -- The tests of a record's parts are those of a record of a book, whichever positions are heads.
 use Prim.Native.Nat.{_+_, _-_, _<_, _≤_, suc, zero, ℕ}
-use mathlib.Core.Path.{_∙_, _≡_, refl, sym}
+use mathlib.Core.Path.{_∙_, _≡_, ap, refl, sym}
 use mathlib.Core.Bool.{Bool, _&&_, and-assoc, and-false, false, true}
 use mathlib.Core.List.{List, [], _++_, _∷_}
 use lib.Dec.{eqb, eqb·suc-zero, leb, ltb}
 use lib.ListN.{drop, drop-of-length-le, getD, length, length-append, length-drop, length-take, take}
 use lib.Seq.{length-take-le}
 use native.Mathlib.Omega.{arith}
-use borrow.Author.Tests.{eqb-true, le-leb, le-ltb, leb-false, leb-true}
-use Rattle.octets.specs.Lists.{all}
+use borrow.Author.Tests.{eqb-false, eqb-true, le-leb, le-ltb, leb-false, leb-true, lt-leb, ne-eqb}
 use Rattle.octets.specs.Octets.{begins, below, common}
 use Rattle.octets_code.proofs.Loops.{drop-next}
 use Rattle.octets.proofs.Tests.{and-true, by-test, eqb-self}
 use Rattle.entries.specs.Names.{allowedBytes, isName, isPrefix, longestName}
 use Rattle.entries.proofs.Valid.{name-length}
+use Rattle.entries_laws.specs.Signs.{brokenHalf, halfAfter, halfStep, isTail, noHalf}
+use Rattle.entries_laws.proofs.Signs.{CutAt, allowed-append, allowed-half, between, cut-allowed, half-broken, half-cut}
+use Rattle.entries_laws.proofs.Signs.{inMicro, inOhm, whole-first}
 use Rattle.book_record_read.specs.RecordParts.{goesAbove, headPart, headTest, ownIf, recordPart, tailPart}
 use Rattle.book_record_read.specs.RecordParts.{tailTest}
 use Rattle.book.specs.Records.{recordLength, recordName, recordOf}
@@ -21,20 +23,19 @@ use Rattle.book_laws.specs.Cursor.{recordIs}
 use Rattle.book_record_read.specs.declared.Part.the-variants.{Bad, Own}
 use Rattle.book_record_read.proofs.Standing.{head-stands, tail-stands}
 
--- A name that keeps the first k bytes of prev and goes on with v: its bytes, its order.
-all-kept : (p : ℕ → Bool) (k : ℕ) (prev v : List ℕ) → all p prev ≡ true → all p (take k prev ++ v) ≡ all p v
-all-kept p zero prev v h = refl
-all-kept p (suc k) [] v h = refl
-all-kept p (suc k) (x ∷ prev) v h = let a = and-true (p x) (all p prev) h in rw (a .0) (all-kept p k prev v (a .1))
+-- A name that keeps the first k bytes of prev and goes on with v: its bytes, its order. Where no half is open behind the
+-- kept bytes, the name is allowed exactly if v is.
+allowed-kept : (k : ℕ) (prev v : List ℕ) → halfAfter noHalf (take k prev) ≡ noHalf
+    → allowedBytes (take k prev ++ v) ≡ allowedBytes v
+allowed-kept k prev v e = allowed-append (take k prev) v ∙ rw e (sym (allowed-half v))
 
 prefix-kept :
-    (k : ℕ) (prev v : List ℕ) → isPrefix prev ≡ true → k ≤ length prev
+    (k : ℕ) (prev v : List ℕ) → halfAfter noHalf (take k prev) ≡ noHalf → k ≤ length prev
     → isPrefix (take k prev ++ v) ≡ (leb (k + length v) longestName && isPrefix v)
-unfolding isPrefix allowedBytes
+unfolding isPrefix
 prefix-kept k prev v h q =
-    let a = and-true (leb (length prev) longestName) (allowedBytes prev) h in
     let l : length (take k prev ++ v) ≡ k + length v = simp (length-append, length-take) (omega arith) in
-    rw (l, all-kept (λ b. leb 0x20 b && leb b 0x7E) k prev v (a .1))
+    rw (l, allowed-kept k prev v h)
     (by-test (leb (k + length v) longestName)
     (λ t. let z = leb-true (k + length v) longestName t in rw (t, le-leb (length v) longestName (omega arith)))
     (λ t. rw t))
@@ -51,34 +52,46 @@ above-first x y xs ys =
     (λ t. let e = eqb-true x y t in rw (t, le-ltb x y (omega arith), eqb·suc-zero))
     (λ t. rw t)
 
+-- the byte behind the kept ones is not the other half of a pair
+abbrev Whole : ℕ → List ℕ → Type 0
+Whole k prev = k < length prev → isTail (getD prev k 0) ≡ false
+
 above-kept :
-    (k : ℕ) (prev v : List ℕ)
+    (k : ℕ) (prev v : List ℕ) → Whole k prev
     → (eqb (common (drop k prev) v) 0 && below (drop k prev) v) ≡ (leb 1 (length v) && goesAbove prev k (getD v 0 0))
 unfolding goesAbove
-above-kept k prev [] = and-false (eqb (common (drop k prev) []) 0)
-above-kept k prev (y ∷ v) =
+above-kept k prev [] o = and-false (eqb (common (drop k prev) []) 0)
+above-kept k prev (y ∷ v) o =
     by-test (leb (length prev) k)
     (λ t. rw (t, le-leb 1 (suc (length v)) (omega arith), drop-of-length-le prev (leb-true (length prev) k t)))
     (λ t.
-    rw (t, le-leb 1 (suc (length v)) (omega arith), drop-next prev k (leb-false (length prev) k t))
-    (above-first (getD prev k 0) y (drop (k + 1) prev) v))
+    let l = leb-false (length prev) k t in
+    rw (t, le-leb 1 (suc (length v)) (omega arith), o l, drop-next prev k l)
+    (above-first (getD prev k 0) y (drop (k + 1) prev) v ∙ sym (and-true-right (ltb (getD prev k 0) y))))
+  where
+    and-true-right : (b : Bool) → (b && true) ≡ b
+    and-true-right true = refl
+    and-true-right false = refl
+
+eqb-swap : (a b : ℕ) → eqb a b ≡ false → eqb b a ≡ false
+eqb-swap a b t = ne-eqb b a (λ z. eqb-false a b t (sym z))
 
 and-swap : (a b c : Bool) → (a && (b && c)) ≡ (b && (a && c))
 and-swap true b c = refl
 and-swap false b c = sym (and-false b)
 
--- all tests of the name at once
-name-kept :
-    (k : ℕ) (prev v : List ℕ) → isPrefix prev ≡ true → k ≤ length prev
+-- all tests of the name at once: of kept bytes that end between signs
+name-whole :
+    (k : ℕ) (prev v : List ℕ) → halfAfter noHalf (take k prev) ≡ noHalf → Whole k prev → k ≤ length prev
     → (eqb (common (drop k prev) v) 0 && (isName (take k prev ++ v) && below prev (take k prev ++ v)))
     ≡ (leb 1 (length v) && (leb (k + length v) longestName && (isPrefix v && goesAbove prev k (getD v 0 0))))
 unfolding isName
-name-kept k prev v h q =
+name-whole k prev v h o q =
     let l : length (take k prev ++ v) ≡ k + length v = simp (length-append, length-take) (omega arith) in
     rw (
       below-kept k prev v q,
       and-swap (eqb (common (drop k prev) v) 0),
-      above-kept k prev v,
+      above-kept k prev v o,
       l,
       prefix-kept k prev v h q,
     )
@@ -88,6 +101,72 @@ name-kept k prev v h q =
     rw (t, le-leb 1 (k + length v) (omega arith))
     (and-assoc (leb (k + length v) longestName) (isPrefix v) (goesAbove prev k (getD v 0 0))))
     (λ t. rw t (and-false (leb 1 (k + length v) && (leb (k + length v) longestName && isPrefix v)))))
+
+-- of kept bytes that end inside a pair: a name that goes on with the pair's other half x shares more with prev, and no
+-- other is allowed
+module _ (k : ℕ) (prev v : List ℕ) (h x : ℕ) (u : List ℕ) (inside : halfAfter noHalf (take k prev) ≡ h)
+    (next : drop k prev ≡ x ∷ u) (tail : isTail x ≡ true) (half : eqb h noHalf ≡ false)
+    (only : (y : ℕ) → eqb x y ≡ false → halfStep h y ≡ brokenHalf) where
+  no-name : (w : List ℕ) → eqb (halfAfter h w) noHalf ≡ false → isName (take k prev ++ w) ≡ false
+  unfolding isName isPrefix
+  no-name w t =
+      let n = length (take k prev ++ w) in
+      let bad : allowedBytes (take k prev ++ w) ≡ false = allowed-append (take k prev) w ∙ rw (inside, t) in
+      rw (bad, and-false (leb n longestName)) (and-false (leb 1 n))
+
+  not-kept : (eqb (common (drop k prev) v) 0 && (isName (take k prev ++ v) && below prev (take k prev ++ v))) ≡ false
+  not-kept = rw next (go v)
+    where
+      go : (w : List ℕ)
+          → (eqb (common (x ∷ u) w) 0 && (isName (take k prev ++ w) && below prev (take k prev ++ w))) ≡ false
+      go [] = rw (no-name [] half)
+      go (y ∷ w) = by-test (eqb x y) (λ t. rw (t, eqb·suc-zero))
+          (λ t. rw (t, no-name (y ∷ w) (rw (only y t, half-broken w))))
+
+  behind : (k < length prev) × (getD prev k 0 ≡ x)
+  behind =
+      by-test (leb (length prev) k)
+      (λ t. absurd (let z : [] ≡ x ∷ u = sym (drop-of-length-le prev (leb-true (length prev) k t)) ∙ next in
+      let o : _≡_ {A = ℕ} 0 1 = cc in omega arith))
+      (λ t.
+      let l = leb-false (length prev) k t in
+      let z : getD prev k 0 ∷ drop (k + 1) prev ≡ x ∷ u = sym (drop-next prev k l) ∙ next in
+      (l, (cc)))
+
+  not-above : (b : ℕ) → goesAbove prev k b ≡ false
+  unfolding goesAbove
+  not-above b = rw (lt-leb (length prev) k (behind .0), behind .1, tail, and-false (ltb x b))
+
+  name-inside :
+      (eqb (common (drop k prev) v) 0 && (isName (take k prev ++ v) && below prev (take k prev ++ v)))
+      ≡ (leb 1 (length v) && (leb (k + length v) longestName && (isPrefix v && goesAbove prev k (getD v 0 0))))
+  name-inside =
+      not-kept
+      ∙ sym (rw (not-above (getD v 0 0), and-false (isPrefix v), and-false (leb (k + length v) longestName))
+      (and-false (leb 1 (length v))))
+
+name-kept :
+    (k : ℕ) (prev v : List ℕ) → isPrefix prev ≡ true → k ≤ length prev
+    → (eqb (common (drop k prev) v) 0 && (isName (take k prev ++ v) && below prev (take k prev ++ v)))
+    ≡ (leb 1 (length v) && (leb (k + length v) longestName && (isPrefix v && goesAbove prev k (getD v 0 0))))
+unfolding isPrefix
+name-kept k prev v h q = go (halfAfter noHalf (take k prev)) (drop k prev) refl refl (cut-allowed k prev ok)
+  where
+    ok : allowedBytes prev ≡ true
+    ok = and-true (leb (length prev) longestName) (allowedBytes prev) h .1
+
+    whole : halfAfter noHalf (take k prev) ≡ noHalf → Whole k prev
+    whole e l =
+        whole-first (getD prev k 0) (drop (k + 1) prev)
+        (ap (halfAfter noHalf) (sym (drop-next prev k l)) ∙ ap (λ g. halfAfter g (drop k prev)) (sym e)
+        ∙ half-cut k prev ok)
+
+    go : (g : ℕ) (u : List ℕ) → halfAfter noHalf (take k prev) ≡ g → drop k prev ≡ u → CutAt g u
+        → (eqb (common (drop k prev) v) 0 && (isName (take k prev ++ v) && below prev (take k prev ++ v)))
+        ≡ (leb 1 (length v) && (leb (k + length v) longestName && (isPrefix v && goesAbove prev k (getD v 0 0))))
+    go g u e d between = name-whole k prev v e (whole e) q
+    go g u e d (inMicro {w}) = name-inside k prev v g 0xB5 w e d refl refl (λ y t. rw (eqb-swap 0xB5 y t))
+    go g u e d (inOhm {w}) = name-inside k prev v g 0xA9 w e d refl refl (λ y t. rw (eqb-swap 0xA9 y t))
 
 module _ (isHead : ℕ → Bool) (i : ℕ) (prev : List ℕ) where
   -- what the three tests of a record of a book say

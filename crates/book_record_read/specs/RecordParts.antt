@@ -1,13 +1,14 @@
 -- The parts of a record: how many bytes it keeps of the name before, where its own bytes start, and how many they are.
 -- They are found by tests of the record's own bytes; only a head's name is compared as a whole with the name before.
 use Prim.Native.Nat.{_+_, _-_, ℕ}
-use mathlib.Core.Bool.{Bool, _&&_, false, true}
+use mathlib.Core.Bool.{Bool, _&&_, false, not, true}
 use mathlib.Core.List.{List}
 use lib.Dec.{leb, ltb}
 use lib.ListN.{drop, getD, length, take}
 use Rattle.octets.specs.Lists.{if_then_else_}
 use Rattle.octets.specs.Octets.{below}
 use Rattle.entries.specs.Names.{isName, isPrefix, longestName}
+use Rattle.entries_laws.specs.Signs.{isTail}
 use Rattle.book_laws.specs.Cursor.{Step, cursorOf, recordIs}
 use Rattle.book_record_read.specs.declared.Part.{Part}
 use Rattle.book_record_read.specs.declared.Part.the-variants.{Bad, Own}
@@ -31,9 +32,10 @@ headTest prev s =
     let w = take (getD s 0 0) (drop 1 s) in
     leb 1 (length s) && (leb (getD s 0 0) (length s - 1) && (isName w && below prev w))
 
--- a name that keeps the first k bytes of prev and goes on with b shares no more with prev, and is above it
+-- a name that keeps the first k bytes of prev and goes on with b shares no more with prev, and is above it; the kept
+-- bytes do not end inside a pair
 unfoldable pub goesAbove : List ℕ → ℕ → ℕ → Bool
-goesAbove prev k b = if leb (length prev) k then true else ltb (getD prev k 0) b
+goesAbove prev k b = if leb (length prev) k then true else (ltb (getD prev k 0) b && not (isTail (getD prev k 0)))
 
 -- another record: the two bytes, a common byte within the name before, a rest, that many bytes, not too many in all,
 -- the rest's allowed, and the first of them above the byte that the name before has in its place

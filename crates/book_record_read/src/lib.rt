@@ -1,5 +1,7 @@
 // Front-coded records: reading one, with the name before it in a lent array.
 use limits::LONGEST_NAME;
+use limits::MICRO_TAIL;
+use limits::OHM_TAIL;
 ghost use mathlib.Core.Path.{_≡_};
 ghost use mathlib.Core.Bool.{true};
 ghost use lib.ListN.{length};
@@ -44,14 +46,22 @@ fn head_part(prev: &[u8], s: &[u8]) -> Part
     Part::Own(0, 1, n)
 }
 
-// Whether a name that keeps the first bytes of prev and goes on with next shares no more with it, and is above it.
+// Whether a name that keeps the first bytes of prev and goes on with next shares no more with it, and is above it; no
+// longest common prefix ends inside a pair, where prev goes on with the pair's other half.
 fn goes_above(prev: &[u8], kept: usize, next: u8) -> bool
     ensures { λ r. ⌜ r ≡ goesAbove (now (prev .entry)) kept next ⌝ }
 {
     if prev.len() <= kept {
         return true;
     }
-    prev[kept] < next
+    let x = prev[kept];
+    if next <= x {
+        return false;
+    }
+    if x == MICRO_TAIL {
+        return false;
+    }
+    x != OHM_TAIL
 }
 
 // The parts of another record: the common byte, the length of the rest, the rest.

@@ -8,13 +8,14 @@ use Rattle.octets.specs.Table.{Row, _gives_, failing}
 use Rattle.octets.specs.Text.{text}
 use Rattle.entries.specs.Completion.{completion, rangeStart}
 use Rattle.entries.specs.Entries.{Entry, valid}
-use Rattle.entries.specs.Names.{allowedBytes, isName, isPrefix, isScore}
+use Rattle.entries.specs.Names.{allowedBytes, isName, isPrefix, isScore, micro}
 use Rattle.book.specs.Records.{recordLength, recordName, recordOf}
 use Rattle.answer.specs.Answers.{entriesBytes, entryBytes, writing}
 use Rattle.book.specs.Book.{bookImage, entriesIn, imageIn, offset, offsets, peak, peaks, readBook, readIn, recordsAt}
 use Rattle.book.specs.Book.{scores}
 use Rattle.frame.specs.Frame.{countOf, framed, readAs}
-use Rattle.book.specs.Shown.{E, P1, P3, answerEntry, changed, letters, shownOffered, spare}
+use Rattle.book.specs.Shown.{E, P1, P3, answerEntry, answerFor, changed, kΩ, letters, shownOffered, signedBook, spare}
+use Rattle.book.specs.Shown.{µA, µF}
 use Rattle.completion.specs.Complete.{completeBook}
 use Rattle.completion.specs.Machine.{machine, offering, openRange, others, parts}
 
@@ -69,6 +70,12 @@ completing =
     -- two blocks
     ∷ (shownOffered (completeBook (bookImage eighteen) [] 3 (spare 159) 3)
     gives (0 ∷ 3 ∷ 18 ∷ 5 ∷ answerEntry "d" 5 ++ answerEntry "f" 5 ++ answerEntry "r" 3 ++ spare 141))
+    -- µ and Ω
+    ∷ (shownOffered (completeBook signedBook micro 5 (spare 265) 5)
+    gives (0 ∷ 2 ∷ 16 ∷ 2 ∷ answerFor µF 9 ++ answerFor µA 4 ++ spare 249))
+    ∷ (shownOffered (completeBook signedBook kΩ 1 (spare 53) 1) gives (0 ∷ 1 ∷ 12 ∷ 1 ∷ answerFor kΩ 7 ++ spare 41))
+    ∷ (shownOffered (completeBook signedBook [] 2 (spare 106) 2)
+    gives (0 ∷ 2 ∷ 20 ∷ 3 ∷ answerFor µF 9 ++ answerFor kΩ 7 ++ spare 86))
     -- none offered
     ∷ (shownOffered (completeBook P1 [] 2 (spare 106) 2) gives (0 ∷ 0 ∷ 0 ∷ 0 ∷ spare 106))
     ∷ (shownOffered (completeBook P3 (replicate 48 0x72) 1 (spare 53) 1) gives (0 ∷ 0 ∷ 0 ∷ 0 ∷ spare 53))
@@ -91,6 +98,9 @@ refusing =
     -- 2 before 3 and 7
     ∷ (shownOffered (completeBook P3 (replicate 49 0x72) 1 (spare 53) 1) gives (2 ∷ 0 ∷ 0 ∷ 0 ∷ spare 53))
     ∷ (shownOffered (completeBook P3 (0x1F ∷ []) 0 [] 0) gives (2 ∷ 0 ∷ 0 ∷ 0 ∷ []))
+    ∷ (shownOffered (completeBook signedBook (0xC2 ∷ []) 0 [] 0) gives (2 ∷ 0 ∷ 0 ∷ 0 ∷ []))
+    ∷ (shownOffered (completeBook P3 (replicate 47 0x72 ++ (0xC2 ∷ [])) 1 (spare 53) 1)
+    gives (2 ∷ 0 ∷ 0 ∷ 0 ∷ spare 53))
     -- 1 before all
     ∷ (shownOffered (completeBook (take 43 P3) (0x1F ∷ []) 0 [] 0) gives (1 ∷ 0 ∷ 0 ∷ 0 ∷ []))
     ∷ (shownOffered (completeBook (changed P3 26 (1 ∷ [])) [] 1 (spare 53) 1) gives (1 ∷ 0 ∷ 0 ∷ 0 ∷ spare 53))

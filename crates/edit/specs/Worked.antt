@@ -7,14 +7,14 @@ use lib.ListN.{replicate, take}
 use Rattle.octets.specs.Octets.{be, fromBe}
 use Rattle.octets.specs.Table.{Row, _gives_, failing}
 use Rattle.octets.specs.Text.{text}
-use Rattle.entries.specs.Entries.{valid}
-use Rattle.entries.specs.Names.{allowedBytes, isName, isPrefix, isScore}
+use Rattle.entries.specs.Entries.{Entry, entry, valid}
+use Rattle.entries.specs.Names.{allowedBytes, isName, isPrefix, isScore, micro, ohm}
 use Rattle.book.specs.Records.{recordLength, recordName, recordOf}
 use Rattle.answer.specs.Answers.{writing, writingImage}
 use Rattle.book.specs.Book.{bookImage, entriesIn, imageIn, offset, offsets, peak, peaks, readBook, readIn, recordsAt}
 use Rattle.book.specs.Book.{scores}
 use Rattle.frame.specs.Frame.{countOf, framed, readAs}
-use Rattle.book.specs.Shown.{P1, P3, P4, changed, shownWritten, spare}
+use Rattle.book.specs.Shown.{P1, P3, P4, changed, kΩ, shownWritten, signedBook, spare, µA, µF}
 use Rattle.edit.specs.Edits.{emptyBook, setEntry, withdrawEntry}
 
 -- the book of ac 5, and of ac 5, rl 12
@@ -40,6 +40,10 @@ withRcS =
     0x21 ∷ 0x00 ∷ 0x00 ∷ 0x00 ∷ 0x32 ∷ 0x00 ∷ 0x05 ∷ 0x00 ∷ 0x00 ∷ 0x00 ∷ 0x05 ∷ 0x00 ∷ 0x00 ∷ 0x00 ∷ 0x09
     ∷ 0x00 ∷ 0x00 ∷ 0x00 ∷ 0x01 ∷ 0x00 ∷ 0x00 ∷ 0x00 ∷ 0x09 ∷ 0x00 ∷ 0x00 ∷ 0x00 ∷ 0x0C ∷ 0x00 ∷ 0x1F ∷ 0x00 ∷ 0x04
     ∷ 2 ∷ text "ac" ++ (0 ∷ 2 ∷ text "rc") ++ (2 ∷ 2 ∷ text " s") ++ (4 ∷ 3 ∷ text "tep") ++ (1 ∷ 1 ∷ text "l")
+
+-- names with µ and Ω, without µF
+abbrev withoutµF : List Entry
+withoutµF = entry kΩ 7 ∷ entry µA 4 ∷ entry ohm 2 ∷ []
 
 abbrev emptying : List Row
 emptying =
@@ -73,6 +77,13 @@ setting =
     ∷ (shownWritten (setEntry P3 (text "rc\u{7f}") 1 []) gives (2 ∷ 0 ∷ 0 ∷ []))
     ∷ (shownWritten (setEntry (take 43 P3) (text "rc\u{7f}") 1 []) gives (1 ∷ 0 ∷ 0 ∷ []))
     ∷ (shownWritten (setEntry (changed P3 26 (1 ∷ [])) (text "rc") 1 (spare 60)) gives (1 ∷ 0 ∷ 0 ∷ spare 60))
+    -- µF behind µA: a new name, and a held one; half a sign, and 47 bytes and a half
+    ∷ (shownWritten (setEntry (bookImage withoutµF) µF 9 (spare 47)) gives (0 ∷ 4 ∷ 47 ∷ signedBook))
+    ∷ (shownWritten (setEntry signedBook µF 9 (spare 48)) gives (0 ∷ 4 ∷ 47 ∷ signedBook ++ spare 1))
+    ∷ (shownWritten (setEntry signedBook (text "10 " ++ (0xC2 ∷ [])) 1 (spare 60)) gives (2 ∷ 0 ∷ 0 ∷ spare 60))
+    ∷ (shownWritten (setEntry P1 (replicate 47 0x78 ++ (0xC2 ∷ [])) 1 (spare 80)) gives (2 ∷ 0 ∷ 0 ∷ spare 80))
+    ∷ (shownWritten (setEntry P1 (replicate 46 0x78 ++ micro) 1 (spare 64))
+    gives (0 ∷ 1 ∷ 64 ∷ bookImage (entry (replicate 46 0x78 ++ micro) 1 ∷ [])))
     ∷ []
 
 abbrev withdrawing : List Row
@@ -85,6 +96,9 @@ withdrawing =
     ∷ (shownWritten (withdrawEntry withRcS (text "rc s") (spare 44)) gives (0 ∷ 4 ∷ 44 ∷ P3))
     ∷ (shownWritten (withdrawEntry two (text "rl") (spare 18)) gives (0 ∷ 1 ∷ 18 ∷ one))
     ∷ (shownWritten (withdrawEntry one (text "ac") (spare 8)) gives (0 ∷ 0 ∷ 7 ∷ P1 ++ spare 1))
+    -- a name with a sign; half a sign
+    ∷ (shownWritten (withdrawEntry signedBook µF (spare 40)) gives (0 ∷ 3 ∷ 40 ∷ bookImage withoutµF))
+    ∷ (shownWritten (withdrawEntry signedBook (0xC2 ∷ []) (spare 60)) gives (2 ∷ 0 ∷ 0 ∷ spare 60))
     -- not in the book: 4 before 7; not allowed: 2 before 4; no book before all
     ∷ (shownWritten (withdrawEntry P3 (text "zz") (spare 60)) gives (4 ∷ 0 ∷ 0 ∷ spare 60))
     ∷ (shownWritten (withdrawEntry P3 (text "r") []) gives (4 ∷ 0 ∷ 0 ∷ []))

@@ -1,24 +1,74 @@
-// Names and prefixes: which bytes, and how many of them, are allowed.
+// Names and prefixes: which signs, and how many bytes of them, are allowed.
+use limits::BROKEN_HALF;
 use limits::FIRST_ALLOWED;
 use limits::LAST_ALLOWED;
 use limits::LONGEST_NAME;
+use limits::MICRO_HALF;
+use limits::MICRO_LEAD;
+use limits::MICRO_TAIL;
+use limits::NO_HALF;
+use limits::OHM_HALF;
+use limits::OHM_LEAD;
+use limits::OHM_TAIL;
+ghost use Prim.Native.Nat.{_<_};
 ghost use mathlib.Core.Path.{_≡_};
-ghost use Rattle.entries.specs.Names.{allowedBytes, isName, isPrefix};
+ghost use lib.ListN.{drop, length};
+ghost use Rattle.entries.specs.Names.{allowedBytes, isName, isPair, isPlain, isPrefix, lastSign};
+ghost use Rattle.entries_laws.specs.Signs.{halfAfter, halfStep};
+ghost use Rattle.entries_check.specs.Signs.{firstSign};
 
-// Whether each byte is 20 to 7E.
+// Whether a byte is a sign by itself: 20 to 7E.
+pub fn is_plain(b: u8) -> bool
+    ensures { λ r. ⌜ r ≡ isPlain b ⌝ }
+{
+    if b < FIRST_ALLOWED {
+        return false;
+    }
+    b <= LAST_ALLOWED
+}
+
+// Whether two bytes are a sign together, µ or Ω.
+fn is_pair(a: u8, b: u8) -> bool
+    ensures { λ r. ⌜ r ≡ isPair a b ⌝ }
+{
+    if a == MICRO_LEAD {
+        return b == MICRO_TAIL;
+    }
+    if a != OHM_LEAD {
+        return false;
+    }
+    b == OHM_TAIL
+}
+
+// The bytes of the sign at an index: 1 or 2, 0 where none stands there.
+fn sign_at(w: &[u8], i: usize) -> usize
+    requires { ⌜ i < length (now w) ⌝ }
+    ensures { λ r. ⌜ r ≡ firstSign (drop i (now (w .entry))) ⌝ }
+{
+    let x = w[i];
+    if is_plain(x) {
+        return 1;
+    }
+    if w.len() - i < 2 {
+        return 0; // the text ends in half a sign, or in no sign's byte
+    }
+    if is_pair(x, w[i + 1]) {
+        return 2;
+    }
+    0
+}
+
+// Whether a text is allowed, read sign by sign.
 fn allowed_bytes(w: &[u8]) -> bool
     ensures { λ r. ⌜ r ≡ allowedBytes (now (w .entry)) ⌝ }
 {
     let mut i = 0;
     while i < w.len() {
-        let x = w[i];
-        if x < FIRST_ALLOWED {
+        let n = sign_at(w, i);
+        if n == 0 {
             return false;
         }
-        if LAST_ALLOWED < x {
-            return false;
-        }
-        i += 1;
+        i += n;
     }
     true
 }
@@ -41,4 +91,62 @@ pub fn is_name(w: &[u8]) -> bool
         return false;
     }
     is_prefix(w)
+}
+
+// The bytes of a text's last sign.
+pub fn last_sign(w: &[u8]) -> usize
+    ensures { λ r. ⌜ r ≡ lastSign (now (w .entry)) ⌝ }
+{
+    let n = w.len();
+    if n < 2 {
+        return 1;
+    }
+    if is_pair(w[n - 2], w[n - 1]) {
+        return 2;
+    }
+    1
+}
+
+// The half of a pair that is open behind one byte more.
+fn half_step(half: usize, b: u8) -> usize
+    ensures { λ r. ⌜ r ≡ halfStep half b ⌝ }
+{
+    if half == NO_HALF {
+        if is_plain(b) {
+            return NO_HALF;
+        }
+        if b == MICRO_LEAD {
+            return MICRO_HALF;
+        }
+        if b == OHM_LEAD {
+            return OHM_HALF;
+        }
+        return BROKEN_HALF;
+    }
+    if half == MICRO_HALF {
+        if b == MICRO_TAIL {
+            return NO_HALF;
+        }
+        return BROKEN_HALF;
+    }
+    if half != OHM_HALF {
+        return BROKEN_HALF;
+    }
+    if b == OHM_TAIL {
+        return NO_HALF;
+    }
+    BROKEN_HALF
+}
+
+// The half of a pair that is open behind a part of a text, where `half` was open in front of it.
+pub fn half_after(half: usize, w: &[u8]) -> usize
+    ensures { λ r. ⌜ r ≡ halfAfter half (now (w .entry)) ⌝ }
+{
+    let mut behind = half;
+    let mut i = 0;
+    while i < w.len() {
+        behind = half_step(behind, w[i]);
+        i += 1;
+    }
+    behind
 }

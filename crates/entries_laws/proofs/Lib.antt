@@ -1,2 +1,4 @@
 pub mod Place
+pub mod Prefixes
+pub mod Signs
 pub mod Splice

@@ -9,13 +9,13 @@ use Rattle.octets.specs.Octets.{be, fromBe}
 use Rattle.octets.specs.Table.{Row, _gives_, failing}
 use Rattle.octets.specs.Text.{text}
 use Rattle.entries.specs.Entries.{entry, valid}
-use Rattle.entries.specs.Names.{allowedBytes, isName, isPrefix, isScore}
+use Rattle.entries.specs.Names.{allowedBytes, isName, isPrefix, isScore, ohm}
 use Rattle.book.specs.Records.{recordLength, recordName, recordOf}
 use Rattle.answer.specs.Answers.{Answer, WrittenCounts, writing, writingImage}
 use Rattle.book.specs.Book.{bookImage, entriesIn, imageIn, offset, offsets, peak, peaks, readBook, readIn, recordsAt}
 use Rattle.book.specs.Book.{scores}
 use Rattle.frame.specs.Frame.{countOf, framed, readAs}
-use Rattle.book.specs.Shown.{E, P1, P3, changed, crowd, listed, shownWritten, spare}
+use Rattle.book.specs.Shown.{E, P1, P3, changed, crowd, kΩ, listed, shownWritten, signedBook, spare, µA, µF}
 use Rattle.edit.specs.Edits.{emptyBook, setEntry, withdrawEntry}
 use Rattle.ledger.specs.History.{answers, buffersAfter, callStep, started}
 use Rattle.ledger.specs.Ledger.{Edit, held, ledgerAnswer, ledgerAnswers, ledgerStep, setName, withdrawName}
@@ -72,6 +72,35 @@ histories =
     ∷ (buffers 8 gives (changed (changed P3 22 (8 ∷ [])) 26 (1 ∷ []) ++ P3))
     ∷ []
 
+-- names with µ and Ω; half a sign, in a set and in a withdrawal, is refused and changes nothing
+abbrev signHistory : List Edit
+signHistory =
+    setName ohm 2
+    ∷ setName µA 4
+    ∷ setName (0xC2 ∷ []) 1
+    ∷ setName kΩ 7
+    ∷ withdrawName (text "4.7 k" ++ (0xCE ∷ []))
+    ∷ setName µF 1
+    ∷ setName µF 9
+    ∷ []
+
+abbrev signAnswers : List ℕ
+signAnswers =
+    0 ∷ 1 ∷ 18
+    ∷ 0 ∷ 2 ∷ 27
+    ∷ 2 ∷ 0 ∷ 0
+    ∷ 0 ∷ 3 ∷ 40
+    ∷ 2 ∷ 0 ∷ 0
+    ∷ 0 ∷ 4 ∷ 47
+    ∷ 0 ∷ 4 ∷ 47 ∷ []
+
+abbrev signs : List Row
+signs =
+    (concatMap shownAnswer (answers signHistory (started (spare 47) (spare 47))) gives signAnswers)
+    ∷ (concatMap shownAnswer (ledgerAnswers 47 signHistory []) gives signAnswers)
+    ∷ (buffersAfter signHistory (started (spare 47) (spare 47)) .book gives signedBook)
+    ∷ []
+
 abbrev limits : List Row
 limits =
     -- with 1,024 held: 5 for a new name, before 7; 2 before 5; a held name gets a new score, or 7
@@ -88,7 +117,7 @@ limits =
     ∷ []
 
 abbrev table : List Row
-table = histories ++ limits
+table = histories ++ signs ++ limits
 
 worked : failing 0 table ≡ []
 unfolding be fromBe allowedBytes isPrefix isName isScore valid recordOf recordName recordLength framed countOf readAs

@@ -3,10 +3,26 @@
 
 // The most bytes of a name or a prefix: `longestName`.
 pub const LONGEST_NAME: usize = 48;
-// The first and the last byte that a name may have; the panel's keys of these append: `allowedBytes`, `appends`.
+// The first and the last byte that is a sign by itself: `isPlain`.
 pub const FIRST_ALLOWED: u8 = 0x20;
 
 pub const LAST_ALLOWED: u8 = 0x7E;
+// The two bytes of µ and those of Ω: `isPair`.
+pub const MICRO_LEAD: u8 = 0xC2;
+
+pub const MICRO_TAIL: u8 = 0xB5;
+
+pub const OHM_LEAD: u8 = 0xCE;
+
+pub const OHM_TAIL: u8 = 0xA9;
+// Which half of a pair is open behind a part of a text: `noHalf`, `microHalf`, `ohmHalf`, `brokenHalf`.
+pub const NO_HALF: usize = 0;
+
+pub const MICRO_HALF: usize = 1;
+
+pub const OHM_HALF: usize = 2;
+
+pub const BROKEN_HALF: usize = 3;
 
 // The most entries of a book, a trie or a sheet: `maxEntries`.
 pub const MAX_ENTRIES: usize = 1024;
@@ -41,7 +57,11 @@ pub const MAX_COUNT: usize = 16;
 pub const ENTRY_ROOM: usize = 53;
 // How many entries the panel asks for: `panelCount`.
 pub const PANEL_COUNT: usize = 5;
-// The panel's keys that append nothing: `acts`; key 0 only counts the rows again.
+// The panel's keys that append µ and Ω: `keyBytes`; the keys of bytes 20 to 7E append these.
+pub const KEY_MICRO: u8 = 0x80;
+
+pub const KEY_OHM: u8 = 0x81;
+// Its keys that append nothing: `acts`; key 0 only counts the rows again.
 pub const KEY_UP: u8 = 0x01;
 
 pub const KEY_DOWN: u8 = 0x02;

@@ -8,15 +8,15 @@ use Rattle.octets.specs.Table.{Row, _gives_, failing}
 use Rattle.octets.specs.Text.{text}
 use Rattle.entries.specs.Completion.{rangeStart}
 use Rattle.entries.specs.Entries.{entry, valid}
-use Rattle.entries.specs.Names.{allowedBytes, isName, isPrefix, isScore}
+use Rattle.entries.specs.Names.{allowedBytes, isName, isPrefix, isScore, micro, ohm}
 use Rattle.book.specs.Records.{recordLength, recordName, recordOf}
 use Rattle.answer.specs.Answers.{entryBytes, writing, writingImage}
 use Rattle.book.specs.Book.{bookImage, entriesIn, imageIn, offset, offsets, peak, peaks, readBook, readIn, recordsAt}
 use Rattle.book.specs.Book.{scores}
 use Rattle.frame.specs.Frame.{countOf, framed, readAs}
 use Rattle.lookup.specs.Lookups.{checkBook, find, foundIn, headLength, headName, nameAt, nameOf, prefixRange}
-use Rattle.book.specs.Shown.{P1, P3, P4, answerEntry, changed, seventeenBook, shownFound, shownLength, shownSpan}
-use Rattle.book.specs.Shown.{shownWritten, spare}
+use Rattle.book.specs.Shown.{P1, P3, P4, answerEntry, answerFor, changed, kΩ, seventeenBook, shownFound, shownLength}
+use Rattle.book.specs.Shown.{shownSpan, shownWritten, signedBook, spare, µF}
 
 abbrev finding : List Row
 finding =
@@ -34,6 +34,13 @@ finding =
     ∷ (shownFound (find P3 (0x7F ∷ [])) gives (2 ∷ []))
     ∷ (shownFound (find (take 43 P3) (text "ac")) gives (1 ∷ []))
     ∷ (shownFound (find (take 43 P3) []) gives (1 ∷ []))
+    -- µ and Ω; a name of 48 bytes that ends in one; half a sign, and 47 bytes and a half
+    ∷ (shownFound (find signedBook µF) gives (0 ∷ 2 ∷ 9 ∷ []))
+    ∷ (shownFound (find signedBook ohm) gives (0 ∷ 3 ∷ 2 ∷ []))
+    ∷ (shownFound (find signedBook micro) gives (0 ∷ []))
+    ∷ (shownFound (find P3 (replicate 46 0x78 ++ ohm)) gives (0 ∷ []))
+    ∷ (shownFound (find signedBook (0xCE ∷ [])) gives (2 ∷ []))
+    ∷ (shownFound (find P3 (replicate 47 0x78 ++ (0xCE ∷ []))) gives (2 ∷ []))
     ∷ []
 
 abbrev naming : List Row
@@ -55,6 +62,10 @@ naming =
     ∷ (shownWritten (nameOf P3 (text "rc s") []) gives (4 ∷ 0 ∷ 0 ∷ []))
     ∷ (shownWritten (nameOf P3 [] (spare 53)) gives (2 ∷ 0 ∷ 0 ∷ spare 53))
     ∷ (shownWritten (nameOf (changed P3 26 (1 ∷ [])) [] (spare 5)) gives (1 ∷ 0 ∷ 0 ∷ spare 5))
+    -- µ and Ω; half a sign
+    ∷ (shownWritten (nameAt signedBook 0 (spare 12)) gives (0 ∷ 1 ∷ 12 ∷ answerFor kΩ 7))
+    ∷ (shownWritten (nameOf signedBook ohm (spare 8)) gives (0 ∷ 1 ∷ 7 ∷ answerFor ohm 2 ++ spare 1))
+    ∷ (shownWritten (nameOf signedBook (0xC2 ∷ []) (spare 8)) gives (2 ∷ 0 ∷ 0 ∷ spare 8))
     ∷ []
 
 abbrev ranges : List Row
@@ -74,6 +85,12 @@ ranges =
     ∷ (shownSpan (prefixRange P3 (replicate 49 0x72)) gives (2 ∷ 0 ∷ 0 ∷ []))
     ∷ (shownSpan (prefixRange P3 (0x72 ∷ 0x1F ∷ [])) gives (2 ∷ 0 ∷ 0 ∷ []))
     ∷ (shownSpan (prefixRange P4 []) gives (1 ∷ 0 ∷ 0 ∷ []))
+    -- µ and Ω; half of either
+    ∷ (shownSpan (prefixRange signedBook micro) gives (0 ∷ 1 ∷ 2 ∷ []))
+    ∷ (shownSpan (prefixRange signedBook ohm) gives (0 ∷ 3 ∷ 1 ∷ []))
+    ∷ (shownSpan (prefixRange signedBook (text "4.7 k")) gives (0 ∷ 0 ∷ 1 ∷ []))
+    ∷ (shownSpan (prefixRange signedBook (0xC2 ∷ [])) gives (2 ∷ 0 ∷ 0 ∷ []))
+    ∷ (shownSpan (prefixRange signedBook (text "4.7 k" ++ (0xCE ∷ []))) gives (2 ∷ 0 ∷ 0 ∷ []))
     ∷ []
 
 -- the companion's number and length, then the head name
@@ -87,6 +104,7 @@ heads =
     ∷ (headOf seventeenBook 2 gives (0 ∷ 1 ∷ text "q"))
     -- a length of 6 is no refusal
     ∷ (headOf (bookImage (entry (text "abcdef") 1 ∷ [])) 0 gives (0 ∷ 6 ∷ text "abcdef"))
+    ∷ (headOf signedBook 0 gives (0 ∷ 7 ∷ kΩ))
     -- a bucket that the book lacks; no book, which comes first: an empty part
     ∷ (headOf seventeenBook 3 gives (6 ∷ 0 ∷ []))
     ∷ (headOf P3 1 gives (6 ∷ 0 ∷ []))
@@ -106,10 +124,13 @@ checks =
     (checked P3 gives (0 ∷ 4 ∷ 44 ∷ []))
     ∷ (checked (P3 ++ spare 3) gives (0 ∷ 4 ∷ 44 ∷ []))
     ∷ (checked P1 gives (0 ∷ 0 ∷ 7 ∷ []))
+    ∷ (checked signedBook gives (0 ∷ 4 ∷ 47 ∷ []))
     -- cut off, an old peak, a trie, nothing
     ∷ (checked (take 43 P3) gives (1 ∷ 0 ∷ 0 ∷ []))
     ∷ (checked (changed P3 26 (1 ∷ [])) gives (1 ∷ 0 ∷ 0 ∷ []))
     ∷ (checked P4 gives (1 ∷ 0 ∷ 0 ∷ []))
+    -- half a sign
+    ∷ (checked (changed signedBook 46 (0x41 ∷ [])) gives (1 ∷ 0 ∷ 0 ∷ []))
     ∷ (checked [] gives (1 ∷ 0 ∷ 0 ∷ []))
     ∷ []
 

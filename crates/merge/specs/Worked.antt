@@ -7,13 +7,13 @@ use Rattle.octets.specs.Octets.{be, fromBe}
 use Rattle.octets.specs.Table.{Row, _gives_, failing}
 use Rattle.octets.specs.Text.{text}
 use Rattle.entries.specs.Entries.{Entry, entry, valid}
-use Rattle.entries.specs.Names.{allowedBytes, isName, isPrefix, isScore}
+use Rattle.entries.specs.Names.{allowedBytes, isName, isPrefix, isScore, ohm}
 use Rattle.book.specs.Records.{recordLength, recordName, recordOf}
 use Rattle.answer.specs.Answers.{writing, writingImage}
 use Rattle.book.specs.Book.{bookImage, entriesIn, imageIn, offset, offsets, peak, peaks, readBook, readIn, recordsAt}
 use Rattle.book.specs.Book.{scores}
 use Rattle.frame.specs.Frame.{countOf, framed, readAs}
-use Rattle.book.specs.Shown.{P1, P3, P4, changed, crowd, letters, shownWritten, spare}
+use Rattle.book.specs.Shown.{P1, P3, P4, changed, crowd, kΩ, letters, shownWritten, signedBook, spare, µA, µF}
 use Rattle.merge.specs.Joined.{joined, mergeBooks}
 
 -- the course book: rc 20, rz 3; P3 is ac 5, rc 9, rc step 9, rl 12
@@ -55,6 +55,14 @@ merging =
     ∷ bookImage (digits ++ exes)))
     ∷ []
 
+-- names with µ and Ω: two books of which one has half of the names of the other
+abbrev signs : List Row
+signs =
+    (shownWritten (mergeBooks (bookImage (entry µF 9 ∷ entry ohm 2 ∷ [])) (bookImage (entry kΩ 7 ∷ entry µA 4
+    ∷ entry µF 1 ∷ [])) (spare 47)) gives (0 ∷ 4 ∷ 47 ∷ signedBook))
+    ∷ (shownWritten (mergeBooks signedBook (changed signedBook 46 (0x41 ∷ [])) (spare 60)) gives (1 ∷ 0 ∷ 0 ∷ spare 60))
+    ∷ []
+
 abbrev refusing : List Row
 refusing =
     -- 7: one byte short
@@ -74,7 +82,7 @@ refusing =
     ∷ []
 
 abbrev table : List Row
-table = merging ++ refusing
+table = merging ++ signs ++ refusing
 
 worked : failing 0 table ≡ []
 unfolding be fromBe allowedBytes isPrefix isName isScore valid recordOf recordName recordLength framed countOf readAs

@@ -1,29 +1,30 @@
 -- The highlight stays on its name.
-use Prim.Native.Nat.{_-_, _<_, _≤_, min, ℕ}
+use Prim.Native.Nat.{_+_, _-_, _<_, _≤_, min, ℕ}
 use mathlib.Core.Path.{_∙_, _≡_, ap, refl}
 use mathlib.Core.Logic.{inl, inr}
-use mathlib.Core.Bool.{_&&_, false, not, true}
+use mathlib.Core.Bool.{_&&_, false, false≢true, not, true}
 use mathlib.Core.List.{List, []}
-use lib.Dec.{eqb, leb}
+use lib.Dec.{eqb, leb, ltb}
 use lib.ListN.{length, length-take, replicate}
 use lib.Seq.{take-append-seam}
 use native.Mathlib.Omega.{arith}
-use borrow.Author.Tests.{eqb-false, eqb-true, le-leb, leb-false, ne-eqb, not-false}
+use borrow.Author.Tests.{eqb-false, eqb-true, le-leb, ltb-false, ne-eqb, not-false}
 use Rattle.octets.proofs.Lists.{all-in, get-in}
 use Rattle.octets.proofs.Tests.{and-intro, and-true, by-test}
 use Rattle.entries.specs.Entries.{Entry, at, holds, noEntry, position}
-use Rattle.entries.specs.Names.{allowedBytes, isName, isPrefix, longestName}
+use Rattle.entries.specs.Names.{allowedBytes, isName, isPlain, isPrefix, longestName}
 use Rattle.entries.proofs.TopK.{top-k}
-use Rattle.entries.proofs.Valid.{name-length, name-prefix, name-some, no-entry, prefix-less, prefix-more, valid-of}
+use Rattle.entries.proofs.Valid.{name-length, name-prefix, name-some, no-entry, valid-of}
 use Rattle.entries_laws.proofs.Place.{position-at}
+use Rattle.entries_laws.proofs.Prefixes.{prefix-less, prefix-more}
 use Rattle.frame.proofs.Frame.{entries-valid}
 use Rattle.answer.specs.Answers.{_when_, given}
 use Rattle.answer.proofs.Answers.{clear}
 use Rattle.book.specs.Book.{bookImage, inBook, isBook, readBook}
 use Rattle.book.proofs.Reading.{book-exact}
 use Rattle.panel.specs.declared.Panel.{Panel}
-use Rattle.panel.specs.Panel.{Typing, acts, appends, heldIn, highlighted, isHeld, isTyped, keyChecks, lowerTo}
-use Rattle.panel.specs.Panel.{lowered, offeredFor, onHeld, panelCount, panelOf, press, rowWith}
+use Rattle.panel.specs.Panel.{Typing, acts, appends, heldIn, highlighted, isHeld, isTyped, keyBytes, keyChecks}
+use Rattle.panel.specs.Panel.{lowerTo, lowered, offeredFor, onHeld, panelCount, panelOf, press, rowWith}
 use Rattle.panel.specs.Panel.{typedIn, typing, typingAfter, typingIn}
 use Rattle.panel.specs.Highlight.{HoldsItsName, OnItsName, StaysOnItsName, StillOn}
 
@@ -40,7 +41,7 @@ name-shown es t =
 -- what an accepted key says, and the state that it leaves
 record Accepted (book : List ℕ) (p : Panel) (key : ℕ) : Type 0 where
   typed : isTyped p ≡ true
-  room : (appends key && leb longestName (p .len)) ≡ false
+  room : (appends key && ltb longestName (p .len + length (keyBytes key))) ≡ false
   leaves : press book p key .panel ≡ panelOf (inBook book) (typingAfter (inBook book) p key)
 
 accepted : (book : List ℕ) (p : Panel) (key rows : ℕ) → press book p key .answer ≡ given rows → Accepted book p key
@@ -49,10 +50,11 @@ accepted book p key rows h =
     let new = panelOf (inBook book) (typingAfter (inBook book) p key) in
     let passed = clear (keyChecks book p key) (new .rows) rows h in
     let ok = isTyped p && isHeld p in
+    let full = appends key && ltb longestName (p .len + length (keyBytes key)) in
     let both = and-true (isTyped p) (isHeld p) (not-false ok (passed (2 when not ok) (inr (inl refl)))) in
     record {
       typed = both .0;
-      room = passed (9 when (appends key && leb longestName (p .len))) (inr (inr (inr (inl refl))));
+      room = passed (9 when full) (inr (inr (inr (inl refl))));
       leaves = rw h;
     }
 
@@ -75,22 +77,33 @@ start-on held offered row =
     (λ t. rw t (omega (arith, position-at held offered t .0)))
     (λ t. rw t (omega arith))
 
+-- a key appends a sign
+key-allowed : (key : ℕ) → appends key ≡ true → allowedBytes (keyBytes key) ≡ true
+unfolding allowedBytes
+key-allowed key a =
+    by-test (eqb key 0x80)
+    (λ t. rw (eqb-true key 0x80 t))
+    (λ t.
+    by-test (eqb key 0x81)
+    (λ s. rw (eqb-true key 0x81 s))
+    (λ s. by-test (isPlain key) (λ p. rw (t, s) p) (λ p. absurd (false≢true (rw (p, t, s) at a)))))
+
 -- a key makes an allowed text of one
 acts-prefix : (book : List ℕ) (key : ℕ) (t : Typing) → isPrefix (t .typed) ≡ true
-    → (appends key ≡ true → length (t .typed) < longestName)
+    → (appends key ≡ true → length (t .typed) + length (keyBytes key) ≤ longestName)
     → t .row ≤ length (offeredFor (inBook book) (t .typed)) - 1
     → isPrefix (acts (inBook book) key t .typed) ≡ true
 unfolding acts
 acts-prefix book key t h room on =
     let offered = offeredFor (inBook book) (t .typed) in
     by-test (appends key)
-    (λ a. rw a (prefix-more (t .typed) key h (room a) a))
+    (λ a. rw a (prefix-more (t .typed) (keyBytes key) h (key-allowed key a) (room a)))
     (λ a.
     by-test (eqb key 8)
     (λ k.
     by-test (eqb (length (t .typed)) 0)
     (λ e. rw (a, k, e) h)
-    (λ e. rw (a, k, e) (prefix-less (t .typed) (length (t .typed) - 1) h)))
+    (λ e. rw (a, k, e) (prefix-less (t .typed) h)))
     (λ k.
     by-test (eqb key 1)
     (λ u. rw (a, k, u) h)
@@ -155,10 +168,11 @@ module _ (book : List ℕ) (t : Typing) (h : isPrefix (t .typed) ≡ true)
 
 -- what an accepted key leads to
 module _ (book : List ℕ) (p : Panel) (key : ℕ) (a : Accepted book p key) where
-  -- the text has room for a byte that is appended
-  room-for : appends key ≡ true → length (typedIn p) < longestName
+  -- the text has room for the sign that is appended
+  room-for : appends key ≡ true → length (typedIn p) + length (keyBytes key) ≤ longestName
   room-for t =
-      let l : p .len < longestName = leb-false longestName (p .len) (rw t at (a .room)) in
+      let n = p .len + length (keyBytes key) in
+      let l : n ≤ longestName = ltb-false longestName n (rw t at (a .room)) in
       omega (arith, length-take (p .len) (p .text))
 
   after-prefix : isPrefix (typingAfter (inBook book) p key .typed) ≡ true

@@ -1,14 +1,15 @@
--- The panel's typing state and its keys (document 01, "Sheet, finding, panel, program"; document 02, request b).
+-- The panel's typing state and its keys (document 01, "Sheet, finding, panel, program"; document 02, requests b
+-- and c).
 use Prim.Native.Nat.{_+_, _-_, min, ℕ}
 use mathlib.Core.Bool.{Bool, _&&_, _||_, not}
 use mathlib.Core.List.{List, [], _++_, _∷_}
-use lib.Dec.{eqb, leb}
+use lib.Dec.{eqb, leb, ltb}
 use lib.ListN.{length, replicate, take}
 use mathlib.Core.Path.{_≡_}
 use Rattle.octets.specs.Lists.{any, if_then_else_}
 use Rattle.entries.specs.Completion.{completion}
 use Rattle.entries.specs.Entries.{Entry, at, holds, position}
-use Rattle.entries.specs.Names.{isName, isPrefix, longestName}
+use Rattle.entries.specs.Names.{isName, isPlain, isPrefix, lastSign, longestName, micro, ohm}
 use Rattle.answer.specs.Answers.{Answer, Check, _when_, onAnswer, unless}
 use Rattle.book.specs.Book.{inBook, isBook}
 use Rattle.panel.specs.declared.Panel.{Panel}
@@ -51,20 +52,31 @@ unfoldable pub onHeld : List Entry → List ℕ → Typing → Typing
 onHeld es held t =
     let offered = offeredFor es (t .typed) in typing (t .typed) (rowWith held offered (lowerTo offered (t .row)))
 
--- keys 20 to 7E append
+-- keys 20 to 7E append, and 80 and 81 (document 02, request c)
 abbrev pub appends : ℕ → Bool
-appends key = leb 0x20 key && leb key 0x7E
+appends key = isPlain key || eqb key 0x80 || eqb key 0x81
+
+-- the bytes that a key appends, one sign: 80 µ, 81 Ω, any other its own byte
+abbrev pub keyBytes : ℕ → List ℕ
+keyBytes key =
+    if eqb key 0x80 then micro
+    else if eqb key 0x81 then ohm
+    else key ∷ []
 
 abbrev pub isListed : ℕ → Bool
 isListed key = appends key || any (eqb key) (0x08 ∷ 0x01 ∷ 0x02 ∷ 0x0D ∷ 0x00 ∷ [])
 
--- append a byte
+-- append a sign
 abbrev pub appended : ℕ → Typing → Typing
-appended key t = typing (t .typed ++ (key ∷ [])) 0
+appended key t = typing (t .typed ++ keyBytes key) 0
 
--- erase the last byte, if there is one
+-- a text without its last sign, of which no half stays (document 02, request c)
+abbrev pub withoutLast : List ℕ → List ℕ
+withoutLast w = take (length w - lastSign w) w
+
+-- erase the last sign, if there is one
 abbrev pub erased : Typing → Typing
-erased t = if eqb (length (t .typed)) 0 then t else typing (take (length (t .typed) - 1) (t .typed)) 0
+erased t = if eqb (length (t .typed)) 0 then t else typing (withoutLast (t .typed)) 0
 
 -- up and down, stopping at the ends
 abbrev pub raised : Typing → Typing
@@ -115,7 +127,7 @@ heldIn p = take (p .«held_len») (p .held)
 abbrev pub typingIn : Panel → Typing
 typingIn p = typing (typedIn p) (p .highlight)
 
--- the length is not over 48, and every byte within it is allowed
+-- the length is not over 48, and the bytes within it are allowed
 abbrev pub isTyped : Panel → Bool
 isTyped p = leb (p .len) longestName && isPrefix (typedIn p)
 
@@ -133,13 +145,13 @@ pub record AfterKey : Type 0 where
 abbrev pub typingAfter : List Entry → Panel → ℕ → Typing
 typingAfter es p key = lowered es (acts es key (onHeld es (heldIn p) (typingIn p)))
 
--- what a key is refused for
+-- what a key is refused for: at last, that it appends a sign of more bytes than are left of 48
 abbrev pub keyChecks : List ℕ → Panel → ℕ → List Check
 keyChecks book p key =
     1 when not (isBook book)
     ∷ 2 when not (isTyped p && isHeld p)
     ∷ 8 when not (isListed key)
-    ∷ 9 when (appends key && leb longestName (p .len))
+    ∷ 9 when (appends key && ltb longestName (p .len + length (keyBytes key)))
     ∷ []
 
 -- a key: its answer, and the panel that it leaves

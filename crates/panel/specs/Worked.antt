@@ -8,7 +8,7 @@ use Rattle.octets.specs.Table.{Row, _gives_, failing}
 use Rattle.octets.specs.Text.{text}
 use Rattle.entries.specs.Completion.{completion}
 use Rattle.entries.specs.Entries.{entry, valid, with, without}
-use Rattle.entries.specs.Names.{allowedBytes, isName, isPrefix, isScore}
+use Rattle.entries.specs.Names.{allowedBytes, isName, isPrefix, isScore, micro, ohm}
 use Rattle.book.specs.Records.{recordLength, recordName, recordOf}
 use Rattle.book.specs.Book.{bookImage, entriesIn, imageIn, offset, offsets, peak, peaks, readBook, readIn, recordsAt}
 use Rattle.book.specs.Book.{scores}
@@ -201,8 +201,91 @@ refusing =
     ∷ (key (take 43 P3) (holdsTooLong 49) 0x00 gives refuses 1 (holdsTooLong 49))
     ∷ []
 
+-- texts with µ and Ω, in UTF-8 (document 02, request c)
+abbrev µF : List ℕ
+µF = text "10 " ++ micro ++ text "F"
+
+abbrev µH : List ℕ
+µH = text "10 " ++ micro ++ text "H"
+
+abbrev kΩ : List ℕ
+kΩ = text "4.7 k" ++ ohm
+
+-- so many letters x
+abbrev x : ℕ → List ℕ
+x n = replicate n 0x78
+
+-- a book that offers 10 µH, 4.7 kΩ, 10 µF for the empty text
+abbrev signs : List ℕ
+signs = bookImage (entry µF 5 ∷ entry µH 9 ∷ entry kΩ 7 ∷ [])
+
+abbrev signKeys : List Row
+signKeys =
+    -- 80 appends µ, 81 Ω: to the empty text, behind letters, behind a sign
+    (key signs (before [] 2) 0x80 gives leaves micro 0 0 [])
+    ∷ (key signs (before [] 2) 0x81 gives leaves ohm 0 0 [])
+    ∷ (key signs (before (text "10 ") 1) 0x80 gives leaves (text "10 " ++ micro) 0 2 µH)
+    ∷ (key signs (before (text "4.7 k") 0) 0x81 gives leaves kΩ 0 1 kΩ)
+    ∷ (key signs (before micro 0) 0x81 gives leaves (micro ++ ohm) 0 0 [])
+    -- with two bytes left; a letter with one
+    ∷ (key P3 (before (x 46) 0) 0x80 gives leaves (x 46 ++ micro) 0 0 [])
+    ∷ (key P3 (before (x 46) 0) 0x81 gives leaves (x 46 ++ ohm) 0 0 [])
+    ∷ (key P3 (before (x 45 ++ micro) 0) 0x78 gives leaves (x 45 ++ micro ++ x 1) 0 0 [])
+    -- erase a whole sign: alone, behind letters, at 48 bytes, behind a sign
+    ∷ (key signs (before micro 1) 0x08 gives leaves [] 0 3 µH)
+    ∷ (key signs (before kΩ 0) 0x08 gives leaves (text "4.7 k") 0 1 kΩ)
+    ∷ (key P3 (before (x 46 ++ micro) 0) 0x08 gives leaves (x 46) 0 0 [])
+    ∷ (key P3 (before (x 46 ++ ohm) 0) 0x08 gives leaves (x 46) 0 0 [])
+    ∷ (key signs (before (micro ++ ohm) 0) 0x08 gives leaves micro 0 0 [])
+    -- erase a letter behind a sign
+    ∷ (key signs (before µF 0) 0x08 gives leaves (text "10 " ++ micro) 0 2 µH)
+    -- take a name with a sign
+    ∷ (key signs (before (text "10 ") 1) 0x0D gives leaves µF 0 1 µF)
+    ∷ (key signs (before [] 1) 0x0D gives leaves kΩ 0 1 kΩ)
+    -- the held name has a sign; one of 48 bytes that ends in a sign, which no book has
+    ∷ (key signs (holding (text "10 ") 0 µF) 0x00 gives leaves (text "10 ") 1 2 µF)
+    ∷ (key signs (holding (text "10 " ++ micro) 0 µF) 0x01 gives leaves (text "10 " ++ micro) 0 2 µH)
+    ∷ (key signs (holding [] 0 kΩ) 0x02 gives leaves [] 2 3 µF)
+    ∷ (key P3 (holding [] 1 (x 46 ++ ohm)) 0x00 gives leaves [] 1 4 (text "rc"))
+    ∷ []
+
+-- a refused key leaves this panel
+abbrev refusedFor : ℕ → ℕ → Panel → Row
+refusedFor n c p = key signs p c gives refuses n p
+
+abbrev refusingSigns : List Row
+refusingSigns =
+    -- 9: µ or Ω with one byte left and with none, a letter behind a sign with none
+    refusedFor 9 0x80 (before (x 47) 7)
+    ∷ refusedFor 9 0x81 (before (x 47) 7)
+    ∷ refusedFor 9 0x80 (before (x 48) 7)
+    ∷ refusedFor 9 0x81 (before (x 48) 7)
+    ∷ refusedFor 9 0x80 (before (x 45 ++ ohm) 7)
+    ∷ refusedFor 9 0x78 (before (x 46 ++ micro) 7)
+    -- 8: keys beside 80 and 81, and the bytes of the signs, which are no keys; at 48 bytes too
+    ∷ refusedFor 8 0x7F (before micro 7)
+    ∷ refusedFor 8 0x82 (before micro 7)
+    ∷ refusedFor 8 0xC2 (before [] 7)
+    ∷ refusedFor 8 0xB5 (before [] 7)
+    ∷ refusedFor 8 0xCE (before [] 7)
+    ∷ refusedFor 8 0xA9 (before [] 7)
+    ∷ refusedFor 8 0x82 (before (x 48) 7)
+    -- 2: a text that ends in half a sign, a lone half, halves of two signs, any other byte past 7E; before 8 and 9
+    ∷ refusedFor 2 0x00 (before (text "10 " ++ (0xC2 ∷ [])) 1)
+    ∷ refusedFor 2 0x08 (before (text "4.7 k" ++ (0xCE ∷ [])) 1)
+    ∷ refusedFor 2 0x00 (before (0xB5 ∷ []) 1)
+    ∷ refusedFor 2 0x00 (before (0xC2 ∷ 0xA9 ∷ []) 1)
+    ∷ refusedFor 2 0x00 (before (0xCE ∷ 0xB5 ∷ []) 1)
+    ∷ refusedFor 2 0x82 (before (micro ++ (0x80 ∷ [])) 1)
+    ∷ refusedFor 2 0x80 (before (x 47 ++ (0xC2 ∷ [])) 1)
+    -- 2: a held name that ends in half a sign, a lone half
+    ∷ refusedFor 2 0x00 (holding (text "10 ") 1 (text "10 " ++ (0xC2 ∷ [])))
+    ∷ refusedFor 2 0x00 (holding [] 1 (0xA9 ∷ []))
+    ∷ refusedFor 2 0x81 (holding (x 48) 1 (x 47 ++ (0xCE ∷ [])))
+    ∷ []
+
 abbrev table : List Row
-table = moving ++ typingKeys ++ holdingKeys ++ refusing
+table = moving ++ typingKeys ++ holdingKeys ++ refusing ++ signKeys ++ refusingSigns
 
 worked : failing 0 table ≡ []
 unfolding be fromBe allowedBytes isPrefix isName isScore valid completion recordOf recordName recordLength framed

@@ -2,25 +2,25 @@
 use Prim.Native.Nat.{_+_, _-_, _≤_, min, ℕ}
 use mathlib.Core.Path.{_≡_}
 use mathlib.Core.Bool.{Bool, _&&_, _||_, not}
-use mathlib.Core.List.{List, [], _++_, _∷_}
-use lib.Dec.{eqb, leb}
-use lib.ListN.{length, take}
+use mathlib.Core.List.{List, _++_}
+use lib.Dec.{eqb, ltb}
+use lib.ListN.{length}
 use Rattle.octets.specs.Lists.{if_then_else_}
 use Rattle.entries.specs.Names.{longestName}
 use Rattle.panel.specs.declared.Panel.{Panel}
-use Rattle.panel.specs.Panel.{appends, typedIn}
+use Rattle.panel.specs.Panel.{appends, keyBytes, typedIn, withoutLast}
 
--- of a text of this length: append at 48 bytes
+-- of a text of this length: append more bytes than are left
 abbrev pub isFull : ℕ → ℕ → Bool
-isFull len key = appends key && leb longestName len
+isFull len key = appends key && ltb longestName (len + length (keyBytes key))
 
--- append, or erase a byte that is there
+-- append, or erase a sign that is there
 abbrev pub changesText : ℕ → ℕ → Bool
 changesText len key = appends key || (eqb key 0x08 && not (eqb len 0))
 
 -- the text then
 abbrev pub changedText : ℕ → List ℕ → List ℕ
-changedText key w = if appends key then w ++ (key ∷ []) else take (length w - 1) w
+changedText key w = if appends key then w ++ keyBytes key else withoutLast w
 
 -- take a name, where there is one
 abbrev pub takes : ℕ → ℕ → Bool

@@ -1,22 +1,26 @@
 // The panel as far as it needs no book: whether its text and held name are allowed, which keys are listed, what they do
 // to the text and to a row number.
-use limits::FIRST_ALLOWED;
 use limits::KEY_DOWN;
 use limits::KEY_ERASE;
+use limits::KEY_MICRO;
+use limits::KEY_OHM;
 use limits::KEY_TAKE;
 use limits::KEY_UP;
-use limits::LAST_ALLOWED;
 use limits::LONGEST_NAME;
+use limits::MICRO_LEAD;
+use limits::MICRO_TAIL;
+use limits::OHM_LEAD;
+use limits::OHM_TAIL;
 ghost use mathlib.Core.Path.{_≡_};
 ghost use mathlib.Core.Bool.{false, true};
 ghost use mathlib.Core.List.{[], _++_, _∷_};
-ghost use lib.ListN.{length, take};
-ghost use Prim.Native.Nat.{_-_, _<_, _≤_, min};
+ghost use lib.ListN.{length};
+ghost use Prim.Native.Nat.{_+_, _-_, _<_, _≤_, min};
 ghost use Rattle.entries.specs.Names.{longestName};
-ghost use Rattle.panel.specs.Panel.{appends, isHeld, isListed, isTyped, typedIn};
+ghost use Rattle.panel.specs.Panel.{appends, isHeld, isListed, isTyped, keyBytes, typedIn, withoutLast};
 ghost use Rattle.panel_typing.specs.Typing.{Typed, changedText, changesText, isFull, movedRow, takes};
 
-// Whether the length is not over 48 and every byte within it is allowed.
+// Whether the length is not over 48 and the bytes within it are allowed.
 pub fn is_typed(p: panel::Panel) -> bool
     ensures { λ r. ⌜ r ≡ isTyped p ⌝ }
 {
@@ -43,14 +47,30 @@ pub fn is_held(p: panel::Panel) -> bool
     entries_check::is_name(&held[..len])
 }
 
-// Whether a key appends: 20 to 7E.
+// Whether a key appends: 20 to 7E, 80, 81.
 fn appends(key: u8) -> bool
     ensures { λ r. ⌜ r ≡ appends key ⌝ }
 {
-    if key < FIRST_ALLOWED {
-        return false;
+    if entries_check::is_plain(key) {
+        return true;
     }
-    key <= LAST_ALLOWED
+    if key == KEY_MICRO {
+        return true;
+    }
+    key == KEY_OHM
+}
+
+// The bytes of the sign that a key appends.
+fn sign_length(key: u8) -> usize
+    ensures { λ r. ⌜ r ≡ length (keyBytes key) ⌝ }
+{
+    if key == KEY_MICRO {
+        return 2; // µ
+    }
+    if key == KEY_OHM {
+        return 2; // Ω
+    }
+    1
 }
 
 // Whether a key is listed.
@@ -70,17 +90,17 @@ pub fn is_listed(key: u8) -> bool
     key <= KEY_DOWN
 }
 
-// Whether a key appends at 48 bytes.
+// Whether a key appends more bytes than are left of 48.
 pub fn is_full(len: usize, key: u8) -> bool
     ensures { λ r. ⌜ r ≡ isFull len key ⌝ }
 {
     if !appends(key) {
         return false;
     }
-    LONGEST_NAME <= len
+    LONGEST_NAME - sign_length(key) < len
 }
 
-// Whether a key appends a byte, or erases one that is there: whatever the rows, the first is highlighted then.
+// Whether a key appends a sign, or erases one that is there: whatever the rows, the first is highlighted then.
 pub fn changes_text(len: usize, key: u8) -> bool
     ensures { λ r. ⌜ r ≡ changesText len key ⌝ }
 {
@@ -93,26 +113,55 @@ pub fn changes_text(len: usize, key: u8) -> bool
     len != 0
 }
 
-// Appends a byte to the text.
-fn append(p: panel::Panel, key: u8) -> panel::Panel
+// Appends a sign of one byte to the text.
+fn append_byte(p: panel::Panel, byte: u8) -> panel::Panel
     requires { ⌜ p .len < longestName ⌝ }
-    ensures { λ r. ⌜ Typed (typedIn p ++ (key ∷ [])) r ⌝ }
+    ensures { λ r. ⌜ Typed (typedIn p ++ (byte ∷ [])) r ⌝ }
 {
     let len = p.len;
     let mut q = p;
-    q.text[len] = key;
+    q.text[len] = byte;
     q.len = len + 1;
     q
 }
 
-// Erases the last byte of the text.
-fn erase(p: panel::Panel) -> panel::Panel
-    requires { ⌜ (0 < p .len) × (p .len ≤ longestName) ⌝ }
-    ensures { λ r. ⌜ Typed (take (length (typedIn p) - 1) (typedIn p)) r ⌝ }
+// Appends a sign of two bytes to the text.
+fn append_pair(p: panel::Panel, lead: u8, tail: u8) -> panel::Panel
+    requires { ⌜ p .len + 1 < longestName ⌝ }
+    ensures { λ r. ⌜ Typed (typedIn p ++ (lead ∷ tail ∷ [])) r ⌝ }
 {
     let len = p.len;
     let mut q = p;
-    q.len = len - 1;
+    q.text[len] = lead;
+    q.text[len + 1] = tail;
+    q.len = len + 2;
+    q
+}
+
+// Appends the sign of a key to the text.
+fn append(p: panel::Panel, key: u8) -> panel::Panel
+    requires { ⌜ p .len + length (keyBytes key) ≤ longestName ⌝ }
+    ensures { λ r. ⌜ Typed (typedIn p ++ keyBytes key) r ⌝ }
+{
+    if key == KEY_MICRO {
+        return append_pair(p, MICRO_LEAD, MICRO_TAIL);
+    }
+    if key == KEY_OHM {
+        return append_pair(p, OHM_LEAD, OHM_TAIL);
+    }
+    append_byte(p, key)
+}
+
+// Erases the last sign of the text.
+fn erase(p: panel::Panel) -> panel::Panel
+    requires { ⌜ (0 < p .len) × (p .len ≤ longestName) ⌝ }
+    ensures { λ r. ⌜ Typed (withoutLast (typedIn p)) r ⌝ }
+{
+    let len = p.len;
+    let text = p.text;
+    let last = entries_check::last_sign(&text[..len]);
+    let mut q = p;
+    q.len = len - last;
     q
 }
 

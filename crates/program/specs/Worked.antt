@@ -8,7 +8,7 @@ use Rattle.octets.specs.Table.{Row, _gives_, failing}
 use Rattle.octets.specs.Text.{text}
 use Rattle.entries.specs.Completion.{completion, rangeStart}
 use Rattle.entries.specs.Entries.{Entry}
-use Rattle.entries.specs.Names.{allowedBytes, isName, isPrefix}
+use Rattle.entries.specs.Names.{allowedBytes, isName, isPrefix, micro, ohm}
 use Rattle.book.specs.Records.{recordOf}
 use Rattle.book.specs.Book.{bookImage, imageIn, offset, offsets, peak, peaks, recordsAt, scores}
 use Rattle.frame.specs.Frame.{framed}
@@ -92,6 +92,14 @@ forms =
     ∷ (prints E (text "top 2 r\r") gives text "no 2\n")
     ∷ (prints E (text "top 2\r") gives text "bad\n")
     ∷ (prints E (text "del ac" ++ (0x80 ∷ [])) gives text "no 2\n")
+    -- µ and Ω; half a sign
+    ∷ (program (text "set 5 10 " ++ micro ++ text "F\nset 7 4.7 k" ++ ohm ++ text "\ntop 2 4.7 k" ++ ohm
+    ++ text "\ntop 1 10 " ++ micro ++ text "\ndel 10 " ++ micro ++ text "F")
+    gives (text "ok 1\nok 2\n7 4.7 k" ++ ohm ++ text "\nlooks 1\n5 10 " ++ micro ++ text "F\nlooks 1\nok 1\n"))
+    ∷ (prints E (text "set 5 10 " ++ (0xC2 ∷ [])) gives text "no 2\n")
+    ∷ (prints E (text "top 2 " ++ (0xCE ∷ [])) gives text "no 2\n")
+    ∷ (prints E (text "set 5 " ++ replicate 46 0x78 ++ ohm) gives text "ok 5\n")
+    ∷ (prints E (text "set 5 " ++ replicate 47 0x78 ++ (0xCE ∷ [])) gives text "no 2\n")
     -- 48 bytes and 49; long lines; 2 before 3
     ∷ (prints E (text "set 5 " ++ replicate 48 0x78) gives text "ok 5\n")
     ∷ (prints E (text "set 5 " ++ replicate 49 0x78) gives text "no 2\n")

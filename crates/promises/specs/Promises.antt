@@ -1,6 +1,6 @@
 -- Every promise on one page: the three demands and requests a and b, in the order and words of documents 01 and 02. One
 -- value proves them all, `promises` in proofs/Promises.antt.
-use Prim.Native.Nat.{_*_, _≤_, ℕ}
+use Prim.Native.Nat.{_*_, _+_, _≤_, ℕ}
 use mathlib.Core.Path.{_≡_}
 use mathlib.Core.Bool.{_&&_, _||_, not, true}
 use mathlib.Core.List.{List, [], _∷_}
@@ -23,7 +23,7 @@ use Rattle.trie.specs.Reading.{readTrie}
 use Rattle.trie.specs.Trie.{trieImage}
 use Rattle.sheet.specs.Sheet.{RoundTrips, buildBook, inSheet, listBook, readSheet, sheetImage}
 use Rattle.panel.specs.declared.Panel.{Panel}
-use Rattle.panel.specs.Panel.{appends, isHeld, isListed, isTyped, press}
+use Rattle.panel.specs.Panel.{appends, isHeld, isListed, isTyped, keyBytes, press}
 use Rattle.panel.specs.Highlight.{HoldsItsName, StaysOnItsName}
 use Rattle.ledger.specs.Demand.{Demand3·all, OffersBest, offersOf}
 use Rattle.ledger.specs.Marked.{table}
@@ -92,7 +92,7 @@ pub record Promises : Type 0 where
       (noBook book
       ∷ 2 when not (isTyped p && isHeld p)
       ∷ 8 when not (isListed x)
-      ∷ 9 when (appends x && leb longestName (p .len))
+      ∷ 9 when (appends x && ltb longestName (p .len + length (keyBytes x)))
       ∷ [])
       (press book p x .answer)
   pub panelStays :

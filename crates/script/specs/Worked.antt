@@ -8,7 +8,7 @@ use Rattle.octets.specs.Octets.{be, fromBe, numberAt}
 use Rattle.octets.specs.Table.{Row, _gives_, failing}
 use Rattle.octets.specs.Text.{text}
 use Rattle.entries.specs.Entries.{entry, valid}
-use Rattle.entries.specs.Names.{allowedBytes, isName, isPrefix, isScore}
+use Rattle.entries.specs.Names.{allowedBytes, isName, isPrefix, isScore, ohm}
 use Rattle.book.specs.Records.{recordLength, recordName, recordOf}
 use Rattle.answer.specs.Answers.{counts, nonePlayed, number, writing, writingImage}
 use Rattle.book.specs.Book.{bookImage, entriesIn, imageIn, offset, offsets, peak, peaks, readBook, readIn, recordsAt}
@@ -42,6 +42,13 @@ abbrev acBook : List ℕ
 acBook =
     0x21 ∷ 0x00 ∷ 0x00 ∷ 0x00 ∷ 18 ∷ 0x00 ∷ 1 ∷ 0x00 ∷ 0x00 ∷ 0x00 ∷ 5 ∷ 0x00 ∷ 15 ∷ 0x00 ∷ 0 ∷ 2 ∷ text "ac"
 
+-- the same of Ω, and a set of half of it
+abbrev setOhm : List ℕ
+setOhm = 0x00 ∷ 0x00 ∷ 0x00 ∷ 0x00 ∷ 5 ∷ 0x00 ∷ 2 ∷ ohm
+
+abbrev setHalf : List ℕ
+setHalf = 0x00 ∷ 0x00 ∷ 0x00 ∷ 0x00 ∷ 5 ∷ 0x00 ∷ 1 ∷ 0xCE ∷ []
+
 -- the answers that are kept: a book of one entry in 18 bytes, the empty book, a refusal
 abbrev oneEntry : List ℕ
 oneEntry = 0 ∷ 0x00 ∷ 1 ∷ 0x00 ∷ 0x00 ∷ 0x00 ∷ 18 ∷ []
@@ -62,6 +69,9 @@ runs =
     -- a refused call changes nothing, and the script goes on: the withdrawal writes into the first buffer
     ∷ (shownRun (runOf (setAc ++ (withdrawZz ++ withdrawAc)) (spare 18) (spare 18) (spare 21))
     gives (0 ∷ 3 ∷ 0 ∷ (P1 ++ spare 11) ++ (acBook ++ (oneEntry ++ (refusal 4 ++ noEntries)))))
+    -- Ω is set, half of it is refused
+    ∷ (shownRun (runOf (setHalf ++ setOhm) (spare 18) (spare 18) (spare 14))
+    gives (0 ∷ 2 ∷ 1 ∷ (P1 ++ spare 11) ++ (take 16 acBook ++ ohm ++ (refusal 2 ++ oneEntry))))
     -- no room for the book of the call: 7 is the call's answer, and the run's is none
     ∷ (shownRun (runOf setAc (spare 17) (spare 17) (spare 7))
     gives (0 ∷ 1 ∷ 0 ∷ (P1 ++ spare 10) ++ (spare 17 ++ refusal 7)))

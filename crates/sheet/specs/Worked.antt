@@ -8,13 +8,14 @@ use Rattle.octets.specs.Octets.{be, fromBe}
 use Rattle.octets.specs.Table.{Row, _gives_, failing}
 use Rattle.octets.specs.Text.{text}
 use Rattle.entries.specs.Entries.{entry, valid}
-use Rattle.entries.specs.Names.{allowedBytes, isName, isPrefix, isScore}
+use Rattle.entries.specs.Names.{allowedBytes, isName, isPrefix, isScore, ohm}
 use Rattle.book.specs.Records.{recordLength, recordName, recordOf}
 use Rattle.answer.specs.Answers.{entriesBytes, entryBytes, writing, writingImage}
 use Rattle.frame.specs.Frame.{countOf, entriesOf, framed, readAs}
 use Rattle.book.specs.Book.{bookImage, entriesIn, imageIn, offset, offsets, peak, peaks, readBook, readIn, recordsAt}
 use Rattle.book.specs.Book.{scores}
-use Rattle.book.specs.Shown.{E, P1, P3, answerEntry, changed, crowd, listed, shownRead, shownWritten, spare}
+use Rattle.book.specs.Shown.{E, P1, P3, answerEntry, answerFor, changed, crowd, kΩ, listed, shownRead, shownWritten}
+use Rattle.book.specs.Shown.{signed, signedBook, spare, µA, µF}
 use Rattle.sheet.specs.Sheet.{buildBook, listBook, readSheet, sheetEntries, sheetImage}
 
 -- E as sheet, and the empty sheet
@@ -46,6 +47,12 @@ builtFrom sheet = shownWritten (buildBook sheet (spare 50))
 abbrev notBuilt : List ℕ
 notBuilt = 1 ∷ 0 ∷ 0 ∷ spare 50
 
+-- names with µ and Ω as sheet
+abbrev signedSheet : List ℕ
+signedSheet =
+    0x11 ∷ 0x00 ∷ 0x00 ∷ 0x00 ∷ 0x2A ∷ 0x00 ∷ 0x04
+    ∷ answerFor kΩ 7 ++ answerFor µA 4 ++ answerFor µF 9 ++ answerFor ohm 2
+
 abbrev images : List Row
 images =
     -- written, and read with bytes behind it
@@ -56,6 +63,8 @@ images =
     -- a name of 48 bytes; rising names, bytes 20 and 7E
     ∷ (shownRead (readSheet (lone 48)) gives listed (entry (replicate 48 0x78) 1 ∷ []))
     ∷ (shownRead (readSheet (pair "rc" "rc ")) gives listed (entry (text "rc") 1 ∷ entry (text "rc ") 1 ∷ []))
+    ∷ (sheetImage signed gives signedSheet)
+    ∷ (shownRead (readSheet (signedSheet ++ spare 1)) gives listed signed)
     ∷ (shownRead (readSheet (pair "rc" "rl~")) gives listed (entry (text "rc") 1 ∷ entry (text "rl~") 1 ∷ []))
     ∷ []
 
@@ -77,6 +86,10 @@ building =
     ∷ (builtFrom (lone 49) gives notBuilt)
     ∷ (builtFrom (pair "rc" "rl\u{7f}") gives notBuilt)
     ∷ (builtFrom (pair "r\u{1f}" "rl") gives notBuilt)
+    -- µ and Ω; half a sign, the other half of another
+    ∷ (shownWritten (buildBook signedSheet (spare 47)) gives (0 ∷ 4 ∷ 47 ∷ signedBook))
+    ∷ (builtFrom (changed signedSheet 37 (0x41 ∷ [])) gives notBuilt)
+    ∷ (builtFrom (changed signedSheet 37 (0xB5 ∷ [])) gives notBuilt)
     -- 1,024 entries, and one more
     ∷ (length (entriesOf (readSheet (sheetImage (crowd 1024)))) ∷ [] gives (1024 ∷ []))
     ∷ (builtFrom (sheetImage (crowd 1025)) gives notBuilt)
@@ -98,6 +111,7 @@ listing =
     ∷ (shownWritten (listBook P3 (spare 40)) gives (0 ∷ 4 ∷ 40 ∷ sheetE))
     ∷ (shownWritten (listBook P3 (spare 39)) gives (7 ∷ 0 ∷ 0 ∷ spare 39))
     ∷ (shownWritten (listBook P1 (spare 7)) gives (0 ∷ 0 ∷ 7 ∷ emptySheet))
+    ∷ (shownWritten (listBook signedBook (spare 42)) gives (0 ∷ 4 ∷ 42 ∷ signedSheet))
     -- no book, which comes first
     ∷ (shownWritten (listBook (changed P3 26 (1 ∷ [])) (spare 42)) gives (1 ∷ 0 ∷ 0 ∷ spare 42))
     ∷ (shownWritten (listBook sheetE []) gives (1 ∷ 0 ∷ 0 ∷ []))

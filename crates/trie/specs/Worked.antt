@@ -9,14 +9,14 @@ use Rattle.octets.specs.Table.{Row, _gives_, failing}
 use Rattle.octets.specs.Text.{text}
 use Rattle.entries.specs.Completion.{completion}
 use Rattle.entries.specs.Entries.{Entry, entry, valid}
-use Rattle.entries.specs.Names.{allowedBytes, isName, isPrefix, isScore}
+use Rattle.entries.specs.Names.{allowedBytes, isName, isPrefix, isScore, micro, ohm}
 use Rattle.book.specs.Records.{recordLength, recordName, recordOf}
 use Rattle.answer.specs.Answers.{entriesBytes, entryBytes, writing, writingImage}
 use Rattle.book.specs.Book.{bookImage, entriesIn, imageIn, offset, offsets, peak, peaks, readBook, readIn, recordsAt}
 use Rattle.book.specs.Book.{scores}
 use Rattle.frame.specs.Frame.{countOf, framed, readAs}
-use Rattle.book.specs.Shown.{E, P1, P2, P3, P4, answerEntry, changed, letters, listed, shownOffered, shownRead}
-use Rattle.book.specs.Shown.{shownWritten, spare}
+use Rattle.book.specs.Shown.{E, P1, P2, P3, P4, answerEntry, answerFor, changed, cutName, cutTrie, letters, listed}
+use Rattle.book.specs.Shown.{shownOffered, shownRead, shownWritten, signed, signedBook, signedTrie, spare, µA, µF}
 use Rattle.trie.specs.Calls.{completeTrie, writeTrie}
 use Rattle.trie.specs.Reading.{behindSibling, childSize, labelLength, lastMark, readTrie, scoreSize, siblingOf}
 use Rattle.trie.specs.Reading.{trieEntries}
@@ -124,6 +124,11 @@ images =
     ∷ (alone 256 gives (0x89 ∷ 0x01 ∷ 0x00 ∷ 0x61 ∷ []))
     ∷ (alone 65535 gives (0x89 ∷ 0xFF ∷ 0xFF ∷ 0x61 ∷ []))
     ∷ (alone 65536 gives (0xC9 ∷ 0x00 ∷ 0x01 ∷ 0x00 ∷ 0x00 ∷ 0x61 ∷ []))
+    -- µ and Ω; a label cut inside µ; two names that share the half of a sign
+    ∷ (trieImage signed gives signedTrie)
+    ∷ (trieImage (entry cutName 1 ∷ []) gives cutTrie)
+    ∷ (trieImage (entry cutName 2 ∷ entry (cutName ++ text "F") 1 ∷ [])
+    gives trieOf 2 (0x5F ∷ 0x02 ∷ 0x0A ∷ text "abcdef" ++ (0xC2 ∷ 0x19 ∷ 0x03 ∷ 0xB5 ∷ 0x00 ∷ 0x49 ∷ 0x01 ∷ text "F")))
     ∷ []
 
 -- not read: []
@@ -173,6 +178,14 @@ readings =
     ∷ (shownRead (readTrie (trieImage (entry (replicate 48 0x78) 1 ∷ []))) gives listed (entry (replicate 48 0x78) 1
     ∷ []))
     ∷ (shownRead (readTrie (trieImage (entry (replicate 49 0x78) 1 ∷ []))) gives [])
+    -- µ and Ω; a label cut inside µ, then the other half of Ω, no other half, and half a sign as a whole name
+    ∷ (shownRead (readTrie (signedTrie ++ spare 1)) gives listed signed)
+    ∷ (shownRead (readTrie cutTrie) gives listed (entry cutName 1 ∷ []))
+    ∷ (shownRead (readTrie (changed cutTrie 18 (0xA9 ∷ []))) gives [])
+    ∷ (shownRead (readTrie (changed cutTrie 18 (0x41 ∷ []))) gives [])
+    ∷ (shownRead (readTrie (trieOf 1 (0x09 ∷ 0xC2 ∷ []))) gives [])
+    ∷ (shownRead (readTrie (trieImage (entry (replicate 46 0x78 ++ ohm) 1 ∷ [])))
+    gives listed (entry (replicate 46 0x78 ++ ohm) 1 ∷ []))
     ∷ []
 
 abbrev calls : List Row
@@ -182,6 +195,7 @@ calls =
     ∷ (shownWritten (writeTrie P3 (spare 28)) gives (0 ∷ 4 ∷ 28 ∷ P4))
     ∷ (shownWritten (writeTrie P3 (spare 27)) gives (7 ∷ 0 ∷ 0 ∷ spare 27))
     ∷ (shownWritten (writeTrie P1 (spare 8)) gives (0 ∷ 0 ∷ 7 ∷ P2 ++ spare 1))
+    ∷ (shownWritten (writeTrie signedBook (spare 30)) gives (0 ∷ 4 ∷ 30 ∷ signedTrie))
     ∷ (shownWritten (writeTrie P1 (spare 6)) gives (7 ∷ 0 ∷ 0 ∷ spare 6))
     -- no book, which comes first
     ∷ (shownWritten (writeTrie (take 43 P3) (spare 30)) gives (1 ∷ 0 ∷ 0 ∷ spare 30))
@@ -197,6 +211,14 @@ calls =
     -- equal scores by the earlier name, although the trie has c in front
     ∷ (shownOffered (completeTrie (trieImage (letters 0x61 (3 ∷ 3 ∷ 4 ∷ 3 ∷ []))) [] 3 (spare 159))
     gives (0 ∷ 3 ∷ 18 ∷ 0 ∷ answerEntry "c" 4 ++ answerEntry "a" 3 ++ answerEntry "b" 3 ++ spare 141))
+    -- µ and Ω; a prefix that ends where a label is cut inside µ is not allowed, one that ends behind µ is
+    ∷ (shownOffered (completeTrie signedTrie micro 2 (spare 106))
+    gives (0 ∷ 2 ∷ 16 ∷ 0 ∷ answerFor µF 9 ++ answerFor µA 4 ++ spare 90))
+    ∷ (shownOffered (completeTrie cutTrie (text "abcdef") 1 (spare 53))
+    gives (0 ∷ 1 ∷ 13 ∷ 0 ∷ answerFor cutName 1 ++ spare 40))
+    ∷ (shownOffered (completeTrie cutTrie cutName 1 (spare 53)) gives (0 ∷ 1 ∷ 13 ∷ 0 ∷ answerFor cutName 1 ++ spare 40))
+    ∷ (shownOffered (completeTrie cutTrie (text "abcdef" ++ (0xC2 ∷ [])) 1 (spare 53)) gives (2 ∷ 0 ∷ 0 ∷ 0 ∷ spare 53))
+    ∷ (shownOffered (completeTrie cutTrie (text "abcdef" ++ ohm) 1 (spare 53)) gives (0 ∷ 0 ∷ 0 ∷ 0 ∷ spare 53))
     -- 7: one byte short of 53 × k, whatever is offered; 3 before 7; 2 before 3; 1 before all
     ∷ (shownOffered (completeTrie P4 (text "rl") 1 (spare 52)) gives (7 ∷ 0 ∷ 0 ∷ 0 ∷ spare 52))
     ∷ (shownOffered (completeTrie P4 (text "q") 16 (spare 847)) gives (7 ∷ 0 ∷ 0 ∷ 0 ∷ spare 847))

@@ -10,8 +10,9 @@ use Rattle.octets.proofs.Numbers.{Bytes}
 use Rattle.octets.proofs.Tests.{and-false}
 use Rattle.frame_code.specs.Image.{imageAs}
 use Rattle.frame_code.proofs.Checked.{Checkable, Framed, accepted, body-failed}
+use Rattle.entries_laws.specs.Signs.{noHalf}
 use Rattle.trie.specs.Reading.{readTrie}
-use Rattle.trie_check_laws.specs.Walk.{trieBodyIs, trieChecks, turns, wholeIs}
+use Rattle.trie_check_laws.specs.Walk.{above, trieBodyIs, trieChecks, turns, wholeIs}
 use Rattle.trie_check_laws.proofs.Exact.{trie-check-exact, trie-count}
 use Rattle.trie_check.specs.Known.{GroupIs}
 use Rattle.frame_code.specs.declared.Image.the-variants.{Damaged, Entries}
@@ -42,7 +43,7 @@ module _ {buf : List ℕ} {n total : ℕ} (b : Bytes buf) (f : Framed 0x31 buf n
     is-empty q = rw z at (accepted trie-format buf b f (none-rest ∙ eq-eqb total 7 q))
 
   -- with some: the walk's answer
-  module _ (ne : n ≡ 0 → ⊥) {w : WalkEnd} (g : GroupIs buf 7 0 0 true n w) where
+  module _ (ne : n ≡ 0 → ⊥) {w : WalkEnd} (g : GroupIs buf 7 (above 0 noHalf 0 true) n w) where
     some-rest : trieBodyIs buf ≡ wholeIs w total
     unfolding trieBodyIs
     some-rest = rw (← f .whole, ← f .count, ne-eqb n 0 ne, g (turns buf) (omega arith))

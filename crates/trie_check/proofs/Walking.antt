@@ -11,10 +11,11 @@ use borrow.Author.Tests.{eq-eqb, ne-eqb}
 use Rattle.octets.proofs.Numbers.{Bytes}
 use Rattle.octets.proofs.Tests.{by-test}
 use Rattle.frame_code.specs.Image.{endedAs}
+use Rattle.entries_laws.specs.Signs.{noHalf}
 use Rattle.trie.specs.Trie.{longestLabel}
-use Rattle.trie_check_laws.specs.Walk.{afterInner, afterNode, andThen, beginGroup, behindGroup, beneath, endAfter}
-use Rattle.trie_check_laws.specs.Walk.{groupEnd, headOf, inNode, inRest, into, nodeOn, nodeThen, noneSeen, reachedBy}
-use Rattle.trie_check_laws.specs.Walk.{scoreOf, stands, walkOf}
+use Rattle.trie_check_laws.specs.Walk.{above, afterInner, afterNode, andThen, beginGroup, behindGroup, behindLeaf}
+use Rattle.trie_check_laws.specs.Walk.{beneath, endAfter, groupEnd, halfOf, headOf, inGroup, inNode, inRest, into}
+use Rattle.trie_check_laws.specs.Walk.{keyCount, nodeOn, nodeThen, noneSeen, reachedBy, scoreOf, stands, walkOf}
 use Rattle.trie_check_laws.proofs.Sound.{end-past, no-end}
 use Rattle.trie_check_laws.proofs.Stand.{FieldsStand, stands-true}
 use Rattle.trie_check_fields.specs.Known.{EndIs, EndKnown}
@@ -25,6 +26,7 @@ use Rattle.frame_code.specs.declared.Ended.{Ended}
 use Rattle.trie_check_laws.specs.declared.Fields.{Fields}
 use Rattle.trie_check_laws.specs.declared.Head.the-variants as head
 use Rattle.trie_check_laws.specs.declared.Head.{Head}
+use Rattle.trie_check_laws.specs.declared.Above.{Above}
 use Rattle.trie_check_laws.specs.declared.Among.{Among}
 use Rattle.trie_check_laws.specs.declared.BehindNode.the-variants as reached
 use Rattle.trie_check_laws.specs.declared.BehindNode.{BehindNode}
@@ -46,14 +48,23 @@ module _ (p : Among) (n : Fields) (ok : stands p n ≡ true) where
   path-short = stood .within
 
 module _ (s : List ℕ) (p : Among) (n : Fields) where
-  pub node-leaf : n .size ≡ 0 → {q : Among} → q ≡ afterNode p n (p .next) (p .back) (p .own) (p .left - 1)
-      → NodeIs s p n (reached.At q)
-  node-leaf z e k lt = rw (eq-eqb (n .size) 0 z) (ap reached.At e)
+  module _ {g : ℕ} (half : g ≡ halfOf s p n) (z : n .size ≡ 0) where
+    -- a leaf at which a half is open
+    pub node-cut : (g ≡ noHalf → ⊥) → NodeIs s p n reached.Bad
+    node-cut c k lt = rw (eq-eqb (n .size) 0 z, ne-eqb (halfOf s p n) noHalf (λ q. c (half ∙ q)))
 
-  module _ (ne : n .size ≡ 0 → ⊥) {v : ℕ} (vi : v ≡ scoreOf p n) {w : WalkEnd}
-      (g : GroupIs s (p .next) (p .path + n .len) v (eqb (n .len) longestLabel) (p .left) w) where
-    walked : (k : ℕ) → 4 * (length s - p .next) < k → w ≡ walkOf s k (beneath p n)
-    walked = subst (λ u. GroupIs s (p .next) (p .path + n .len) u (eqb (n .len) longestLabel) (p .left) w) vi g
+    pub node-leaf : g ≡ noHalf → {q : Among} → q ≡ afterNode p n (p .next) (p .back) (p .own) (p .left - 1)
+        → NodeIs s p n (reached.At q)
+    node-leaf c e k lt =
+        rw (eq-eqb (n .size) 0 z, eq-eqb (halfOf s p n) noHalf (sym half ∙ c)) (ap reached.At e)
+
+  module _ (ne : n .size ≡ 0 → ⊥) {g v : ℕ} (half : g ≡ halfOf s p n) (vi : v ≡ scoreOf p n) {w : WalkEnd}
+      (i : GroupIs s (p .next) (above (p .path + n .len) g v (eqb (n .len) longestLabel)) (p .left) w) where
+    walked : (k : ℕ) → 4 * (length s - p .next) < k → w ≡ walkOf s k (beneath s p n)
+    walked k lt =
+        i k lt
+        ∙ (λ j. walkOf s k (inGroup (p .next) (above (p .path + n .len) (half j) (vi j) (eqb (n .len) longestLabel))
+        (p .left)))
 
     pub node-bad : w ≡ Bad → NodeIs s p n reached.Bad
     node-bad e k lt = rw (ne-eqb (n .size) 0 ne, ← walked k lt, e)
@@ -87,7 +98,7 @@ pub rest-cut : (s : List ℕ) (p : Among) (seen : List ℕ) {w : Head} → w ≡
     → RestIs s p seen Bad
 unfolding walkOf
 rest-cut s p seen e q zero lt = absurd (omega arith)
-rest-cut s p seen e q (suc k) lt = sym (ap (λ x. nodeThen x p seen (walkOf s k)) (sym e ∙ q))
+rest-cut s p seen e q (suc k) lt = sym (ap (λ x. nodeThen x s p seen (walkOf s k)) (sym e ∙ q))
 
 -- what follows a node, from the place behind it
 abbrev then : BehindNode → (Among → WalkEnd) → WalkEnd
@@ -100,11 +111,17 @@ by-group p n Bad f = refl
 by-group p n (Next m left) f = refl
 
 -- the place behind a node is where it ends
-reached-end : (p : Among) (n : Fields) (v : WalkEnd) {q : Among} → reached.At q ≡ reachedBy p n v → q .at ≡ n .end
-reached-end p n v e = by-test (eqb (n .size) 0) (λ t. leaf (rw t at e)) (λ t. inner v (rw t at e))
+reached-end : (s : List ℕ) (p : Among) (n : Fields) (v : WalkEnd) {q : Among} → reached.At q ≡ reachedBy s p n v
+    → q .at ≡ n .end
+reached-end s p n v e =
+    by-test (eqb (n .size) 0) (λ t. ended (eqb (halfOf s p n) noHalf) (rw t at e)) (λ t. inner v (rw t at e))
   where
     leaf : {q r : Among} → reached.At q ≡ reached.At r → q .at ≡ r .at
     leaf h = cc
+
+    ended : {q : Among} (b : Bool) → reached.At q ≡ behindLeaf b p n → q .at ≡ n .end
+    ended true h = leaf h
+    ended false h = absurd (let z : _≡_ {A = ℕ} 0 1 = cc in omega arith)
 
     inner : {q : Among} (w : WalkEnd) → reached.At q ≡ behindGroup w p n → q .at ≡ n .end
     inner Bad h = absurd (let z : _≡_ {A = ℕ} 0 1 = cc in omega arith)
@@ -114,13 +131,13 @@ module _ (s : List ℕ) (p : Among) (seen : List ℕ) (n : Fields) (r : Read s (
   pub rest-out : stands p n ≡ false → RestIs s p seen Bad
   unfolding walkOf
   rest-out t zero lt = absurd (omega arith)
-  rest-out t (suc k) lt = sym (ap (λ x. nodeThen x p seen (walkOf s k)) (r .head) ∙ rw t)
+  rest-out t (suc k) lt = sym (ap (λ x. nodeThen x s p seen (walkOf s k)) (r .head) ∙ rw t)
 
   module _ (ok : stands p n ≡ true) where
     pub rest-twice : (getD seen (n .key) 0 ≡ 0 → ⊥) → RestIs s p seen Bad
     unfolding walkOf
     rest-twice g zero lt = absurd (omega arith)
-    rest-twice g (suc k) lt = sym (ap (λ x. nodeThen x p seen (walkOf s k)) (r .head)
+    rest-twice g (suc k) lt = sym (ap (λ x. nodeThen x s p seen (walkOf s k)) (r .head)
         ∙ rw (ok, ne-eqb (getD seen (n .key) 0) 0 g))
 
     module _ (new : getD seen (n .key) 0 ≡ 0) (before : p .at < p .next) (within : p .next ≤ length s) {w : BehindNode}
@@ -128,16 +145,18 @@ module _ (s : List ℕ) (p : Among) (seen : List ℕ) (n : Fields) (r : Read s (
       abbrev marked : List ℕ
       marked = set seen (n .key) 1
 
-      by-place : (k : ℕ) → nodeOn (eqb (n .size) 0) p seen n (walkOf s k) ≡ then
-          (reachedBy p n (walkOf s k (beneath p n))) (λ q. walkOf s k (inRest q marked (n .last)))
-      by-place k = by-test (eqb (n .size) 0) (λ t. rw t)
-          (λ t. rw t (by-group p n (walkOf s k (beneath p n)) (λ q. walkOf s k (inRest q marked (n .last)))))
+      by-place : (k : ℕ) → nodeOn (eqb (n .size) 0) s p seen n (walkOf s k) ≡ then
+          (reachedBy s p n (walkOf s k (beneath s p n))) (λ q. walkOf s k (inRest q marked (n .last)))
+      by-place k =
+          by-test (eqb (n .size) 0)
+          (λ t. by-test (eqb (halfOf s p n) noHalf) (λ u. rw (t, u)) (λ u. rw (t, u)))
+          (λ t. rw t (by-group p n (walkOf s k (beneath s p n)) (λ q. walkOf s k (inRest q marked (n .last)))))
 
       step : (k : ℕ) → 4 * (length s - p .next) < k
           → walkOf s (suc k) (inNode p seen) ≡ then w (λ q. walkOf s k (inRest q marked (n .last)))
       unfolding walkOf
       step k lt =
-          ap (λ x. nodeThen x p seen (walkOf s k)) (r .head)
+          ap (λ x. nodeThen x s p seen (walkOf s k)) (r .head)
           ∙ rw (ok, eq-eqb (getD seen (n .key) 0) 0 new) (by-place k)
           ∙ ap (λ x. then x (λ q. walkOf s k (inRest q marked (n .last)))) (sym (i k lt))
 
@@ -152,7 +171,7 @@ module _ (s : List ℕ) (p : Among) (seen : List ℕ) (n : Fields) (r : Read s (
         at-rest k lt = step k lt ∙ ap (λ x. then x (λ q. walkOf s k (inRest q marked (n .last)))) e
 
         next-at : q .at ≡ n .end
-        next-at = reached-end p n (walkOf s (suc (4 * length s)) (beneath p n)) (sym e
+        next-at = reached-end s p n (walkOf s (suc (4 * length s)) (beneath s p n)) (sym e
             ∙ i (suc (4 * length s)) (omega arith))
 
         rest-last : n .last ≡ true → RestIs s p seen (Next (q .next) (q .left))
@@ -188,12 +207,12 @@ stops-on s at e n h r t = go (h .0) (h .1)
     go (suc m) q = (m, sym (ap (λ x. endAfter x (groupEnd s m)) (r .head) ∙ rw t) ∙ q)
 
 pub group-bad :
-    (s : List ℕ) (at path score : ℕ) (full : Bool) (left : ℕ) {w : Ended} → EndIs s at w → w ≡ ended.Damaged
-    → GroupIs s at path score full left Bad
+    (s : List ℕ) (at : ℕ) (a : Above) (left : ℕ) {w : Ended} → EndIs s at w → w ≡ ended.Damaged
+    → GroupIs s at a left Bad
 unfolding walkOf
-group-bad s at path score full left i q zero lt = absurd (omega arith)
-group-bad s at path score full left i q (suc k) lt =
-    sym (ap (λ o. into o (λ e. walkOf s k (inNode (beginGroup at e path score full left) noneSeen)))
+group-bad s at a left i q zero lt = absurd (omega arith)
+group-bad s at a left i q (suc k) lt =
+    sym (ap (λ o. into o (λ e. walkOf s k (inNode (beginGroup at e a left) noneSeen)))
     (told-none (groupEnd s (suc k) at) (sym (i (suc k) (omega arith)) ∙ q)))
   where
     told-none : (o : Option ℕ) → endedAs o ≡ ended.Damaged → o ≡ none
@@ -202,25 +221,25 @@ group-bad s at path score full left i q (suc k) lt =
 
 -- Among the siblings of the group at `at`, which ends at e: what is walked from the place p on gives the walk over the
 -- whole group.
-pub record GroupGoing (s : List ℕ) (at path score : ℕ) (full : Bool) (left e : ℕ) (p : Among) (seen : List ℕ) : Type 0
+pub record GroupGoing (s : List ℕ) (at : ℕ) (a : Above) (left e : ℕ) (p : Among) (seen : List ℕ) : Type 0
   where
-    pub array : length seen ≡ 128
-    pub onto : (r : WalkEnd) → RestIs s p seen r → GroupIs s at path score full left r
+    pub array : length seen ≡ keyCount
+    pub onto : (r : WalkEnd) → RestIs s p seen r → GroupIs s at a left r
     pub stops : Stops s (p .at) e
     pub past : at < e
     pub on : e ≤ p .next
     pub within : p .next ≤ length s
 
 pub going-start :
-    (s : List ℕ) (at path score : ℕ) (full : Bool) (left e : ℕ) {w : Ended} → EndIs s at w → w ≡ ended.At e
+    (s : List ℕ) (at : ℕ) (a : Above) (left e : ℕ) {w : Ended} → EndIs s at w → w ≡ ended.At e
     → EndKnown w at (length s)
-    → {p : Among} → p ≡ beginGroup at e path score full left → GroupGoing s at path score full left e p noneSeen
+    → {p : Among} → p ≡ beginGroup at e a left → GroupGoing s at a left e p noneSeen
 unfolding walkOf
-going-start s at path score full left e {w} i q known {p} b =
+going-start s at a left e {w} i q known {p} b =
     let m = end-of q known in
-    subst (λ x. GroupGoing s at path score full left e x noneSeen) (sym b)
+    subst (λ x. GroupGoing s at a left e x noneSeen) (sym b)
     (record {
-      array = length-replicate {A = ℕ} 128 0;
+      array = length-replicate {A = ℕ} keyCount 0;
       onto = onto;
       stops = (suc (length s), ends (suc (length s)) (omega arith));
       past = m .0;
@@ -231,47 +250,47 @@ going-start s at path score full left e {w} i q known {p} b =
     ends : (k : ℕ) → length s - at < k → groupEnd s k at ≡ some e
     ends k lt = told-at (groupEnd s k at) (sym (i k lt) ∙ q)
 
-    onto : (r : WalkEnd) → RestIs s (beginGroup at e path score full left) noneSeen r
-        → GroupIs s at path score full left r
+    onto : (r : WalkEnd) → RestIs s (beginGroup at e a left) noneSeen r
+        → GroupIs s at a left r
     onto r j zero lt = absurd (omega arith)
     onto r j (suc k) lt =
         let m = end-of q known in
         j k (omega (arith, m .0, m .1))
-        ∙ sym (ap (λ o. into o (λ c. walkOf s k (inNode (beginGroup at c path score full left) noneSeen)))
+        ∙ sym (ap (λ o. into o (λ c. walkOf s k (inNode (beginGroup at c a left) noneSeen)))
         (ends (suc k) (omega arith)))
 
-module _ {s : List ℕ} {at path score : ℕ} {full : Bool} {left e : ℕ} {p : Among} {seen : List ℕ}
-    (g : GroupGoing s at path score full left e p seen) where
+module _ {s : List ℕ} {at : ℕ} {a : Above} {left e : ℕ} {p : Among} {seen : List ℕ}
+    (g : GroupGoing s at a left e p seen) where
   going-before : Bytes s → p .at < p .next
-  going-before b = let a = end-past s b (g .stops .0) (p .at) e (g .stops .1) in omega (arith, a .0, g .on)
+  going-before y = let b = end-past s y (g .stops .0) (p .at) e (g .stops .1) in omega (arith, b .0, g .on)
 
   module _
       (b : Bytes s) {n : Fields} (r : Read s (p .at) n) (ok : stands p n ≡ true) (new : getD seen (n .key) 0 ≡ 0)
       {w : BehindNode}
       (i : NodeIs s p n w) (o : NodeKnown w (p .next) (length s))
     where
-      pub going-bad : w ≡ reached.Bad → GroupIs s at path score full left Bad
+      pub going-bad : w ≡ reached.Bad → GroupIs s at a left Bad
       going-bad q = g .onto Bad (rest-bad s p seen n r ok new (going-before b) (g .within) i q)
 
       module _ {q : Among} (h : w ≡ reached.At q) where
-        pub going-last : n .last ≡ true → GroupIs s at path score full left (Next (q .next) (q .left))
+        pub going-last : n .last ≡ true → GroupIs s at a left (Next (q .next) (q .left))
         going-last t = g .onto (Next (q .next) (q .left))
             (rest-last s p seen n r ok new (going-before b) (g .within) i h t)
 
         pub going-ahead : GroupKnown (Next (q .next) (q .left)) at (length s)
-        going-ahead = let a = onward-of h o in (omega (arith, g .past, g .on, a .0), a .1)
+        going-ahead = let c = onward-of h o in (omega (arith, g .past, g .on, c .0), c .1)
 
-        pub going-on : n .last ≡ false → GroupGoing s at path score full left e q (set seen (n .key) 1)
+        pub going-on : n .last ≡ false → GroupGoing s at a left e q (set seen (n .key) 1)
         going-on t =
-            let a = onward-of h o in
+            let c = onward-of h o in
             record {
               array = length-set seen (n .key) 1 ∙ g .array;
-              onto = λ d j. g .onto d (rest-more s p seen n r ok new (going-before b) (g .within) i h t (a .0) j);
+              onto = λ d j. g .onto d (rest-more s p seen n r ok new (going-before b) (g .within) i h t (c .0) j);
               stops = subst (λ x. Stops s x e) (sym (next-at s p seen n r ok new (going-before b) (g .within) i h))
                   (stops-on s (p .at) e n (g .stops) r t);
               past = g .past;
-              on = omega (arith, g .on, a .0);
-              within = a .1;
+              on = omega (arith, g .on, c .0);
+              within = c .1;
             }
 
         -- the bytes from the place on are fewer

@@ -5,6 +5,7 @@ use frame_code::Frame;
 use frame_code::Image;
 use limits::FRAME_LENGTH;
 use limits::LONGEST_LABEL;
+use limits::NO_HALF;
 use limits::TRIE_VERSION;
 ghost use mathlib.Core.Path.{_≡_};
 ghost use mathlib.Core.Bool.{true};
@@ -15,20 +16,26 @@ ghost use Rattle.trie.specs.Reading.{readTrie};
 ghost use Rattle.trie_check_laws.specs.Walk.{stands};
 ghost use Rattle.trie_check.specs.Known.{GroupIs, GroupKnown, NodeIs, NodeKnown};
 
-// The keys of labels: 0 for the empty one, else one more than a byte from 20 to 7E.
-const KEYS: usize = 128;
+// The keys of labels, 0 for the empty one, else one more than any byte: `keyCount`.
+const KEYS: usize = 257;
 
-// A node that stands in its place, with all that stands below it: the place behind it.
+// A node that stands in its place, with all that stands below it: the place behind it. Its label may end inside a pair,
+// if the labels below go on with the pair's other half.
 fn node(
     buf: &[u8],
     p: trie_check_laws::Among,
     n: trie_check_laws::Fields,
 ) -> trie_check_laws::BehindNode
-    requires { ⌜ (p .next ≤ length (now buf)) × (stands p n ≡ true) ⌝ }
+    requires { ⌜ (p .next ≤ length (now buf)) × (stands p n ≡ true) × (n .len ≤ n .end)
+        × (n .end ≤ length (now buf)) ⌝ }
     ensures is { λ r. ⌜ NodeIs (now (buf .entry)) p n r ⌝ }
     ensures known { λ r. ⌜ NodeKnown r (p .next) (length (now (buf .entry))) ⌝ }
 {
+    let half = trie_check_fields::half_behind(buf, p.half, n);
     if n.size == 0 {
+        if half != NO_HALF {
+            return trie_check_laws::BehindNode::Bad;
+        }
         return trie_check_laws::BehindNode::At(trie_check_rules::after_node(
             p,
             n,
@@ -38,15 +45,15 @@ fn node(
             p.left - 1,
         ));
     }
+    let path = p.path + n.len;
     let score = trie_check_rules::new_score(p, n);
-    let trie_check_laws::WalkEnd::Next(end, left) = group(
-        buf,
-        p.next,
-        p.path + n.len,
-        score,
-        n.len == LONGEST_LABEL,
-        p.left,
-    ) else {
+    let above = trie_check_laws::Above {
+        path: path,
+        half: half,
+        score: score,
+        full: n.len == LONGEST_LABEL,
+    };
+    let trie_check_laws::WalkEnd::Next(end, left) = group(buf, p.next, above, p.left) else {
         return trie_check_laws::BehindNode::Bad;
     };
     trie_check_laws::BehindNode::At(trie_check_rules::after_node(
@@ -60,21 +67,14 @@ fn node(
 }
 
 // The group at an offset, with all its descendants. `seen` has a mark for each key of the siblings before.
-fn group(
-    buf: &[u8],
-    at: usize,
-    path: usize,
-    score: usize,
-    full: bool,
-    left: usize,
-) -> trie_check_laws::WalkEnd
-    ensures is { λ r. ⌜ GroupIs (now (buf .entry)) at path score full left r ⌝ }
+fn group(buf: &[u8], at: usize, a: trie_check_laws::Above, left: usize) -> trie_check_laws::WalkEnd
+    ensures is { λ r. ⌜ GroupIs (now (buf .entry)) at a left r ⌝ }
     ensures known { λ r. ⌜ GroupKnown r at (length (now (buf .entry))) ⌝ }
 {
     let Ended::At(next) = trie_check_fields::group_end(buf, at) else {
         return trie_check_laws::WalkEnd::Bad;
     };
-    let mut p = trie_check_rules::begin_at(at, next, path, score, full, left);
+    let mut p = trie_check_rules::begin_at(at, next, a, left);
     let mut seen = [0u8; KEYS];
     loop {
         let trie_check_laws::Head::Node(n) = trie_check_fields::head_at(buf, p.at) else {
@@ -111,8 +111,13 @@ pub fn check(buf: &[u8]) -> Image
         }
         return Image::Entries(0);
     }
-    let trie_check_laws::WalkEnd::Next(end, left) = group(buf, FRAME_LENGTH, 0, 0, true, entries)
-    else {
+    let above = trie_check_laws::Above {
+        path: 0,
+        half: NO_HALF,
+        score: 0,
+        full: true,
+    };
+    let trie_check_laws::WalkEnd::Next(end, left) = group(buf, FRAME_LENGTH, above, entries) else {
         return Image::Damaged;
     };
     if end != total {

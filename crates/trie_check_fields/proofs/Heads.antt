@@ -1,26 +1,23 @@
 -- Each answer of the reading of a node, from what the code has read.
 use Prim.Native.Nat.{_+_, _-_, _<_, _≤_, suc, ℕ}
 use mathlib.Core.Path.{_∙_, _≡_, ap, subst, sym}
-use mathlib.Core.Bool.{Bool, false, true}
+use mathlib.Core.Bool.{Bool}
 use mathlib.Core.List.{List}
-use lib.ListN.{drop, getD, length, length-take, take}
+use lib.ListN.{drop, getD, length, take}
 use lib.Seq.{drop-drop}
 use native.Mathlib.Numerals.{add-one}
 use native.Mathlib.Omega.{arith}
 use borrow.Author.Tests.{eq-eqb, le-leb, le-ltb, lt-leb, lt-ltb, ne-eqb}
 use Rattle.octets.specs.Octets.{fromBe, numberAt}
 use Rattle.octets.proofs.Numbers.{Bytes}
-use Rattle.entries.specs.Names.{allowedBytes, isPrefix}
 use Rattle.trie.specs.Reading.{childSize, labelLength, lastMark, scoreSize}
 use Rattle.trie.specs.Trie.{sizeOf}
 use Rattle.trie_laws.specs.Keys.{key}
-use Rattle.trie_check_laws.specs.Walk.{bodyOf, childIn, fieldIn, headOf, labelIn}
+use Rattle.trie_check_laws.specs.Walk.{bodyOf, childIn, fieldIn, headOf, keyCount, labelIn}
 use Rattle.trie.proofs.Header.{child-most, label-most, score-most}
 use Rattle.trie_header.proofs.Fields.{number-part}
 use Rattle.trie_check_laws.proofs.Heads.{head-says}
-use Rattle.trie_check_laws.proofs.Sound.{key-small}
 use Rattle.trie_check_fields.specs.Known.{HeadKnown}
-use Rattle.trie_check_fields.proofs.Fields.{label-prefix}
 use Rattle.trie_check_laws.specs.declared.Fields.{Fields}
 use Rattle.trie_check_laws.specs.declared.Head.the-variants as head
 use Rattle.trie_check_laws.specs.declared.Head.{Head}
@@ -81,7 +78,7 @@ module _ {s : List ℕ} {at ss cs len : ℕ} (z : Sizes s at ss cs len) where
           )
 
       module _ {v : ℕ} (e : v ≡ sizeOf field) (small : v ≡ ss) {label : List ℕ}
-          (la : label ≡ take len (drop (at + 1 + ss + cs) s)) {b : Bool} (ok : b ≡ isPrefix label) where
+          (la : label ≡ take len (drop (at + 1 + ss + cs) s)) where
         small′ : sizeOf (fieldIn h t) ≡ scoreSize h
         small′ = sym (ap sizeOf field-is) ∙ sym e ∙ small ∙ z .isScore
 
@@ -92,32 +89,14 @@ module _ {s : List ℕ} {at ss cs len : ℕ} (z : Sizes s at ss cs len) where
             ∙ ap (take (labelLength h)) (sym (drop-drop (childSize h) (suc at + scoreSize h) s)
             ∙ ap (drop (childSize h)) (sym (drop-drop (scoreSize h) (suc at) s)))
 
-        allowed-is : b ≡ allowedBytes (labelIn h t)
-        allowed-is =
-            let n = length-take len (drop (at + 1 + ss + cs) s) in
-            let m = ap length la in
-            let k = label-size in
-            ok ∙ label-prefix label (omega arith) ∙ ap allowedBytes label-is
-
         child-is : numberAt cs s (at + 1 + ss) ≡ childIn h t
         child-is =
             number-part cs s (at + 1 + ss) (omega (arith, long, z .inside))
             ∙ (λ i. fromBe (take (z .isChild i) (drop (add-one at i + z .isScore i) s)))
             ∙ ap (λ l. fromBe (take (childSize h) l)) (sym (drop-drop (scoreSize h) (suc at) s))
 
-        pub head-dirty : b ≡ false → head.Cut ≡ headOf s at
-        unfolding headOf
-        head-dirty f =
-            rw (
-              lt-leb (length s) at (z .inside),
-              le-ltb (length s - at - 1) (bodyOf h) long′,
-              eq-eqb (sizeOf (fieldIn h t)) (scoreSize h) small′,
-              sym allowed-is ∙ f,
-            )
-
         pub head-good :
-            b ≡ true → {last : Bool} {child k : ℕ} → last ≡ lastMark h → child ≡ numberAt cs s (at + 1 + ss)
-            → k ≡ key label
+            {last : Bool} {child k : ℕ} → last ≡ lastMark h → child ≡ numberAt cs s (at + 1 + ss) → k ≡ key label
             → head.Node (record {
               end = at + 1 + (ss + cs + len);
               last = last;
@@ -128,7 +107,7 @@ module _ {s : List ℕ} {at ss cs len : ℕ} (z : Sizes s at ss cs len) where
               len = len;
             }) ≡ headOf s at
         unfolding headOf
-        head-good f lm ch ke =
+        head-good lm ch ke =
             (λ i.
             head.Node
             (record {
@@ -144,7 +123,6 @@ module _ {s : List ℕ} {at ss cs len : ℕ} (z : Sizes s at ss cs len) where
               lt-leb (length s) at (z .inside),
               le-ltb (length s - at - 1) (bodyOf h) long′,
               eq-eqb (sizeOf (fieldIn h t)) (scoreSize h) small′,
-              sym allowed-is ∙ f,
             )
 
 -- what is known of a node that is read
@@ -152,19 +130,18 @@ pub head-known : (s : List ℕ) (at : ℕ) → Bytes s → (w : Head) → w ≡ 
 head-known s at b head.Cut e = tt
 head-known s at b (head.Node n) e =
     let r = head-says s at b n (sym e) in
-    let k = key-small (r .label) (r .allowed) in
-    let q = r .isKey in
-    (r .past, r .within, omega arith)
+    (r .past, r .within, r .keyed, r .held)
 
 -- a node that was read, as the callers have it
 pub record Read (s : List ℕ) (at : ℕ) (n : Fields) : Type 0 where
   pub head : headOf s at ≡ head.Node n
   pub past : at < n .end
   pub within : n .end ≤ length s
-  pub key : n .key < 128
+  pub key : n .key < keyCount
+  pub held : n .len ≤ n .end
 
 pub read-node : {s : List ℕ} {at : ℕ} {n : Fields} {w : Head} → w ≡ headOf s at → HeadKnown w at (length s)
     → w ≡ head.Node n → Read s at n
 read-node {s} {at} {n} {w} e k q =
     let m : HeadKnown (head.Node n) at (length s) = subst (λ v. HeadKnown v at (length s)) q k in
-    record { head = sym e ∙ q; past = m .0; within = m .1; key = m .2 }
+    record { head = sym e ∙ q; past = m .0; within = m .1; key = m .2; held = m .3 }

@@ -3,7 +3,9 @@ use frame_code::Ended;
 ghost use mathlib.Core.Path.{_≡_};
 ghost use lib.ListN.{length};
 ghost use Rattle.trie_laws.specs.Keys.{key};
-ghost use Rattle.trie_check_laws.specs.Walk.{headOf};
+ghost use Prim.Native.Nat.{_≤_};
+ghost use Rattle.entries_laws.specs.Signs.{halfAfter};
+ghost use Rattle.trie_check_laws.specs.Walk.{headOf, labelAt};
 ghost use Rattle.trie_check_fields.specs.Known.{EndIs, EndKnown, HeadKnown};
 
 // The key of a label: 0 for the empty one, else one more than its first byte.
@@ -16,7 +18,7 @@ fn key_of(label: &[u8]) -> usize
     label[0] as usize + 1
 }
 
-// The node at an offset, if its bytes are there, its score field has the smallest size and its label is allowed.
+// The node at an offset, if its bytes are there and its score field has the smallest size.
 pub fn head_at(buf: &[u8], at: usize) -> trie_check_laws::Head
     ensures is { λ r. ⌜ r ≡ headOf (now (buf .entry)) at ⌝ }
     ensures known { λ r. ⌜ HeadKnown r at (length (now (buf .entry))) ⌝ }
@@ -39,9 +41,6 @@ pub fn head_at(buf: &[u8], at: usize) -> trie_check_laws::Head
     }
     let mid = from + score_size;
     let label = trie_header::label_part(buf, mid + child_size, len);
-    if !entries_check::is_prefix(label) {
-        return trie_check_laws::Head::Cut;
-    }
     let child = trie_header::field_at(buf, mid, child_size) as usize;
     trie_check_laws::Head::Node(trie_check_laws::Fields {
         end: from + body,
@@ -52,6 +51,16 @@ pub fn head_at(buf: &[u8], at: usize) -> trie_check_laws::Head
         key: key_of(label),
         len: len,
     })
+}
+
+// The half of a pair that is open behind the label of a node, where `half` is open in front of it.
+pub fn half_behind(buf: &[u8], half: usize, n: trie_check_laws::Fields) -> usize
+    requires { ⌜ (n .len ≤ n .end) × (n .end ≤ length (now buf)) ⌝ }
+    ensures { λ r. ⌜ r ≡ halfAfter half (labelAt (now (buf .entry)) n) ⌝ }
+{
+    let len = n.len;
+    let label = trie_header::label_part(buf, n.end - len, len);
+    entries_check::half_after(half, label)
 }
 
 // Where the group at an offset ends: past its first node with the last mark.

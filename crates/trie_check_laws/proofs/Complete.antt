@@ -15,7 +15,7 @@ use Rattle.octets.specs.Lists.{_∈_, if_then_else_}
 use Rattle.octets.proofs.Lists.{some-in}
 use Rattle.entries.proofs.BestList.{different-rising}
 use Rattle.entries.specs.Entries.{Entry}
-use Rattle.entries.specs.Names.{allowedBytes}
+use Rattle.entries_laws.specs.Signs.{halfAfter, noHalf}
 use Rattle.trie.proofs.Header.{Size, ownSize-nonzero, ownSize-size, sizeOf-fits, sizeOf-nonzero, sizeOf-size}
 use Rattle.trie.proofs.Sets.{flat, highest-below, label-short}
 use Rattle.trie.proofs.Trie.{Fit, anyInner, group-some, node-label, node-score, node-size, nodes, siblings-inner}
@@ -25,18 +25,20 @@ use Rattle.trie.specs.Trie.{otherBytes, ownSize, siblings, sizeOf}
 use Rattle.trie_group_laws.proofs.Groups.{Siblings, first-top, scatter, scattered, scattered-length, scattered-nodes}
 use Rattle.trie_group_laws.proofs.Groups.{scattered-top, set-before}
 use Rattle.trie_group_laws.proofs.Keys.{keysDiffer}
-use Rattle.trie_group_laws.proofs.Made.{Made, Suffixes, inner, leaf, made-facts}
+use Rattle.trie_group_laws.proofs.Made.{Made, Suffixes, made-facts}
 use Rattle.trie_group_laws.proofs.Sort.{chain, chain-tail}
 use Rattle.trie_laws.specs.Keys.{key, setBefore, setKey}
-use Rattle.trie_check_laws.proofs.Heads.{fieldsFor, node-behind, node-read, node-within}
+use Rattle.trie_check_laws.proofs.Heads.{fieldsFor, node-behind, node-label-at, node-read, node-within}
 use Rattle.trie_check_laws.proofs.Sound.{isNil, last-nodes}
 use Rattle.trie_check_laws.proofs.Stand.{FieldsStand, true-stands}
 use Rattle.trie_check_laws.proofs.Weight.{Kid, Lone, group-weight, kind, scattered-weight, weight, weight-part}
 use Rattle.trie_check_laws.proofs.Written.{siblings-any}
-use Rattle.trie_check_laws.specs.Walk.{afterInner, afterLeaf, afterNode, andThen, beginGroup, beneath, groupEnd}
-use Rattle.trie_check_laws.specs.Walk.{headOf, inGroup, inNode, inRest, into, noneSeen, scoreOf, walkOf}
+use Rattle.trie_check_laws.specs.Walk.{above, afterInner, afterLeaf, afterNode, andThen, beginGroup, beneath}
+use Rattle.trie_check_laws.specs.Walk.{groupEnd, halfOf, headOf, inGroup, inNode, inRest, into, keyCount}
+use Rattle.trie_check_laws.specs.Walk.{labelAt, noneSeen, scoreOf, walkOf}
 use Rattle.trie_check_laws.specs.declared.Fields.{Fields}
 use Rattle.trie_check_laws.specs.declared.Head.the-variants as head
+use Rattle.trie_check_laws.specs.declared.Above.{Above}
 use Rattle.trie_check_laws.specs.declared.Among.{Among}
 use Rattle.trie_check_laws.specs.declared.WalkEnd.the-variants.{Next}
 use Rattle.trie_laws.proofs.Keys.{label-key}
@@ -44,16 +46,22 @@ use Rattle.trie_laws.proofs.Keys.{label-key}
 -- one step of the walk
 walk-leaf :
     (s : List ℕ) (k : ℕ) (p : Among) (seen : List ℕ) (n : Fields) → headOf s (p .at) ≡ head.Node n → FieldsStand p n
-    → getD seen (n .key) 0 ≡ 0 → n .size ≡ 0
+    → getD seen (n .key) 0 ≡ 0 → n .size ≡ 0 → halfOf s p n ≡ noHalf
     → walkOf s (suc k) (inNode p seen) ≡ walkOf s k (inRest (afterLeaf p n) (set seen (n .key) 1) (n .last))
 unfolding walkOf
-walk-leaf s k p seen n h st fr z = rw (h, true-stands p n st, eq-eqb (getD seen (n .key) 0) 0 fr, eq-eqb (n .size) 0 z)
+walk-leaf s k p seen n h st fr z w = rw (
+  h,
+  true-stands p n st,
+  eq-eqb (getD seen (n .key) 0) 0 fr,
+  eq-eqb (n .size) 0 z,
+  eq-eqb (halfOf s p n) noHalf w,
+)
 
 walk-inner :
     (s : List ℕ) (k m lf : ℕ) (p : Among) (seen : List ℕ) (n : Fields) → headOf s (p .at) ≡ head.Node n
     → FieldsStand p n
     → getD seen (n .key) 0 ≡ 0 → (n .size ≡ 0 → ⊥)
-    → walkOf s k (beneath p n) ≡ Next m lf
+    → walkOf s k (beneath s p n) ≡ Next m lf
     → walkOf s (suc k) (inNode p seen) ≡ walkOf s k (inRest (afterInner p n m lf) (set seen (n .key) 1) (n .last))
 unfolding walkOf
 walk-inner s k m lf p seen n h st fr z g = rw (
@@ -75,12 +83,10 @@ unfolding walkOf
 walk-more s k p seen last t = rw t
 
 walk-group :
-    (s : List ℕ) (k at path score : ℕ) (full : Bool) (left e : ℕ) → groupEnd s (suc k) at ≡ some e
-    → walkOf s (suc k) (inGroup at path score full left) ≡ walkOf s k
-    (inNode (beginGroup at e path score full left) noneSeen)
+    (s : List ℕ) (k at : ℕ) (a : Above) (left e : ℕ) → groupEnd s (suc k) at ≡ some e
+    → walkOf s (suc k) (inGroup at a left) ≡ walkOf s k (inNode (beginGroup at e a left) noneSeen)
 unfolding walkOf
-walk-group s k at path score full left e h = ap
-    (λ w. into w (λ e. walkOf s k (inNode (beginGroup at e path score full left) noneSeen))) h
+walk-group s k at a left e h = ap (λ w. into w (λ e. walkOf s k (inNode (beginGroup at e a left) noneSeen))) h
 
 end-one : (s : List ℕ) (k at : ℕ) (n : Fields) → headOf s at ≡ head.Node n → n .last ≡ true
     → groupEnd s (suc k) at ≡ some (n .end)
@@ -129,18 +135,12 @@ field-own o h =
 size-none : Size 0
 size-none = record { back = refl; small = omega arith }
 
-label-allowed : (path : ℕ) (t : List Entry) → Made path (labelOf t) (highest t) t → allowedBytes (labelOf t) ≡ true
-label-allowed path t m = go m
-  where
-    go : {l : List ℕ} {v : ℕ} {u : List Entry} → Made path l v u → allowedBytes l ≡ true
-    go (leaf h) = h .allowed
-    go (inner h) = h .allowed
-
-highest-fits : (path : ℕ) (t : List Entry) → Made path (labelOf t) (highest t) t → highest t < 2 ^ 32
-highest-fits path t m = highest-below (2 ^ 32) t (omega arith) (made-facts m .fits)
+highest-fits : (path half : ℕ) (t : List Entry) → Made path half (labelOf t) (highest t) t → highest t < 2 ^ 32
+highest-fits path half t m = highest-below (2 ^ 32) t (omega arith) (made-facts m .fits)
 
 -- a group below is of some bytes, and of fewer than 2 ^ 32
-module _ (path d : ℕ) (t : List Entry) (deep : 48 < path + suc d) (light : weight t < 2 ^ 32) (k : Kid path d t) where
+module _ (path half d : ℕ) (t : List Entry) (deep : 48 < path + suc d) (light : weight t < 2 ^ 32)
+    (k : Kid path half d t) where
   abbrev node : Node
   node = nodeOf (groupOf d 0) t
 
@@ -162,7 +162,7 @@ module _ (path d : ℕ) (t : List Entry) (deep : 48 < path + suc d) (light : wei
 
   kid-light : length (node .under) < 2 ^ 32
   kid-light =
-      let a = group-weight d 0 (path + length (labelOf t)) (eqb (length (labelOf t)) 7) (k .es) (k .below) in
+      let a = group-weight d 0 (path + length (labelOf t)) (halfAfter half (labelOf t)) (eqb (length (labelOf t)) 7) (k .es) (k .below) in
       let b = k .light in
       let c = ap length (k .under) in
       omega arith
@@ -173,44 +173,43 @@ module _ (path d : ℕ) (t : List Entry) (deep : 48 < path + suc d) (light : wei
       some : (length (node .under) ≡ 0 → ⊥) → 0 < length (node .under)
       some h = omega arith
 
-lone-leaf : (path d : ℕ) (t : List Entry) → Lone path d t → isLeaf (nodeOf (groupOf d 0) t) ≡ true
-lone-leaf path d t k = rw (k .under)
+lone-leaf : (path half d : ℕ) (t : List Entry) → Lone path half d t → isLeaf (nodeOf (groupOf d 0) t) ≡ true
+lone-leaf path half d t k = rw (k .under)
 
 field-drop : (b : List Entry → List ℕ) (t : List Entry) (ss : List (List Entry)) → highest t < 2 ^ 32
     → nodeOf b t .score - firstScore (map (nodeOf b) ss) < 2 ^ 32
 field-drop b t ss h = let a = node-score b t in omega arith
 
 -- One node read: its label, and its fields' values.
-module _ (s : List ℕ) (path d at f c cs : ℕ) (t : List Entry) (last : Bool) (r : List ℕ)
-    (m : Made path (labelOf t) (highest t) t) (ff : f < 2 ^ 32) (z : Size cs) (fc : c < 256 ^ cs)
-    (e : drop at s ≡ nodeBytes (nodeOf (groupOf d 0) t) f c cs last ++ r) where
+module _ (s : List ℕ) (d at f c cs : ℕ) (t : List Entry) (last : Bool) (r : List ℕ) (ff : f < 2 ^ 32) (z : Size cs)
+    (fc : c < 256 ^ cs) (e : drop at s ≡ nodeBytes (nodeOf (groupOf d 0) t) f c cs last ++ r) where
   abbrev fields : Fields
   fields = fieldsFor (nodeOf (groupOf d 0) t) at f c cs last
 
   short : length (nodeOf (groupOf d 0) t .label) < 8
   short = rw node-label (label-short t)
 
-  ok : allowedBytes (nodeOf (groupOf d 0) t .label) ≡ true
-  ok = rw node-label (label-allowed path t m)
-
   read : headOf s at ≡ head.Node fields
-  read = node-read s at (nodeOf (groupOf d 0) t) f c cs last r z short ok ff fc e
+  read = node-read s at (nodeOf (groupOf d 0) t) f c cs last r z short ff fc e
+
+  read-label : labelAt s fields ≡ labelOf t
+  read-label = node-label-at s at (nodeOf (groupOf d 0) t) f c cs last r z short ff fc e ∙ node-label (groupOf d 0) t
 
   read-behind : drop (fields .end) s ≡ r
-  read-behind = node-behind s at (nodeOf (groupOf d 0) t) f c cs last r z short ok ff fc e
+  read-behind = node-behind s at (nodeOf (groupOf d 0) t) f c cs last r z short ff fc e
 
   read-within : fields .end ≤ length s
-  read-within = node-within s at (nodeOf (groupOf d 0) t) f c cs last r z short ok ff fc e
+  read-within = node-within s at (nodeOf (groupOf d 0) t) f c cs last r z short ff fc e
 
   read-length : at + length (nodeBytes (nodeOf (groupOf d 0) t) f c cs last) ≡ fields .end
   read-length = let a = node-size (nodeOf (groupOf d 0) t) f c cs last in omega arith
 
 -- where a group ends
-module _ (s : List ℕ) (path d : ℕ) (deep : 48 < path + suc d) where
+module _ (s : List ℕ) (path half d : ℕ) (deep : 48 < path + suc d) where
   abbrev EndT : List (List Entry) → Type 0
   EndT ss =
       (at f back size k : ℕ) (own : Bool) (r : List ℕ)
-      → ((t : List Entry) → t ∈ ss → Made path (labelOf t) (highest t) t)
+      → ((t : List Entry) → t ∈ ss → Made path half (labelOf t) (highest t) t)
       → ((t : List Entry) → t ∈ ss → weight t < 2 ^ 32)
       → f < 2 ^ 32 → (anyInner (nodes d ss) ≡ true → ChildField own back size) → 0 < length ss
       → drop at s ≡ siblings f back size (nodes d ss) ++ r → length s - at < k
@@ -219,40 +218,40 @@ module _ (s : List ℕ) (path d : ℕ) (deep : 48 < path + suc d) where
   -- after a node that is read
   end-after :
       (ss : List (List Entry)) (ih : EndT ss) (t : List Entry) (at f c cs k f′ back size : ℕ) (own : Bool)
-      (r all : List ℕ) (m : Made path (labelOf t) (highest t) t) (ff : f < 2 ^ 32)
+      (r all : List ℕ) (ff : f < 2 ^ 32)
       (z : Size cs) (fc : c < 256 ^ cs)
       (e : drop at s ≡ nodeBytes (nodeOf (groupOf d 0) t) f c cs (isLast (nodes d ss))
       ++ (siblings f′ back size (nodes d ss) ++ r))
-      → ((u : List Entry) → u ∈ ss → Made path (labelOf u) (highest u) u)
+      → ((u : List Entry) → u ∈ ss → Made path half (labelOf u) (highest u) u)
       → ((u : List Entry) → u ∈ ss → weight u < 2 ^ 32)
       → f′ < 2 ^ 32 → (anyInner (nodes d ss) ≡ true → ChildField own back size) → length s - at < k
       → all ≡ nodeBytes (nodeOf (groupOf d 0) t) f c cs (isLast (nodes d ss)) ++ siblings f′ back size (nodes d ss)
       → groupEnd s k at ≡ some (at + length all)
-  end-after ss ih t at f c cs zero f′ back size own r all m ff z fc e made light ff′ fi lt q = absurd (omega arith)
-  end-after [] ih t at f c cs (suc k) f′ back size own r all m ff z fc e made light ff′ fi lt q =
-      let l = read-length s path d at f c cs t true (siblings f′ back size [] ++ r) m ff z fc e in
+  end-after ss ih t at f c cs zero f′ back size own r all ff z fc e made light ff′ fi lt q = absurd (omega arith)
+  end-after [] ih t at f c cs (suc k) f′ back size own r all ff z fc e made light ff′ fi lt q =
+      let l = read-length s d at f c cs t true (siblings f′ back size [] ++ r) ff z fc e in
       let a = ap length q ∙ length-append (nodeBytes (nodeOf (groupOf d 0) t) f c cs true) [] in
-      end-one s k at (fields s path d at f c cs t true r m ff z fc e) (read s path d at f c cs t true r m ff z fc e)
+      end-one s k at (fields s d at f c cs t true r ff z fc e) (read s d at f c cs t true r ff z fc e)
       refl
       ∙ ap some (sym l ∙ (let y : at + length (nodeBytes (nodeOf (groupOf d 0) t) f c cs true) ≡ at + length
       all = omega arith in y))
-  end-after (u ∷ us) ih t at f c cs (suc k) f′ back size own r all m ff z fc e made light ff′ fi lt q =
+  end-after (u ∷ us) ih t at f c cs (suc k) f′ back size own r all ff z fc e made light ff′ fi lt q =
       let rest = siblings f′ back size (nodes d (u ∷ us)) in
-      let l = read-length s path d at f c cs t false (siblings f′ back size (nodes d (u ∷ us)) ++ r) m ff z fc e in
-      let w = read-within s path d at f c cs t false (siblings f′ back size (nodes d (u ∷ us)) ++ r) m ff z fc e in
-      let b = read-behind s path d at f c cs t false (siblings f′ back size (nodes d (u ∷ us)) ++ r) m ff z fc e in
-      let n = fields s path d at f c cs t false (siblings f′ back size (nodes d (u ∷ us)) ++ r) m ff z fc e in
+      let l = read-length s d at f c cs t false (siblings f′ back size (nodes d (u ∷ us)) ++ r) ff z fc e in
+      let w = read-within s d at f c cs t false (siblings f′ back size (nodes d (u ∷ us)) ++ r) ff z fc e in
+      let b = read-behind s d at f c cs t false (siblings f′ back size (nodes d (u ∷ us)) ++ r) ff z fc e in
+      let n = fields s d at f c cs t false (siblings f′ back size (nodes d (u ∷ us)) ++ r) ff z fc e in
       let a = ap length q ∙ length-append (nodeBytes (nodeOf (groupOf d 0) t) f c cs false)
       (siblings f′ back size (nodes d (u ∷ us))) in
-      end-more s k at n (read s path d at f c cs t false (siblings f′ back size (nodes d (u ∷ us))
-      ++ r) m ff z fc e) refl
+      end-more s k at n (read s d at f c cs t false (siblings f′ back size (nodes d (u ∷ us))
+      ++ r) ff z fc e) refl
       ∙ ih (n .end) f′ back size k own r made light ff′ fi (omega arith) b (omega arith)
       ∙ ap some (let y : n .end + length (siblings f′ back size (nodes d (u ∷ us))) ≡ at + length all = omega arith in
       y)
 
   ends : (ss : List (List Entry)) → EndT ss
   ends [] at f back size k own r made light ff fi ne e lt = absurd (omega arith)
-  ends (t ∷ ss) at f back size k own r made light ff fi ne e lt = go (kind path d (made t (inl refl))) (ends ss)
+  ends (t ∷ ss) at f back size k own r made light ff fi ne e lt = go (kind path half d (made t (inl refl))) (ends ss)
     where
       x : Node
       x = nodeOf (groupOf d 0) t
@@ -261,39 +260,39 @@ module _ (s : List ℕ) (path d : ℕ) (deep : 48 < path + suc d) where
       xs = nodes d ss
 
       ff′ : x .score - firstScore xs < 2 ^ 32
-      ff′ = field-drop (groupOf d 0) t ss (highest-fits path t (made t (inl refl)))
+      ff′ = field-drop (groupOf d 0) t ss (highest-fits path half t (made t (inl refl)))
 
-      go : (Lone path d t) ⊎ (Kid path d t) → EndT ss
+      go : (Lone path half d t) ⊎ (Kid path half d t) → EndT ss
           → groupEnd s k at ≡ some (at + length (siblings f back size (x ∷ xs)))
       go (inl a) ih =
-          let lf = lone-leaf path d t a in
+          let lf = lone-leaf path half d t a in
           let q = siblings-leaf f back size x xs lf in
           end-after ss ih t at f 0 0 k (x .score - firstScore xs) back size own r (siblings f back size (x
-          ∷ xs)) (made t (inl refl)) ff size-none (omega arith)
+          ∷ xs)) ff size-none (omega arith)
           (e ∙ ap (λ w. w ++ r) q ∙ append-assoc (nodeBytes x f 0 0 (isLast xs))
           (siblings (x .score - firstScore xs) back size xs) r)
           (λ u m. made u (inr m)) (λ u m. light u (inr m)) ff′ (λ y. fi (rw lf y)) lt q
       go (inr a) ih =
-          let inn = kid-inner path d t deep (light t (inl refl)) a in
+          let inn = kid-inner path half d t deep (light t (inl refl)) a in
           let q = siblings-inner f back size x xs inn in
           let now = fi (rw inn) in
           end-after ss ih t at f back size k (x .score - firstScore xs) (length (x .under))
-          (sizeOf (length (x .under))) false r (siblings f back size (x ∷ xs)) (made t (inl refl)) ff
+          (sizeOf (length (x .under))) false r (siblings f back size (x ∷ xs)) ff
           (now .sized) (now .fits)
           (e ∙ ap (λ w. w ++ r) q ∙ append-assoc (nodeBytes x f back size (isLast xs))
           (siblings (x .score - firstScore xs) (length (x .under)) (sizeOf (length (x .under))) xs) r)
-          (λ u m. made u (inr m)) (λ u m. light u (inr m)) ff′ (λ y. kid-field path d t deep (light t (inl refl)) a) lt
+          (λ u m. made u (inr m)) (λ u m. light u (inr m)) ff′ (λ y. kid-field path half d t deep (light t (inl refl)) a) lt
           q
 
 -- Siblings that stand before the check, and what stands under them.
 record Runs (s : List ℕ) (d : ℕ) (p : Among) (seen : List ℕ) (f size l : ℕ) (ss : List (List Entry)) (r q : List ℕ) :
     Type 0 where
-  made : (t : List Entry) → t ∈ ss → Made (p .path) (labelOf t) (highest t) t
+  made : (t : List Entry) → t ∈ ss → Made (p .path) (p .half) (labelOf t) (highest t) t
   light : (t : List Entry) → t ∈ ss → weight t < 2 ^ 32
   order : chain setBefore ss
   differ : keysDiffer ss
   fresh : (t : List Entry) → t ∈ ss → getD seen (setKey t) 0 ≡ 0
-  array : length seen ≡ 128
+  array : length seen ≡ keyCount
   fits : f < 2 ^ 32
   field : anyInner (nodes d ss) ≡ true → ChildField (p .own) (p .back) size
   count : p .left ≡ l + length (flat ss)
@@ -323,10 +322,10 @@ key-len (x ∷ l) h z = omega arith
 -- groups of d levels are accepted
 abbrev KidsT : List ℕ → ℕ → Type 0
 KidsT s d =
-    (es : List Entry) (at path score : ℕ) (full : Bool) (left l k : ℕ) (r : List ℕ) → Suffixes path full es
+    (es : List Entry) (at path half score : ℕ) (full : Bool) (left l k : ℕ) (r : List ℕ) → Suffixes path half full es
     → 48 < path + d → score ≡ highest es → 0 < path → weight es < 2 ^ 32
     → left ≡ l + length es → at ≤ length s → drop at s ≡ groupOf d 0 es ++ r → 4 * (length s - at) < k
-    → walkOf s k (inGroup at path score full left) ≡ Next (at + length (groupOf d 0 es)) l
+    → walkOf s k (inGroup at (above path half score full) left) ≡ Next (at + length (groupOf d 0 es)) l
 
 abbrev RestT : List ℕ → ℕ → List (List Entry) → Type 0
 RestT s d ss =
@@ -348,14 +347,14 @@ module _ (s : List ℕ) (d : ℕ) (kids : KidsT s d) (t : List Entry) (ss : List
   abbrev f′ : ℕ
   f′ = x .score - firstScore xs
 
-  mt : Made (p .path) (labelOf t) (highest t) t
+  mt : Made (p .path) (p .half) (labelOf t) (highest t) t
   mt = run .made t (inl refl)
 
   t-key : key (x .label) ≡ setKey t
   t-key = ap key (node-label (groupOf d 0) t) ∙ (let a = made-facts mt in label-key t (a .run))
 
   f′-fits : f′ < 2 ^ 32
-  f′-fits = field-drop (groupOf d 0) t ss (highest-fits (p .path) t mt)
+  f′-fits = field-drop (groupOf d 0) t ss (highest-fits (p .path) (p .half) t mt)
 
   -- the tests of the node
   module _ (c cs e : ℕ) (lab : length (x .label) ≡ length (labelOf t)) (within : p .path + length (labelOf t) ≤ 48)
@@ -443,9 +442,9 @@ module _ (s : List ℕ) (d : ℕ) (kids : KidsT s d) (t : List Entry) (ss : List
             (rw (eq-eqb (highest t) (highest u) y) at order′) in omega (arith, ku, kt, t-key)
 
   -- a leaf
-  module _ (a : Lone (p .path) d t) where
+  module _ (a : Lone (p .path) (p .half) d t) where
     lf-leaf : isLeaf x ≡ true
-    lf-leaf = lone-leaf (p .path) d t a
+    lf-leaf = lone-leaf (p .path) (p .half) d t a
 
     lf-eq : siblings f (p .back) size (x ∷ xs) ≡ nodeBytes x f 0 0 (isLast xs) ++ siblings f′ (p .back) size xs
     lf-eq = siblings-leaf f (p .back) size x xs lf-leaf
@@ -479,16 +478,20 @@ module _ (s : List ℕ) (d : ℕ) (kids : KidsT s d) (t : List Entry) (ss : List
     lf-stands = n-stands 0 0 0 lf-lab (a .within) lf-empty lf-left lf-child lf-size
 
     lf-read : headOf s (p .at) ≡ head.Node lf-n
-    lf-read = read s (p .path) d (p .at) f 0 0 t (isLast xs) (siblings f′ (p .back) size xs
-        ++ r) mt (run .fits) size-none (omega arith) lf-bytes
+    lf-read = read s d (p .at) f 0 0 t (isLast xs) (siblings f′ (p .back) size xs
+        ++ r) (run .fits) size-none (omega arith) lf-bytes
+
+    lf-whole : halfOf s p lf-n ≡ noHalf
+    lf-whole = ap (halfAfter (p .half)) (read-label s d (p .at) f 0 0 t (isLast xs) (siblings f′ (p .back) size xs
+        ++ r) (run .fits) size-none (omega arith) lf-bytes) ∙ a .whole
 
     lf-within : lf-n .end ≤ length s
-    lf-within = read-within s (p .path) d (p .at) f 0 0 t (isLast xs) (siblings f′ (p .back) size xs
-        ++ r) mt (run .fits) size-none (omega arith) lf-bytes
+    lf-within = read-within s d (p .at) f 0 0 t (isLast xs) (siblings f′ (p .back) size xs
+        ++ r) (run .fits) size-none (omega arith) lf-bytes
 
     lf-length : p .at + length (nodeBytes x f 0 0 (isLast xs)) ≡ lf-n .end
-    lf-length = read-length s (p .path) d (p .at) f 0 0 t (isLast xs) (siblings f′ (p .back) size xs
-        ++ r) mt (run .fits) size-none (omega arith) lf-bytes
+    lf-length = read-length s d (p .at) f 0 0 t (isLast xs) (siblings f′ (p .back) size xs
+        ++ r) (run .fits) size-none (omega arith) lf-bytes
 
     lf-under : unders (x ∷ xs) ≡ unders xs
     lf-under = ap (λ w. w ++ unders xs) (a .under)
@@ -513,8 +516,8 @@ module _ (s : List ℕ) (d : ℕ) (kids : KidsT s d) (t : List Entry) (ss : List
               omega arith;
           next = run .next;
           deep = run .deep;
-          here = read-behind s (p .path) d (p .at) f 0 0 t (isLast xs) (siblings f′ (p .back) size xs
-              ++ r) mt (run .fits) size-none (omega arith) lf-bytes;
+          here = read-behind s d (p .at) f 0 0 t (isLast xs) (siblings f′ (p .back) size xs
+              ++ r) (run .fits) size-none (omega arith) lf-bytes;
           there = run .there ∙ ap (λ w. w ++ q) lf-under;
         }
 
@@ -524,7 +527,7 @@ module _ (s : List ℕ) (d : ℕ) (kids : KidsT s d) (t : List Entry) (ss : List
     leaf-on (suc zero) h = absurd (let b = lf-within in omega arith)
     leaf-on (suc (suc k)) h =
         walk-leaf s (suc k) p seen lf-n lf-read lf-stands
-        (n-fresh 0 0 0 lf-lab (a .within) lf-empty lf-left lf-child lf-size) refl
+        (n-fresh 0 0 0 lf-lab (a .within) lf-empty lf-left lf-child lf-size) refl lf-whole
         ∙ ap (λ b. walkOf s (suc k) (inRest (afterLeaf p lf-n) (set seen (lf-n .key) 1) b))
         (last-nodes (groupOf d 0) ss)
         ∙ ih (afterLeaf p lf-n) (set seen (lf-n .key) 1) f′ size l r q k lf-runs refl
@@ -534,9 +537,9 @@ module _ (s : List ℕ) (d : ℕ) (kids : KidsT s d) (t : List Entry) (ss : List
         ∙ ap (λ w. Next (p .next + length w) l) (sym lf-under)
 
   -- a node with children
-  module _ (a : Kid (p .path) d t) where
+  module _ (a : Kid (p .path) (p .half) d t) where
     in-inner : isLeaf x ≡ false
-    in-inner = kid-inner (p .path) d t (run .deep) (run .light t (inl refl)) a
+    in-inner = kid-inner (p .path) (p .half) d t (run .deep) (run .light t (inl refl)) a
 
     in-field : ChildField (p .own) (p .back) size
     in-field = run .field (rw in-inner)
@@ -583,15 +586,19 @@ module _ (s : List ℕ) (d : ℕ) (kids : KidsT s d) (t : List Entry) (ss : List
     in-stands = n-stands (p .back) size 0 in-lab in-within in-empty in-left in-child in-size
 
     in-read : headOf s (p .at) ≡ head.Node in-n
-    in-read = read s (p .path) d (p .at) f (p .back) size t (isLast xs) more mt (run .fits) (in-field .sized)
+    in-read = read s d (p .at) f (p .back) size t (isLast xs) more (run .fits) (in-field .sized)
         (in-field .fits) in-bytes
 
+    in-half : halfOf s p in-n ≡ halfAfter (p .half) (labelOf t)
+    in-half = ap (halfAfter (p .half)) (read-label s d (p .at) f (p .back) size t (isLast xs) more (run .fits)
+        (in-field .sized) (in-field .fits) in-bytes)
+
     in-inside : in-n .end ≤ length s
-    in-inside = read-within s (p .path) d (p .at) f (p .back) size t (isLast xs) more mt (run .fits) (in-field .sized)
+    in-inside = read-within s d (p .at) f (p .back) size t (isLast xs) more (run .fits) (in-field .sized)
         (in-field .fits) in-bytes
 
     in-length : p .at + length (nodeBytes x f (p .back) size (isLast xs)) ≡ in-n .end
-    in-length = read-length s (p .path) d (p .at) f (p .back) size t (isLast xs) more mt (run .fits) (in-field .sized)
+    in-length = read-length s d (p .at) f (p .back) size t (isLast xs) more (run .fits) (in-field .sized)
         (in-field .fits) in-bytes
 
     abbrev lf : ℕ
@@ -642,7 +649,7 @@ module _ (s : List ℕ) (d : ℕ) (kids : KidsT s d) (t : List Entry) (ss : List
           array = length-set seen (in-n .key) 1 ∙ run .array;
           fits = f′-fits;
           field = λ y. subst (λ (w : ℕ). ChildField false w (sizeOf w)) in-back
-              (kid-field (p .path) d t (run .deep) (run .light t (inl refl)) a);
+              (kid-field (p .path) (p .half) d t (run .deep) (run .light t (inl refl)) a);
           count = refl;
           before =
               let b = run .before in
@@ -657,18 +664,17 @@ module _ (s : List ℕ) (d : ℕ) (kids : KidsT s d) (t : List Entry) (ss : List
           next = in-next;
           deep = run .deep;
           here =
-              read-behind s (p .path) d (p .at) f (p .back) size t (isLast xs) more mt (run .fits) (in-field .sized)
+              read-behind s d (p .at) f (p .back) size t (isLast xs) more (run .fits) (in-field .sized)
               (in-field .fits) in-bytes
               ∙ ap (λ w. siblings f′ w (sizeOf w) xs ++ r) in-back;
           there = in-behind;
         }
 
     in-group : (k : ℕ) → 4 * (length s - p .next) < k
-        → walkOf s k (inGroup (p .next) (p .path + in-n .len) (scoreOf p in-n) (eqb (in-n .len) 7) (p .left)) ≡ Next m
-        lf
+        → walkOf s k (beneath s p in-n) ≡ Next m lf
     in-group k h =
-        kids (a .es) (p .next) (p .path + in-n .len) (scoreOf p in-n) (eqb (in-n .len) 7) (p .left) lf k (unders xs
-        ++ q) (rw in-lab (a .below))
+        kids (a .es) (p .next) (p .path + in-n .len) (halfOf s p in-n) (scoreOf p in-n) (eqb (in-n .len) 7) (p .left) lf
+        k (unders xs ++ q) (rw (in-half, in-lab) (a .below))
         (let b = a .some in let c = run .deep in let e = in-lab in omega arith)
         (n-score (p .back) size 0 in-lab in-within in-empty in-left in-child in-size ∙ sym (a .top))
         (let b = a .some in let e = in-lab in omega arith)
@@ -694,9 +700,9 @@ module _ (s : List ℕ) (d : ℕ) (kids : KidsT s d) (t : List Entry) (ss : List
 
   node-on : (k : ℕ) → 2 * (length s - p .at) + 2 * (length s - p .next) < k
       → walkOf s k (inNode p seen) ≡ Next (p .next + length (unders (x ∷ xs))) l
-  node-on k h = go (kind (p .path) d mt)
+  node-on k h = go (kind (p .path) (p .half) d mt)
     where
-      go : (Lone (p .path) d t) ⊎ (Kid (p .path) d t)
+      go : (Lone (p .path) (p .half) d t) ⊎ (Kid (p .path) (p .half) d t)
           → walkOf s k (inNode p seen) ≡ Next (p .next + length (unders (x ∷ xs))) l
       go (inl a) = leaf-on a k h
       go (inr a) = inner-on a k h
@@ -716,9 +722,9 @@ none-seen (suc n) zero = refl
 none-seen (suc n) (suc i) = none-seen n i
 
 module _
-    (s : List ℕ) (d : ℕ) (kids : KidsT s d) (t : List Entry) (ss : List (List Entry)) (f at path score : ℕ)
+    (s : List ℕ) (d : ℕ) (kids : KidsT s d) (t : List Entry) (ss : List (List Entry)) (f at path half score : ℕ)
     (full : Bool) (left l : ℕ) (r : List ℕ)
-    (of : Siblings path full (t ∷ ss)) (deep : 48 < path + suc d) (top : score + f ≡ highest t) (low : (path ≡ 0 → ⊥)
+    (of : Siblings path half full (t ∷ ss)) (deep : 48 < path + suc d) (top : score + f ≡ highest t) (low : (path ≡ 0 → ⊥)
     → f ≡ 0) (root : path ≡ 0 → score ≡ 0)
     (light : (u : List Entry) → u ∈ (t ∷ ss)
     → weight u < 2 ^ 32) (count : left ≡ l + length (flat (t ∷ ss))) (inside : at ≤ length s)
@@ -738,7 +744,7 @@ module _
     e = at + length sibs
 
     g-fits : f < 2 ^ 32
-    g-fits = let a = highest-fits path t (of .made t (inl refl)) in omega arith
+    g-fits = let a = highest-fits path half t (of .made t (inl refl)) in omega arith
 
     g-length : length (groupBytes f gx) ≡ length sibs + length (unders gx)
     unfolding groupBytes otherBytes
@@ -774,15 +780,15 @@ module _
         let c = length-drop at s in
         omega arith
 
-    g-runs : Runs s d (beginGroup at e path score full left) noneSeen f (ownSize o) l (t ∷ ss) (unders gx ++ r) r
+    g-runs : Runs s d (beginGroup at e (above path half score full) left) noneSeen f (ownSize o) l (t ∷ ss) (unders gx ++ r) r
     g-runs =
         record {
           made = of .made;
           light = light;
           order = of .order;
           differ = of .differ;
-          fresh = λ u m. none-seen 128 (setKey u);
-          array = length-replicate {A = ℕ} 128 0;
+          fresh = λ u m. none-seen keyCount (setKey u);
+          array = length-replicate {A = ℕ} keyCount 0;
           fits = g-fits;
           field = λ y. subst (λ (w : ℕ). ChildField true w (ownSize o)) (g-back y) (g-own y);
           count = count;
@@ -793,7 +799,7 @@ module _
           there = g-there;
         }
 
-    g-at : At (beginGroup at e path score full left) t ss f
+    g-at : At (beginGroup at e (above path half score full) left) t ss f
     g-at =
         record {
           root = λ y. root;
@@ -805,58 +811,58 @@ module _
         }
 
     sets-on : (k : ℕ) → 4 * (length s - at) < k
-        → walkOf s k (inGroup at path score full left) ≡ Next (at + length (groupBytes f gx)) l
+        → walkOf s k (inGroup at (above path half score full) left) ≡ Next (at + length (groupBytes f gx)) l
     sets-on zero h = absurd (omega arith)
     sets-on (suc k) h =
-        walk-group s k at path score full left e
-        (ends s path d deep (t ∷ ss) at f (o + ownSize o) (ownSize o) (suc k) true (unders gx
+        walk-group s k at (above path half score full) left e
+        (ends s path half d deep (t ∷ ss) at f (o + ownSize o) (ownSize o) (suc k) true (unders gx
         ++ r) (of .made) light g-fits g-own (omega arith) g-bytes (omega arith))
-        ∙ node-on s d kids t ss (rest-on s d kids ss) (beginGroup at e path score full left) noneSeen f (ownSize o) l
+        ∙ node-on s d kids t ss (rest-on s d kids ss) (beginGroup at e (above path half score full) left) noneSeen f (ownSize o) l
         (unders gx ++ r) r g-runs g-at k
         (let a = g-some in let b = g-inside in omega arith)
         ∙ ap (λ w. Next w l) (let a = g-length in
         let y : e + length (unders gx) ≡ at + length (groupBytes f gx) = omega arith in y)
 
 pub group-on :
-    (s : List ℕ) (d : ℕ) (es : List Entry) (f at path score : ℕ) (full : Bool) (left l k : ℕ) (r : List ℕ)
-    → Suffixes path full es → 48 < path + d → score + f ≡ highest es
+    (s : List ℕ) (d : ℕ) (es : List Entry) (f at path half score : ℕ) (full : Bool) (left l k : ℕ) (r : List ℕ)
+    → Suffixes path half full es → 48 < path + d → score + f ≡ highest es
     → ((path ≡ 0 → ⊥) → f ≡ 0) → (path ≡ 0 → score ≡ 0) → weight es < 2 ^ 32 → left ≡ l + length es → at ≤ length s
     → drop at s ≡ groupOf d f es ++ r → 4 * (length s - at) < k
-    → walkOf s k (inGroup at path score full left) ≡ Next (at + length (groupOf d f es)) l
-group-on s zero es f at path score full left l k r h deep top low root light count inside bytes fuel = absurd
+    → walkOf s k (inGroup at (above path half score full) left) ≡ Next (at + length (groupOf d f es)) l
+group-on s zero es f at path half score full left l k r h deep top low root light count inside bytes fuel = absurd
     (go es (h .some) (h .short))
   where
     go : (fs : List Entry) → 0 < length fs → ((e : Entry) → e ∈ fs → path + length (e .name) ≤ 48) → ⊥
     go [] y z = omega arith
     go (e ∷ fs) y z = let a = z e (inl refl) in omega arith
-group-on s (suc d) es f at path score full left l k r h deep top low root light count inside bytes fuel =
-    go (scattered es) refl (λ fs at′ path′ score′ full′ left′ l′ k′ r′ h′ deep′ top′ pos′ light′ count′ inside′ bytes′
+group-on s (suc d) es f at path half score full left l k r h deep top low root light count inside bytes fuel =
+    go (scattered es) refl (λ fs at′ path′ half′ score′ full′ left′ l′ k′ r′ h′ deep′ top′ pos′ light′ count′ inside′ bytes′
     fuel′.
-    group-on s d fs 0 at′ path′ score′ full′ left′ l′ k′ r′ h′ deep′ (let a : score′ + 0 ≡ score′ = omega arith in a
+    group-on s d fs 0 at′ path′ half′ score′ full′ left′ l′ k′ r′ h′ deep′ (let a : score′ + 0 ≡ score′ = omega arith in a
     ∙ top′) (λ z. refl) (λ z. absurd (omega arith)) light′ count′ inside′ bytes′ fuel′)
   where
     same : groupOf (suc d) f es ≡ groupBytes f (nodes d (scattered es))
     same = ap (groupBytes f) (scattered-nodes (groupOf d 0) es)
 
-    sets : Siblings path full (scattered es)
-    sets = scatter path full es h
+    sets : Siblings path half full (scattered es)
+    sets = scatter path half full es h
 
     go : (ss : List (List Entry)) → scattered es ≡ ss → KidsT s d
-        → walkOf s k (inGroup at path score full left) ≡ Next (at + length (groupOf (suc d) f es)) l
+        → walkOf s k (inGroup at (above path half score full) left) ≡ Next (at + length (groupOf (suc d) f es)) l
     go [] z kids = absurd (let a = sets .some in let b = ap length z in omega arith)
     go (t ∷ ss) z kids =
         let same′ : groupOf (suc d) f es ≡ groupBytes f (nodes d (t ∷ ss)) = same
         ∙ ap (λ w. groupBytes f (nodes d w)) z in
-        let sets′ : Siblings path full (t ∷ ss) = subst (Siblings path full) z sets in
+        let sets′ : Siblings path half full (t ∷ ss) = subst (Siblings path half full) z sets in
         let wt = scattered-weight es in
-        sets-on s d kids t ss f at path score full left l r sets′ deep
+        sets-on s d kids t ss f at path half score full left l r sets′ deep
         (top ∙ sym (scattered-top es) ∙ ap (λ w. highest (flat w)) z ∙ first-top t ss (sets′ .order))
         low
         root
         (λ u m. let a = weight-part u (t ∷ ss) m in let b = ap (λ w. weight (flat w)) z in omega arith)
         (count ∙ ap (λ w. l + w) (sym (scattered-length es) ∙ ap (λ w. length (flat w)) z))
         inside
-        (let a = group-weight (suc d) f path full es h in let b = ap length same′ in omega arith)
+        (let a = group-weight (suc d) f path half full es h in let b = ap length same′ in omega arith)
         (bytes ∙ ap (λ w. w ++ r) same′)
         k fuel
         ∙ ap (λ w. Next (at + length w) l) (sym same′)

@@ -17,6 +17,8 @@ use Rattle.octets.proofs.Order.{begins-append, begins-length, begins-split}
 use Rattle.octets.proofs.Tests.{and-intro, and-true, by-test}
 use Rattle.entries.specs.Entries.{Entry, isEntry, maxEntries, valid}
 use Rattle.entries.specs.Names.{allowedBytes, isName, isPrefix, isScore, longestName}
+use Rattle.entries_laws.specs.Signs.{halfAfter, noHalf}
+use Rattle.entries_laws.proofs.Signs.{allowed-half}
 use Rattle.entries.proofs.Valid.{Valid, score-fits, valid-intro, valid-of}
 use Rattle.frame.specs.Frame.{framed, isRead}
 use Rattle.frame_laws.specs.Test.{frameIs}
@@ -26,7 +28,7 @@ use Rattle.trie.specs.Reading.{readTrie}
 use Rattle.trie.specs.Trie.{groupBytes, groupOf, highest, levels, trieImage, usedUp}
 use Rattle.trie.proofs.Trie.{trie-exact}
 use Rattle.trie_group_laws.proofs.Made.{Suffixes}
-use Rattle.trie_check_laws.specs.Walk.{inGroup, trieBodyIs, trieChecks, turns, walkOf, wholeIs}
+use Rattle.trie_check_laws.specs.Walk.{above, inGroup, trieBodyIs, trieChecks, turns, walkOf, wholeIs}
 use Rattle.trie_check_laws.proofs.Complete.{group-on}
 use Rattle.trie_check_laws.proofs.Sound.{GroupRead, sound}
 use Rattle.trie_check_laws.proofs.Weight.{group-weight, weight}
@@ -62,12 +64,12 @@ not-lone [] h = refl
 not-lone (e ∷ []) h = let a = h e (inl refl) in ne-eqb (length (e .name)) 0 (λ z. omega arith)
 not-lone (e ∷ f ∷ es) h = refl
 
-valid-suffixes : (es : List Entry) → Valid es → 0 < length es → Suffixes 0 true es
+valid-suffixes : (es : List Entry) → Valid es → 0 < length es → Suffixes 0 noHalf true es
 valid-suffixes es v h =
     record {
       some = h;
       up = v .order;
-      allowed = λ e m. named e m .allowed;
+      allowed = λ e m. eqb-true (halfAfter noHalf (e .name)) noHalf (sym (allowed-half (e .name)) ∙ named e m .allowed);
       short = λ e m. let a = named e m .short in omega arith;
       fits = λ e m. score-of (e .score) (all-in (λ f. isScore (f .score)) e es (v .fits) m);
       ends = λ z e m. named e m .some;
@@ -78,14 +80,14 @@ valid-suffixes es v h =
     named : (e : Entry) → e ∈ es → Named (e .name)
     named e m = name-of (e .name) (all-in (λ f. isName (f .name)) e es (v .allowed) m)
 
-suffixes-valid : (es : List Entry) → Suffixes 0 true es → length es ≤ maxEntries → valid es ≡ true
+suffixes-valid : (es : List Entry) → Suffixes 0 noHalf true es → length es ≤ maxEntries → valid es ≡ true
 suffixes-valid es h few =
     valid-intro es few
     (all-of isEntry es
     (λ e m.
     and-intro (isName (e .name)) (isScore (e .score))
     (name-is (e .name)
-    (record { allowed = h .allowed e m; short = let a = h .short e m in omega arith; some = h .ends refl e m }))
+    (record { allowed = allowed-half (e .name) ∙ eq-eqb _ _ (h .allowed e m); short = let a = h .short e m in omega arith; some = h .ends refl e m }))
     (score-fits (e .score) (h .fits e m))))
     (h .up)
 
@@ -101,7 +103,7 @@ weight-most : (es : List Entry) → ((e : Entry) → e ∈ es → length (e .nam
 weight-most [] h = omega arith
 weight-most (e ∷ es) h = let a = h e (inl refl) in let ih = weight-most es (λ f m. h f (inr m)) in omega arith
 
-weight-few : (es : List Entry) → Valid es → Suffixes 0 true es → weight es ≤ 489 * maxEntries
+weight-few : (es : List Entry) → Valid es → Suffixes 0 noHalf true es → weight es ≤ 489 * maxEntries
 weight-few es v h =
     let a = weight-most es (λ e m. let b = h .short e m in omega arith) in
     let c = v .few in
@@ -111,7 +113,7 @@ body-most : (es : List Entry) → Valid es → length (bodyOf es) < 1000000
 body-most [] v = rw body-none (omega arith)
 body-most (e ∷ es) v =
     let h = valid-suffixes (e ∷ es) v (omega arith) in
-    let a = group-weight levels (highest (e ∷ es)) 0 true (e ∷ es) h in
+    let a = group-weight levels (highest (e ∷ es)) 0 noHalf true (e ∷ es) h in
     let b = weight-few (e ∷ es) v h in
     omega arith
 
@@ -153,7 +155,7 @@ module _ (buf : List ℕ) (b : Bytes buf) (f : FrameTests 0x31 buf) where
       let z = ap length body-none in
       passes-as [] refl c (omega arith) (rw body-none)
 
-  module _ (g : GroupRead buf 7 0 0 true n total 0) where
+  module _ (g : GroupRead buf 7 (above 0 noHalf 0 true) n total 0) where
     top : g .f ≡ highest (g .es)
     top = let a = g .top in omega arith
 
@@ -176,8 +178,8 @@ module _ (buf : List ℕ) (b : Bytes buf) (f : FrameTests 0x31 buf) where
       (λ t. passes-none (eqb-true n 0 t) (eqb-true total 7 (rw t at h)))
       (λ t.
       passes-some
-      (sound buf b (turns buf) (inGroup 7 0 0 true n) total 0
-      (whole-to (walkOf buf (turns buf) (inGroup 7 0 0 true n)) total (rw t at h)) (omega arith)
+      (sound buf b (turns buf) (inGroup 7 (above 0 noHalf 0 true) n) total 0
+      (whole-to (walkOf buf (turns buf) (inGroup 7 (above 0 noHalf 0 true) n)) total (rw t at h)) (omega arith)
       (λ z. refl)))
 
 -- a buffer that is read passes
@@ -217,12 +219,12 @@ module _ (buf : List ℕ) (es : List Entry) (h : readTrie buf ≡ some es) where
       let i = inside in
       stands-number 4 buf 1 (length image) (omega arith) (parts .1) (omega arith) ∙ l
 
-  walks : 0 < length es → walkOf buf (turns buf) (inGroup 7 0 0 true (length es)) ≡ Next (7 + length (bodyOf es)) 0
+  walks : 0 < length es → walkOf buf (turns buf) (inGroup 7 (above 0 noHalf 0 true) (length es)) ≡ Next (7 + length (bodyOf es)) 0
   walks s =
       let o = valid-suffixes es v s in
       let w = weight-few es v o in
       let i = inside in
-      group-on buf levels es (highest es) 7 0 0 true (length es) 0 (turns buf) (drop (length (bodyOf es)) (drop 7 buf))
+      group-on buf levels es (highest es) 7 0 noHalf 0 true (length es) 0 (turns buf) (drop (length (bodyOf es)) (drop 7 buf))
       o (omega arith) (omega arith)
       (λ z. absurd (z refl)) (λ z. refl) (omega arith) (omega arith) (omega arith)
       (begins-split (bodyOf es) (drop 7 buf) (parts .3)) (omega arith)

@@ -1,7 +1,7 @@
 -- A node's bytes and what is read of them: each gives the other.
 use Prim.Native.Nat.{_%_, _*_, _+_, _-_, _/_, _<_, _^_, _≤_, suc, zero, ℕ}
 use mathlib.Core.Path.{_∙_, _≡_, ap, refl, subst, sym}
-use mathlib.Core.Bool.{Bool, _&&_, false, true}
+use mathlib.Core.Bool.{Bool, false, true}
 use mathlib.Core.List.{List, [], _++_, _∷_}
 use lib.Dec.{eqb, leb, ltb}
 use lib.ListN.{drop, getD, length, length-append, length-drop, length-take, take, take-append-drop}
@@ -9,18 +9,17 @@ use lib.Seq.{drop-at, drop-cons, drop-drop, take-at}
 use native.Mathlib.Omega.{arith}
 use borrow.Author.Tests.{eq-eqb, eqb-false, eqb-true, le-leb, le-ltb, leb-false, lt-leb, ltb-false}
 use Rattle.octets.proofs.Coding.{fromBe-be, length-be}
-use Rattle.octets.proofs.Numbers.{Bytes, bytes-drop, number-below, number-stands}
+use Rattle.octets.proofs.Numbers.{Bytes, bytes-drop, bytes-take, number-below, number-stands}
 use Rattle.octets.proofs.Order.{front-of}
-use Rattle.octets.proofs.Tests.{and-intro, and-true, by-test}
+use Rattle.octets.proofs.Tests.{by-test}
 use Rattle.octets.specs.Octets.{be, fromBe, numberAt}
-use Rattle.entries.specs.Names.{allowedBytes}
 use Rattle.trie.proofs.Header.{Size, header-child, header-label, header-last, header-score, said, sizeOf-fits}
 use Rattle.trie.proofs.Header.{sizeOf-size}
 use Rattle.trie.proofs.Trie.{node-split}
 use Rattle.trie.specs.Reading.{childSize, labelLength, lastMark, scoreSize}
 use Rattle.trie.specs.Trie.{Node, headerByte, nodeBytes, sizeOf}
 use Rattle.trie_laws.specs.Keys.{key}
-use Rattle.trie_check_laws.specs.Walk.{bodyOf, childIn, fieldIn, headFields, headOf, labelIn}
+use Rattle.trie_check_laws.specs.Walk.{bodyOf, childIn, fieldIn, headFields, headOf, keyCount, labelAt, labelIn}
 use Rattle.trie_check_laws.specs.declared.Fields.{Fields}
 use Rattle.trie_check_laws.specs.declared.Head.the-variants as head
 
@@ -69,11 +68,13 @@ pub record Says (s : List ℕ) (at : ℕ) (n : Fields) : Type 0 where
   pub isLen : length label ≡ n .len
   pub short : length label < 8
   pub isKey : key label ≡ n .key
-  pub allowed : allowedBytes label ≡ true
+  pub isAt : labelAt s n ≡ label
+  pub keyed : n .key < keyCount
   pub fits : n .field < 2 ^ 32
   pub size : Size (n .size)
   pub none : n .size ≡ 0 → n .child ≡ 0
   pub past : at < n .end
+  pub held : n .len ≤ n .end
   pub within : n .end ≤ length s
   pub bytes : (x : Node) → x .label ≡ label → drop at s ≡ nodeBytes x (n .field) (n .child) (n .size) (n .last)
       ++ drop (n .end) s
@@ -92,6 +93,19 @@ behind s at a b n =
     ∙ ap (drop n) (drop-drop b (suc at + a) s)
     ∙ drop-drop n (suc at + a + b) s
     ∙ (let q : suc at + a + b + n ≡ at + 1 + (a + b + n) = omega arith in ap (λ k. drop k s) q)
+
+-- the label stands at the node's end
+label-at : (s : List ℕ) (at a b n : ℕ)
+    → take n (drop (at + 1 + (a + b + n) - n) s) ≡ take n (drop b (drop a (drop (suc at) s)))
+label-at s at a b n =
+    let q : at + 1 + (a + b + n) - n ≡ suc at + a + b = omega arith in
+    ap (λ k. take n (drop k s)) q
+    ∙ ap (take n) (sym (drop-drop b (suc at + a) s) ∙ ap (drop b) (sym (drop-drop a (suc at) s)))
+
+-- its key is one of those of labels
+key-small : (l : List ℕ) → Bytes l → key l < keyCount
+key-small [] b = omega arith
+key-small (x ∷ l) b = omega (arith, b 0)
 
 -- a node put together again from the parts that were read
 joined :
@@ -117,10 +131,9 @@ module _ (s : List ℕ) (at : ℕ) (small : Bytes s) where
 
   head-bytes :
       at < length s → at + 1 + bodyOf h ≤ length s → sizeOf (fieldIn h t) ≡ scoreSize h
-      → allowedBytes (labelIn h t) ≡ true
       → Says s at (headFields h t at)
   unfolding scoreSize childSize labelLength
-  head-bytes inside body smallest ok =
+  head-bytes inside body smallest =
       let sc = said (h / 64) (omega (arith, small at)) in
       let cc′ = said (h / 16 % 4) (omega arith) in
       let st = bytes-drop (suc at) s small in
@@ -135,11 +148,14 @@ module _ (s : List ℕ) (at : ℕ) (small : Bytes s) where
         isLen = omega arith;
         short = omega arith;
         isKey = refl;
-        allowed = ok;
+        isAt = label-at s at (scoreSize h) (childSize h) (labelLength h);
+        keyed = key-small (labelIn h t) (bytes-take (labelLength h) (drop (childSize h) (drop (scoreSize h) t))
+            (bytes-drop (childSize h) (drop (scoreSize h) t) (bytes-drop (scoreSize h) t st)));
         fits = field-fits (scoreSize h) t st (omega arith) (sc .most);
         size = cc′ .size;
         none = λ q. no-field (childSize h) (drop (scoreSize h) t) q;
         past = omega arith;
+        held = omega arith;
         within = body;
         bytes =
             λ x q.
@@ -164,13 +180,12 @@ module _ (s : List ℕ) (at : ℕ) (small : Bytes s) where
       by-test (ltb (length s - at - 1) (bodyOf h))
       (λ b. absurd (cut (rw (a, b) at e)))
       (λ b.
-      by-test (eqb (sizeOf (fieldIn h t)) (scoreSize h) && allowedBytes (labelIn h t))
+      by-test (eqb (sizeOf (fieldIn h t)) (scoreSize h))
       (λ d.
       let i = leb-false (length s) at a in
       let j = ltb-false (length s - at - 1) (bodyOf h) b in
-      let k = and-true (eqb (sizeOf (fieldIn h t)) (scoreSize h)) (allowedBytes (labelIn h t)) d in
       subst (Says s at) (same-node (rw (a, b, d) at e))
-      (head-bytes i (omega arith) (eqb-true (sizeOf (fieldIn h t)) (scoreSize h) (k .0)) (k .1)))
+      (head-bytes i (omega arith) (eqb-true (sizeOf (fieldIn h t)) (scoreSize h) d)))
       (λ d. absurd (cut (rw (a, b, d) at e)))))
     where
       cut : {m : Fields} → head.Cut ≡ head.Node m → ⊥
@@ -201,7 +216,6 @@ fieldsFor x at f c cs last =
 
 module _
     (s : List ℕ) (at : ℕ) (x : Node) (f c cs : ℕ) (last : Bool) (r : List ℕ) (z : Size cs) (l : length (x .label) < 8)
-    (ok : allowedBytes (x .label) ≡ true)
     (ff : f < 2 ^ 32) (fc : c < 256 ^ cs) (e : drop at s ≡ nodeBytes x f c cs last ++ r)
   where
     abbrev hd : ℕ
@@ -264,6 +278,13 @@ module _
         ∙ ap (drop (length (x .label))) d2
         ∙ drop-at (x .label) r (length (x .label)) refl
 
+    pub node-label-at : labelAt s (fieldsFor x at f c cs last) ≡ x .label
+    node-label-at =
+        label-at s at (sizeOf f) cs (length (x .label))
+        ∙ ap (λ w. take (length (x .label)) (drop cs (drop (sizeOf f) w))) (cons .2)
+        ∙ ap (take (length (x .label))) d2
+        ∙ take-at (x .label) r (length (x .label)) refl
+
     pub node-within : at + 1 + (sizeOf f + cs + length (x .label)) ≤ length s
     node-within =
         let a = ap length (cons .2) in
@@ -285,8 +306,6 @@ module _
           hc,
           hl,
         ) (le-ltb (length s - at - 1) (sizeOf f + cs + length (x .label)) (omega (arith, node-within, cons .0))) in
-        let d : (eqb (sizeOf (fieldIn hd tl)) (scoreSize hd) && allowedBytes (labelIn hd tl)) ≡ true =
-        and-intro (eqb (sizeOf (fieldIn hd tl)) (scoreSize hd)) (allowedBytes (labelIn hd tl))
-        (eq-eqb (sizeOf (fieldIn hd tl)) (scoreSize hd) (ap sizeOf is-field ∙ sym hs)) (ap allowedBytes is-label ∙ ok)
-        in
+        let d : eqb (sizeOf (fieldIn hd tl)) (scoreSize hd) ≡ true =
+        eq-eqb (sizeOf (fieldIn hd tl)) (scoreSize hd) (ap sizeOf is-field ∙ sym hs) in
         rw (cons .1, cons .2) (rw (a, b, d) (ap head.Node is-fields))

@@ -5,17 +5,17 @@ use mathlib.Core.Logic.{inl, inr}
 use mathlib.Core.Bool.{Bool, _&&_, false, false≢true, true}
 use mathlib.Core.List.{List, [], _++_, _∷_, map}
 use mathlib.Core.Option.{Option, none, some}
-use lib.Dec.{eqb, leb}
+use lib.Dec.{eqb}
 use lib.ListN.{drop, getD, length, length-append, length-replicate, length-set, set}
 use lib.Seq.{getD-set-other, getD-set-same}
 use native.Mathlib.Omega.{arith}
-use borrow.Author.Tests.{eqb-false, eqb-true, leb-true, lt-ltb}
+use borrow.Author.Tests.{eqb-false, eqb-true, lt-ltb}
 use Rattle.octets.proofs.Numbers.{Bytes}
 use Rattle.octets.proofs.Tests.{and-true, by-test}
 use Rattle.octets.specs.Lists.{_∈_, if_then_else_}
 use Rattle.octets.proofs.Lists.{some-in}
 use Rattle.entries.specs.Entries.{Entry, entry}
-use Rattle.entries.specs.Names.{allowedBytes}
+use Rattle.entries_laws.specs.Signs.{halfAfter, noHalf}
 use Rattle.trie.proofs.Sets.{flat}
 use Rattle.trie.proofs.Trie.{node-label, node-score, nodes}
 use Rattle.trie.specs.Reading.{prefixed}
@@ -32,12 +32,13 @@ use Rattle.trie_check_laws.proofs.Heads.{Says, head-says}
 use Rattle.trie_check_laws.proofs.Stand.{FieldsStand, stands-true}
 use Rattle.trie_check_laws.proofs.Written.{GroupWritten, inner-under, leaf-under, written-group, written-inner}
 use Rattle.trie_check_laws.proofs.Written.{written-leaf, written-none}
-use Rattle.trie_check_laws.specs.Walk.{Task, afterInner, afterLeaf, afterNode, andThen, beginGroup, beneath}
-use Rattle.trie_check_laws.specs.Walk.{endAfter, groupEnd, headOf, inGroup, inNode, inRest, into, nodeThen}
-use Rattle.trie_check_laws.specs.Walk.{noneSeen, scoreOf, stands, walkOf}
+use Rattle.trie_check_laws.specs.Walk.{Task, above, afterInner, afterLeaf, afterNode, andThen, beginGroup, beneath}
+use Rattle.trie_check_laws.specs.Walk.{endAfter, groupEnd, halfOf, headOf, inGroup, inNode, inRest, into}
+use Rattle.trie_check_laws.specs.Walk.{keyCount, nodeThen, noneSeen, scoreOf, stands, walkOf}
 use Rattle.trie_check_laws.specs.declared.Fields.{Fields}
 use Rattle.trie_check_laws.specs.declared.Head.the-variants as head
 use Rattle.trie_check_laws.specs.declared.Head.{Head}
+use Rattle.trie_check_laws.specs.declared.Above.{Above}
 use Rattle.trie_check_laws.specs.declared.Among.{Among}
 use Rattle.trie_check_laws.specs.declared.WalkEnd.the-variants.{Bad, Next}
 use Rattle.trie_check_laws.specs.declared.WalkEnd.{WalkEnd}
@@ -49,22 +50,22 @@ isNil (t ∷ ts) = false
 
 -- a place where the check can stand
 pub record AmongReady (s : List ℕ) (p : Among) (seen : List ℕ) : Type 0 where
-  pub array : length seen ≡ 128
+  pub array : length seen ≡ keyCount
   pub next : p .next ≤ length s
   pub score : p .score < 2 ^ 32
   pub root : p .first ≡ true → p .path ≡ 0 → p .score ≡ 0
 
 -- a group that was accepted
-pub record GroupRead (s : List ℕ) (at path score : ℕ) (full : Bool) (left q l : ℕ) : Type 0 where
+pub record GroupRead (s : List ℕ) (at : ℕ) (a : Above) (left q l : ℕ) : Type 0 where
   pub es : List Entry
   pub f : ℕ
-  pub of : Suffixes path full es
-  pub top : score + f ≡ highest es
-  pub low : (path ≡ 0 → ⊥) → f ≡ 0
+  pub of : Suffixes (a .path) (a .half) (a .full) es
+  pub top : a .score + f ≡ highest es
+  pub low : (a .path ≡ 0 → ⊥) → f ≡ 0
   pub count : left ≡ l + length es
   pub past : at < q
   pub within : q ≤ length s
-  pub bytes : (d : ℕ) → 48 < path + d → drop at s ≡ groupOf d f es ++ drop q s
+  pub bytes : (d : ℕ) → 48 < a .path + d → drop at s ≡ groupOf d f es ++ drop q s
 
 -- siblings that were accepted, with what stands under them
 pub record NodesAre (s : List ℕ) (p : Among) (seen : List ℕ) (q l : ℕ) : Type 0 where
@@ -73,7 +74,7 @@ pub record NodesAre (s : List ℕ) (p : Among) (seen : List ℕ) (q l : ℕ) : T
   pub e : ℕ
   pub f : ℕ
   pub size : ℕ
-  pub made : (t : List Entry) → t ∈ (one ∷ ss) → Made (p .path) (labelOf t) (highest t) t
+  pub made : (t : List Entry) → t ∈ (one ∷ ss) → Made (p .path) (p .half) (labelOf t) (highest t) t
   pub differ : keysDiffer (one ∷ ss)
   pub fresh : (t : List Entry) → t ∈ (one ∷ ss) → getD seen (setKey t) 0 ≡ 0
   pub order : chain setBefore (one ∷ ss)
@@ -98,7 +99,7 @@ pub record RestAre (s : List ℕ) (p : Among) (seen : List ℕ) (last : Bool) (q
   pub f : ℕ
   pub size : ℕ
   pub lastIs : last ≡ isNil ss
-  pub made : (t : List Entry) → t ∈ ss → Made (p .path) (labelOf t) (highest t) t
+  pub made : (t : List Entry) → t ∈ ss → Made (p .path) (p .half) (labelOf t) (highest t) t
   pub differ : keysDiffer ss
   pub fresh : (t : List Entry) → t ∈ ss → getD seen (setKey t) 0 ≡ 0
   pub order : chain setBefore ss
@@ -164,17 +165,9 @@ rest-more s p seen last q l t fi n =
       bytes = n .bytes;
     }
 
-made-self : {path : ℕ} {l : List ℕ} {v : ℕ} {s : List Entry} → Made path l v s → Made path (labelOf s) (highest s) s
+made-self : {path half : ℕ} {l : List ℕ} {v : ℕ} {s : List Entry} → Made path half l v s
+    → Made path half (labelOf s) (highest s) s
 made-self m = let f = made-facts m in rw (f .label, f .top) m
-
-pub key-small : (l : List ℕ) → allowedBytes l ≡ true → key l < 128
-unfolding allowedBytes
-key-small [] h = omega arith
-key-small (x ∷ l) h =
-    let a = and-true (leb 0x20 x && leb x 0x7E) (allowedBytes l) h in
-    let b = and-true (leb 0x20 x) (leb x 0x7E) (a .0) in
-    let c = leb-true x 0x7E (b .1) in
-    omega arith
 
 chain-cons : (s : List Entry) (ss : List (List Entry))
     → ((t : List Entry) (ts : List (List Entry)) → ss ≡ t ∷ ts → setBefore s t ≡ true) → chain setBefore ss
@@ -222,7 +215,7 @@ module _
     sy = head-says s (p .at) small n hd
 
     key-bound : n .key < length seen
-    key-bound = let a = key-small (sy .label) (sy .allowed) in let b = sy .isKey in let c = rd .array in omega arith
+    key-bound = let a = sy .keyed in let c = rd .array in omega arith
 
     score-first : p .first ≡ true → scoreOf p n ≡ p .score + n .field
     score-first t =
@@ -252,7 +245,7 @@ module _
     module _
         (q l nx bk lf : ℕ) (ow : Bool) (r : RestAre s (afterNode p n nx bk ow lf) (set seen (n .key) 1) (n .last) q l)
         (one : List Entry)
-        (made : Made (p .path) (labelOf one) (highest one) one) (keyIs : setKey one ≡ n .key)
+        (made : Made (p .path) (p .half) (labelOf one) (highest one) one) (keyIs : setKey one ≡ n .key)
         (top : highest one ≡ scoreOf p n)
       where
         differs : (t : List Entry) → t ∈ r .ss → (setKey one ≡ setKey t → ⊥)
@@ -268,7 +261,7 @@ module _
         fresh t (inr m) = sym (getD-set-other seen (n .key) (setKey t) 1 0 (λ z. differs t m (keyIs ∙ sym z)))
             ∙ r .fresh t m
 
-        makes : (t : List Entry) → t ∈ (one ∷ r .ss) → Made (p .path) (labelOf t) (highest t) t
+        makes : (t : List Entry) → t ∈ (one ∷ r .ss) → Made (p .path) (p .half) (labelOf t) (highest t) t
         makes t (inl z) = rw z made
         makes t (inr m) = r .made t m
 
@@ -336,11 +329,11 @@ module _
             }
 
     -- a leaf
-    leaf-is : n .size ≡ 0 → IsLeaf (p .path) (sy .label) (scoreOf p n)
-    leaf-is z =
+    leaf-is : halfOf s p n ≡ noHalf → IsLeaf (p .path) (p .half) (sy .label) (scoreOf p n)
+    leaf-is w =
         record {
           short = sy .short;
-          allowed = sy .allowed;
+          allowed = ap (halfAfter (p .half)) (sym (sy .isAt)) ∙ w;
           within = let a = st .within in let b = sy .isLen in omega arith;
           fits = score-bound;
           ends = λ y. some (λ x. st .empty (sym (sy .isLen) ∙ x) .0 y);
@@ -358,13 +351,13 @@ module _
         sy .bytes (nodeOf b one) (node-label b one ∙ lab)
         ∙ (λ i. nodeBytes (nodeOf b one) (n .field) (ch i) (sz i) ((la ∙ sym (last-nodes b ss)) i) ++ drop (n .end) s)
 
-    leaf-step : (q l : ℕ) → n .size ≡ 0 → RestAre s (afterLeaf p n) (set seen (n .key) 1) (n .last) q l
-        → NodesAre s p seen q l
-    leaf-step q l z r =
+    leaf-step : (q l : ℕ) → n .size ≡ 0 → halfOf s p n ≡ noHalf
+        → RestAre s (afterLeaf p n) (set seen (n .key) 1) (n .last) q l → NodesAre s p seen q l
+    leaf-step q l z w r =
         let v = scoreOf p n in
         let one = entry (sy .label) (scoreOf p n) ∷ [] in
-        let fa = leaf-facts (p .path) (sy .label) (scoreOf p n) (leaf-is z) in
-        node-are q l (p .next) (p .back) (p .left - 1) (p .own) r one (made-self (leaf (leaf-is z))) (sy .isKey)
+        let fa = leaf-facts (p .path) (p .half) (sy .label) (scoreOf p n) (leaf-is w) in
+        node-are q l (p .next) (p .back) (p .left - 1) (p .own) r one (made-self (leaf (leaf-is w))) (sy .isKey)
         (fa .top) (r .size)
         (let a = st .leaf z in omega arith)
         (omega arith)
@@ -381,20 +374,21 @@ module _
 
     -- a node with children
     module _ (ne : n .size ≡ 0 → ⊥) (m lf : ℕ)
-        (g : GroupRead s (p .next) (p .path + n .len) (scoreOf p n) (eqb (n .len) 7) (p .left) m lf) where
+        (g : GroupRead s (p .next) (above (p .path + n .len) (halfOf s p n) (scoreOf p n) (eqb (n .len) 7)) (p .left) m
+        lf) where
       len-some : 0 < length (sy .label)
       len-some = some (λ z. ne (st .empty (sym (sy .isLen) ∙ z) .1))
         where
           some : (length (sy .label) ≡ 0 → ⊥) → 0 < length (sy .label)
           some h = omega arith
 
-      inner-is : IsInner (p .path) (sy .label) (g .es)
+      inner-is : IsInner (p .path) (p .half) (sy .label) (g .es)
       inner-is =
           record {
             short = sy .short;
             some = len-some;
-            allowed = sy .allowed;
-            below = rw (sy .isLen) (g .of);
+            below = rw (sy .isLen) (subst (λ w. Suffixes (p .path + n .len) (halfAfter (p .half) w) (eqb (n .len) 7)
+                (g .es)) (sy .isAt) (g .of));
           }
 
       field-zero : g .f ≡ 0
@@ -407,7 +401,7 @@ module _
           → NodesAre s p seen q l
       inner-step q l r =
           let one = prefixed (sy .label) (g .es) in
-          let fa = inner-facts (p .path) (sy .label) (g .es) inner-is in
+          let fa = inner-facts (p .path) (p .half) (sy .label) (g .es) inner-is in
           node-are q l m (m - p .next) lf false r one (made-self (inner inner-is))
           (sym (label-key one (fa .run)) ∙ ap key (fa .label) ∙ sy .isKey) inner-top (n .size)
           (g .count ∙ ap (λ k. lf + k) (sym (length-more (sy .label) (g .es))))
@@ -481,9 +475,9 @@ end-past s small (suc k) at a h = go (headOf s at) refl (λ e. end-past s small 
             (omega (arith, r .0), r .1)
 
 group-step :
-    (s : List ℕ) (k at path score e : ℕ) (full : Bool) (left q l : ℕ) → groupEnd s k at ≡ some e
-    → NodesAre s (beginGroup at e path score full left) noneSeen q l → GroupRead s at path score full left q l
-group-step s k at path score e full left q l h n =
+    (s : List ℕ) (k at e : ℕ) (a : Above) (left q l : ℕ) → groupEnd s k at ≡ some e
+    → NodesAre s (beginGroup at e a left) noneSeen q l → GroupRead s at a left q l
+group-step s k at e a left q l h n =
     record {
       es = gathered ss;
       f = n .f;
@@ -491,7 +485,7 @@ group-step s k at path score e full left q l h n =
       top = sym (gathered-top ss ∙ first-top (n .one) (n .ss) (n .order) ∙ n .top refl);
       low = n .low refl;
       count = n .count ∙ ap (λ k. l + k) (sym (gathered-length ss));
-      past = let a : at < n .e = n .past in let b : e ≤ q = n .on in omega (arith, end-is);
+      past = let b : at < n .e = n .past in let c : e ≤ q = n .on in omega (arith, end-is);
       within = n .within;
       bytes = bytes;
     }
@@ -502,48 +496,47 @@ group-step s k at path score e full left q l h n =
     end-is : n .e ≡ e
     end-is = end-unique s (n .stop .0) k at (n .e) e (n .stop .1) h
 
-    sets : Siblings path full ss
+    sets : Siblings (a .path) (a .half) (a .full) ss
     sets =
         record {
           some = omega arith;
           made = n .made;
           differ = n .differ;
           order = n .order;
-          lone = λ t y. let a : n .ss ≡ [] = cc in let b : n .one ≡ t = cc in rw (← b) (n .lone refl a);
+          lone = λ t y. let b : n .ss ≡ [] = cc in let c : n .one ≡ t = cc in rw (← c) (n .lone refl b);
         }
 
-    suffixes : Suffixes path full (gathered ss)
-    suffixes = gather path full ss sets
+    suffixes : Suffixes (a .path) (a .half) (a .full) (gathered ss)
+    suffixes = gather (a .path) (a .half) (a .full) ss sets
 
-    bytes : (d : ℕ) → 48 < path + d → drop at s ≡ groupOf d (n .f) (gathered ss) ++ drop q s
-    bytes zero y = absurd (let i = some-in (gathered ss) (suffixes .some) in let a = suffixes .short (i .0) (i .1) in
+    bytes : (d : ℕ) → 48 < a .path + d → drop at s ≡ groupOf d (n .f) (gathered ss) ++ drop q s
+    bytes zero y = absurd (let i = some-in (gathered ss) (suffixes .some) in let b = suffixes .short (i .0) (i .1) in
         omega arith)
     bytes (suc d) y =
-        written-group s at e q (n .f) (n .size) (nodes d ss) (let a = n .past in
-        omega (arith, end-is)) (let a = n .inside in omega (arith, end-is))
+        written-group s at e q (n .f) (n .size) (nodes d ss) (let b = n .past in
+        omega (arith, end-is)) (let b = n .inside in omega (arith, end-is))
         (subst (λ (x : ℕ). GroupWritten s at e (e - at) true x q (n .f) (n .size) (nodes d ss)) end-is (n .bytes d y))
         ∙ ap (λ xs. groupBytes (n .f) xs ++ drop q s)
-        (sym (gathered-nodes ss (siblings-run path full ss sets) (siblings-up path full ss sets) (n .differ)
-        (groupOf d 0) (n .order)))
+        (sym (gathered-nodes ss (siblings-run (a .path) (a .half) (a .full) ss sets)
+        (siblings-up (a .path) (a .half) (a .full) ss sets) (n .differ) (groupOf d 0) (n .order)))
 
 abbrev pub SoundT : List ℕ → Task → ℕ → ℕ → Type 0
-SoundT s (inGroup at path score full left) q l = score < 2 ^ 32 → (path ≡ 0 → score ≡ 0)
-    → GroupRead s at path score full left q l
+SoundT s (inGroup at a left) q l = a .score < 2 ^ 32 → (a .path ≡ 0 → a .score ≡ 0) → GroupRead s at a left q l
 SoundT s (inNode p seen) q l = AmongReady s p seen → NodesAre s p seen q l
 SoundT s (inRest p seen last) q l = AmongReady s p seen → p .first ≡ false → p .at ≤ length s
     → RestAre s p seen last q l
 
 module _ (s : List ℕ) (small : Bytes s) (k : ℕ) (ih : (t : Task) (q l : ℕ) → walkOf s k t ≡ Next q l
     → SoundT s t q l) where
-  sound-group : (at path score : ℕ) (full : Bool) (left q l : ℕ) (w : Option ℕ) → groupEnd s (suc k) at ≡ w
-      → into w (λ e. walkOf s k (inNode (beginGroup at e path score full left) noneSeen)) ≡ Next q l
-      → SoundT s (inGroup at path score full left) q l
-  sound-group at path score full left q l none h r a b = absurd (bad-next r)
-  sound-group at path score full left q l (some e) h r a b =
+  sound-group : (at : ℕ) (a : Above) (left q l : ℕ) (w : Option ℕ) → groupEnd s (suc k) at ≡ w
+      → into w (λ e. walkOf s k (inNode (beginGroup at e a left) noneSeen)) ≡ Next q l
+      → SoundT s (inGroup at a left) q l
+  sound-group at a left q l none h r b c = absurd (bad-next r)
+  sound-group at a left q l (some e) h r b c =
       let g = end-past s small (suc k) at e h in
-      group-step s (suc k) at path score e full left q l h
-      (ih (inNode (beginGroup at e path score full left) noneSeen) q l r
-      (record { array = length-replicate {A = ℕ} 128 0; next = g .1; score = a; root = λ t. b }))
+      group-step s (suc k) at e a left q l h
+      (ih (inNode (beginGroup at e a left) noneSeen) q l r
+      (record { array = length-replicate {A = ℕ} keyCount 0; next = g .1; score = b; root = λ t. c }))
 
   sound-rest : (p : Among) (seen : List ℕ) (last : Bool) (q l : ℕ)
       → (if last then Next (p .next) (p .left) else walkOf s k (inNode p seen)) ≡ Next q l
@@ -561,14 +554,14 @@ module _ (s : List ℕ) (small : Bytes s) (k : ℕ) (ih : (t : Task) (q l : ℕ)
       (p : Among) (seen : List ℕ) (n : Fields) (q l : ℕ) → AmongReady s p seen → headOf s (p .at) ≡ head.Node n
       → FieldsStand p n
       → getD seen (n .key) 0 ≡ 0 → (n .size ≡ 0 → ⊥)
-      → (w : WalkEnd) → walkOf s k (beneath p n) ≡ w
+      → (w : WalkEnd) → walkOf s k (beneath s p n) ≡ w
       → andThen w (λ m lf. walkOf s k (inRest (afterInner p n m lf) (set seen (n .key) 1) (n .last))) ≡ Next q l
       → NodesAre s p seen q l
   sound-inner p seen n q l rd hd st fr ne Bad e h = absurd (bad-next h)
   sound-inner p seen n q l rd hd st fr ne (Next m lf) e h =
       let sy = head-says s (p .at) small n hd in
       let g =
-      ih (beneath p n) m lf e (score-bound s small p seen n rd hd st fr)
+      ih (beneath s p n) m lf e (score-bound s small p seen n rd hd st fr)
       (λ z. absurd (ne (st .empty (omega arith) .1)))
       in
       inner-step s small p seen n rd hd st fr ne m lf g q l
@@ -576,7 +569,7 @@ module _ (s : List ℕ) (small : Bytes s) (k : ℕ) (ih : (t : Task) (q l : ℕ)
       (next-ready s small p seen n rd hd st fr m (m - p .next) lf false (g .within)) refl (sy .within))
 
   sound-node : (p : Among) (seen : List ℕ) (q l : ℕ) (w : Head) → headOf s (p .at) ≡ w
-      → nodeThen w p seen (walkOf s k) ≡ Next q l → SoundT s (inNode p seen) q l
+      → nodeThen w s p seen (walkOf s k) ≡ Next q l → SoundT s (inNode p seen) q l
   sound-node p seen q l head.Cut e h rd = absurd (bad-next h)
   sound-node p seen q l (head.Node n) e h rd =
       by-test (stands p n && eqb (getD seen (n .key) 0) 0)
@@ -587,20 +580,23 @@ module _ (s : List ℕ) (small : Bytes s) (k : ℕ) (ih : (t : Task) (q l : ℕ)
       let sy = head-says s (p .at) small n e in
       by-test (eqb (n .size) 0)
       (λ z.
-      leaf-step s small p seen n rd e st fr q l (eqb-true (n .size) 0 z)
-      (ih (inRest (afterLeaf p n) (set seen (n .key) 1) (n .last)) q l (rw (t, z) at h)
+      by-test (eqb (halfOf s p n) noHalf)
+      (λ w.
+      leaf-step s small p seen n rd e st fr q l (eqb-true (n .size) 0 z) (eqb-true (halfOf s p n) noHalf w)
+      (ih (inRest (afterLeaf p n) (set seen (n .key) 1) (n .last)) q l (rw (t, z, w) at h)
       (next-ready s small p seen n rd e st fr (p .next) (p .back) (p .left - 1) (p .own) (rd .next)) refl
       (sy .within)))
+      (λ w. absurd (bad-next (rw (t, z, w) at h))))
       (λ z.
       sound-inner p seen n q l rd e st fr (eqb-false (n .size) 0 z)
-      (walkOf s k (beneath p n)) refl (rw (t, z) at h)))
+      (walkOf s k (beneath s p n)) refl (rw (t, z) at h)))
       (λ t. absurd (bad-next (rw t at h)))
 
 pub sound : (s : List ℕ) (small : Bytes s) (k : ℕ) (t : Task) (q l : ℕ) → walkOf s k t ≡ Next q l → SoundT s t q l
 unfolding walkOf
 sound s small zero t q l h = absurd (bad-next h)
-sound s small (suc k) (inGroup at path score full left) q l h = sound-group s small k (sound s small k) at path score
-    full left q l (groupEnd s (suc k) at) refl h
+sound s small (suc k) (inGroup at a left) q l h = sound-group s small k (sound s small k) at a left q l
+    (groupEnd s (suc k) at) refl h
 sound s small (suc k) (inNode p seen) q l h = sound-node s small k (sound s small k) p seen q l (headOf s (p .at)) refl
     h
 sound s small (suc k) (inRest p seen last) q l h = sound-rest s small k (sound s small k) p seen last q l h

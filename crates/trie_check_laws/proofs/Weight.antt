@@ -16,6 +16,7 @@ use Rattle.trie.specs.Reading.{prefixed}
 use Rattle.trie.specs.Trie.{Node, byFirst, firstScore, groupBytes, groupOf, highest, isLast, isLeaf, labelOf, nodeBytes}
 use Rattle.trie.specs.Trie.{nodeOf, otherBytes, ownSize, siblings, sizeOf}
 use Rattle.trie_group_laws.proofs.Groups.{scatter, scattered, scattered-nodes, sum-sort}
+use Rattle.entries_laws.specs.Signs.{halfAfter, noHalf}
 use Rattle.trie_group_laws.proofs.Made.{Made, Suffixes, highest-more, inner, inner-facts, leaf, leaf-facts, length-more}
 use Rattle.trie_check_laws.proofs.Written.{inner-under, leaf-under}
 use Rattle.trie.proofs.Header.{ownSize-most, sizeOf-most}
@@ -46,35 +47,37 @@ pub scattered-weight : (es : List Entry) → weight (flat (scattered es)) ≡ we
 scattered-weight es = sum-sort weight weight-append setBefore (byFirst es) ∙ ap weight (byFirst-flat es)
 
 -- What a set is as a node with d levels below it.
-pub record Kid (path d : ℕ) (t : List Entry) : Type 0 where
+pub record Kid (path half d : ℕ) (t : List Entry) : Type 0 where
   pub es : List Entry
   pub under : nodeOf (groupOf d 0) t .under ≡ groupOf d 0 es
-  pub below : Suffixes (path + length (labelOf t)) (eqb (length (labelOf t)) 7) es
+  pub below : Suffixes (path + length (labelOf t)) (halfAfter half (labelOf t)) (eqb (length (labelOf t)) 7) es
   pub some : 0 < length (labelOf t)
   pub top : highest es ≡ highest t
   pub many : length es ≡ length t
   pub light : weight es + 10 * length (labelOf t) ≤ weight t
 
-pub record Lone (path d : ℕ) (t : List Entry) : Type 0 where
+pub record Lone (path half d : ℕ) (t : List Entry) : Type 0 where
   pub under : nodeOf (groupOf d 0) t .under ≡ []
   pub ends : path ≡ 0 → 0 < length (labelOf t)
   pub within : path + length (labelOf t) ≤ 48
+  pub whole : halfAfter half (labelOf t) ≡ noHalf
   pub one : length t ≡ 1
   pub light : 10 * length (labelOf t) + 9 ≤ weight t
 
-pub kind : (path d : ℕ) {l : List ℕ} {v : ℕ} {t : List Entry} → Made path l v t → (Lone path d t) ⊎ (Kid path d t)
-kind path d (leaf {l} {v} h) =
-    let f = leaf-facts path l v h in
+pub kind : (path half d : ℕ) {l : List ℕ} {v : ℕ} {t : List Entry} → Made path half l v t → (Lone path half d t) ⊎ (Kid path half d t)
+kind path half d (leaf {l} {v} h) =
+    let f = leaf-facts path half l v h in
     inl
     (record {
       under = leaf-under (groupOf d 0) l v (f .label);
       ends = λ z. rw (f .label) (h .ends z);
       within = rw (f .label) (h .within);
+      whole = rw (f .label) (h .allowed);
       one = refl;
       light = rw (f .label) (omega arith);
     })
-kind path d (inner {l} {es} h) =
-    let f = inner-facts path l es h in
+kind path half d (inner {l} {es} h) =
+    let f = inner-facts path half l es h in
     inr
     (record {
       es = es;
@@ -88,13 +91,13 @@ kind path d (inner {l} {es} h) =
 
 -- siblings with what stands under them
 siblings-weight :
-    (path d : ℕ) (ss : List (List Entry)) (f b z : ℕ) → z ≤ 4
-    → ((t : List Entry) → t ∈ ss → Made path (labelOf t) (highest t) t)
-    → ((path′ : ℕ) (full : Bool) (es : List Entry) → Suffixes path′ full es → length (groupOf d 0 es) ≤ weight es)
+    (path half d : ℕ) (ss : List (List Entry)) (f b z : ℕ) → z ≤ 4
+    → ((t : List Entry) → t ∈ ss → Made path half (labelOf t) (highest t) t)
+    → ((path′ half′ : ℕ) (full : Bool) (es : List Entry) → Suffixes path′ half′ full es → length (groupOf d 0 es) ≤ weight es)
     → length (siblings f b z (nodes d ss)) + length (unders (nodes d ss)) ≤ weight (flat ss)
-siblings-weight path d [] f b z l made ih = omega arith
-siblings-weight path d (t ∷ ss) f b z l made ih = go (kind path d (made t (inl refl)))
-    (λ f′ b′ z′ y. siblings-weight path d ss f′ b′ z′ y (λ u m. made u (inr m)) ih)
+siblings-weight path half d [] f b z l made ih = omega arith
+siblings-weight path half d (t ∷ ss) f b z l made ih = go (kind path half d (made t (inl refl)))
+    (λ f′ b′ z′ y. siblings-weight path half d ss f′ b′ z′ y (λ u m. made u (inr m)) ih)
   where
     x : Node
     x = nodeOf (groupOf d 0) t
@@ -102,7 +105,7 @@ siblings-weight path d (t ∷ ss) f b z l made ih = go (kind path d (made t (inl
     xs : List Node
     xs = nodes d ss
 
-    go : (Lone path d t) ⊎ (Kid path d t)
+    go : (Lone path half d t) ⊎ (Kid path half d t)
         → ((f′ b′ z′ : ℕ) → z′ ≤ 4 → length (siblings f′ b′ z′ xs) + length (unders xs) ≤ weight (flat ss))
         → length (siblings f b z (x ∷ xs)) + length (unders (x ∷ xs)) ≤ weight (flat (t ∷ ss))
     go (inl k) more =
@@ -119,7 +122,7 @@ siblings-weight path d (t ∷ ss) f b z l made ih = go (kind path d (made t (inl
         let o = weight-append t (flat ss) in
         omega arith
     go (inr k) more =
-        let u = ih (path + length (labelOf t)) (eqb (length (labelOf t)) 7) (k .es) (k .below) in
+        let u = ih (path + length (labelOf t)) (halfAfter half (labelOf t)) (eqb (length (labelOf t)) 7) (k .es) (k .below) in
         let lx = ap length (k .under) in
         by-test (isLeaf x)
         (λ e.
@@ -149,15 +152,15 @@ siblings-weight path d (t ∷ ss) f b z l made ih = go (kind path d (made t (inl
         let o = weight-append t (flat ss) in
         omega arith)
 
-pub group-weight : (d f path : ℕ) (full : Bool) (es : List Entry) → Suffixes path full es
+pub group-weight : (d f path half : ℕ) (full : Bool) (es : List Entry) → Suffixes path half full es
     → length (groupOf d f es) ≤ weight es
 unfolding groupBytes
-group-weight zero f path full es h = omega arith
-group-weight (suc d) f path full es h =
+group-weight zero f path half full es h = omega arith
+group-weight (suc d) f path half full es h =
     let xs = nodes d (scattered es) in
     let o = otherBytes f (nodes d (scattered es)) in
-    let a = siblings-weight path d (scattered es) f (o + ownSize o) (ownSize o) (ownSize-most o)
-    (scatter path full es h .made) (λ p b fs k. group-weight d 0 p b fs k) in
+    let a = siblings-weight path half d (scattered es) f (o + ownSize o) (ownSize o) (ownSize-most o)
+    (scatter path half full es h .made) (λ p a b fs k. group-weight d 0 p a b fs k) in
     let c = length-append (siblings f (o + ownSize o) (ownSize o) (nodes d (scattered es)))
     (unders (nodes d (scattered es))) in
     let w = scattered-weight es in

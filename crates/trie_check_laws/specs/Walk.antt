@@ -8,7 +8,8 @@ use lib.Dec.{eqb, leb, ltb}
 use lib.ListN.{drop, getD, length, replicate, set, take}
 use Rattle.octets.specs.Lists.{if_then_else_}
 use Rattle.octets.specs.Octets.{fromBe, numberAt}
-use Rattle.entries.specs.Names.{allowedBytes, longestName}
+use Rattle.entries.specs.Names.{longestName}
+use Rattle.entries_laws.specs.Signs.{halfAfter, noHalf}
 use Rattle.frame_laws.specs.Test.{frameIs}
 use Rattle.trie.specs.Reading.{childSize, labelLength, lastMark, scoreSize}
 use Rattle.trie.specs.Trie.{longestLabel, ownSize, sizeOf}
@@ -16,6 +17,7 @@ use Rattle.trie_laws.specs.Keys.{key}
 use Rattle.trie_check_laws.specs.declared.Fields.{Fields}
 use Rattle.trie_check_laws.specs.declared.Head.the-variants.{Cut, Node}
 use Rattle.trie_check_laws.specs.declared.Head.{Head}
+use Rattle.trie_check_laws.specs.declared.Above.{Above}
 use Rattle.trie_check_laws.specs.declared.Among.{Among}
 use Rattle.trie_check_laws.specs.declared.BehindNode.the-variants as reached
 use Rattle.trie_check_laws.specs.declared.BehindNode.{BehindNode}
@@ -48,7 +50,7 @@ headFields h t at =
       len = labelLength h;
     }
 
--- the node at a position, if its bytes are there, its score field has the smallest size and its label is allowed
+-- the node at a position, if its bytes are there and its score field has the smallest size
 unfoldable pub headOf : List ℕ → ℕ → Head
 headOf s at =
     if leb (length s) at
@@ -56,7 +58,6 @@ headOf s at =
     else if ltb (length s - at - 1) (bodyOf (getD s at 0))
     then Cut
     else if eqb (sizeOf (fieldIn (getD s at 0) (drop (suc at) s))) (scoreSize (getD s at 0))
-    && allowedBytes (labelIn (getD s at 0) (drop (suc at) s))
     then Node (headFields (getD s at 0) (drop (suc at) s) at)
     else Cut
 
@@ -68,6 +69,14 @@ endAfter (Node n) f = if n .last then some (n .end) else f (n .end)
 unfoldable pub groupEnd : List ℕ → ℕ → ℕ → Option ℕ
 groupEnd s zero at = none
 groupEnd s (suc k) at = endAfter (headOf s at) (λ e. groupEnd s k e)
+
+-- the label of a node, which stands at its end
+abbrev pub labelAt : List ℕ → Fields → List ℕ
+labelAt s n = take (n .len) (drop (n .end - n .len) s)
+
+-- the half of a pair that is open behind it: a label may be cut inside a pair
+abbrev pub halfOf : List ℕ → Among → Fields → ℕ
+halfOf s p n = halfAfter (p .half) (labelAt s n)
 
 -- The tests of a node in its place. A sibling that is first and last has a label, and stands under one of 7 bytes or at
 -- the top.
@@ -113,6 +122,7 @@ afterNode p n next back own left =
       score = scoreOf p n;
       key = n .key;
       path = p .path;
+      half = p .half;
       full = p .full;
       left = left;
     }
@@ -125,19 +135,24 @@ afterLeaf p n = afterNode p n (p .next) (p .back) (p .own) (p .left - 1)
 abbrev pub afterInner : Among → Fields → ℕ → ℕ → Among
 afterInner p n q left = afterNode p n q (q - p .next) false left
 
+-- what stands above a group
+abbrev pub above : ℕ → ℕ → ℕ → Bool → Above
+above path half score full = record { path = path; half = half; score = score; full = full }
+
 -- before the group at a position, which ends at e
-abbrev pub beginGroup : ℕ → ℕ → ℕ → ℕ → Bool → ℕ → Among
-beginGroup at e path score full left =
+abbrev pub beginGroup : ℕ → ℕ → Above → ℕ → Among
+beginGroup at e a left =
     record {
       at = at;
       next = e;
       back = e - at;
       own = true;
       first = true;
-      score = score;
+      score = a .score;
       key = 0;
-      path = path;
-      full = full;
+      path = a .path;
+      half = a .half;
+      full = a .full;
       left = left;
     }
 
@@ -145,7 +160,7 @@ beginGroup at e path score full left =
 -- mark for each key of the siblings before. It gives where what stands below ends and how many entries are still to
 -- come.
 pub data Task : Type 0 where
-  inGroup : ℕ → ℕ → ℕ → Bool → ℕ → Task
+  inGroup : ℕ → Above → ℕ → Task
   inNode : Among → List ℕ → Task
   inRest : Among → List ℕ → Bool → Task
 
@@ -158,27 +173,34 @@ into none f = Bad
 into (some e) f = f e
 
 -- the group below a node
-abbrev pub beneath : Among → Fields → Task
-beneath p n = inGroup (p .next) (p .path + n .len) (scoreOf p n) (eqb (n .len) longestLabel) (p .left)
+abbrev pub beneath : List ℕ → Among → Fields → Task
+beneath s p n =
+    inGroup (p .next) (above (p .path + n .len) (halfOf s p n) (scoreOf p n) (eqb (n .len) longestLabel)) (p .left)
 
-abbrev pub nodeOn : Bool → Among → List ℕ → Fields → (Task → WalkEnd) → WalkEnd
-nodeOn true p seen n f = f (inRest (afterLeaf p n) (set seen (n .key) 1) (n .last))
-nodeOn false p seen n f =
-    andThen (f (beneath p n)) (λ q left. f (inRest (afterInner p n q left) (set seen (n .key) 1) (n .last)))
+-- a leaf ends a name, so no half is open there
+abbrev pub nodeOn : Bool → List ℕ → Among → List ℕ → Fields → (Task → WalkEnd) → WalkEnd
+nodeOn true s p seen n f =
+    if eqb (halfOf s p n) noHalf then f (inRest (afterLeaf p n) (set seen (n .key) 1) (n .last)) else Bad
+nodeOn false s p seen n f =
+    andThen (f (beneath s p n)) (λ q left. f (inRest (afterInner p n q left) (set seen (n .key) 1) (n .last)))
 
-abbrev pub nodeThen : Head → Among → List ℕ → (Task → WalkEnd) → WalkEnd
-nodeThen Cut p seen f = Bad
-nodeThen (Node n) p seen f =
-    if stands p n && eqb (getD seen (n .key) 0) 0 then nodeOn (eqb (n .size) 0) p seen n f else Bad
+abbrev pub nodeThen : Head → List ℕ → Among → List ℕ → (Task → WalkEnd) → WalkEnd
+nodeThen Cut s p seen f = Bad
+nodeThen (Node n) s p seen f =
+    if stands p n && eqb (getD seen (n .key) 0) 0 then nodeOn (eqb (n .size) 0) s p seen n f else Bad
+
+-- the keys of labels: 0 for the empty one, else one more than the first byte
+abbrev pub keyCount : ℕ
+keyCount = 257
 
 abbrev pub noneSeen : List ℕ
-noneSeen = replicate 128 0
+noneSeen = replicate keyCount 0
 
 unfoldable pub walkOf : List ℕ → ℕ → Task → WalkEnd
 walkOf s zero t = Bad
-walkOf s (suc k) (inGroup at path score full left) =
-    into (groupEnd s (suc k) at) (λ e. walkOf s k (inNode (beginGroup at e path score full left) noneSeen))
-walkOf s (suc k) (inNode p seen) = nodeThen (headOf s (p .at)) p seen (λ t. walkOf s k t)
+walkOf s (suc k) (inGroup at a left) =
+    into (groupEnd s (suc k) at) (λ e. walkOf s k (inNode (beginGroup at e a left) noneSeen))
+walkOf s (suc k) (inNode p seen) = nodeThen (headOf s (p .at)) s p seen (λ t. walkOf s k t)
 walkOf s (suc k) (inRest p seen last) = if last then Next (p .next) (p .left) else walkOf s k (inNode p seen)
 
 -- the place behind a node, where w is the walk over the group below it
@@ -186,8 +208,12 @@ abbrev pub behindGroup : WalkEnd → Among → Fields → BehindNode
 behindGroup Bad p n = reached.Bad
 behindGroup (Next q left) p n = reached.At (afterInner p n q left)
 
-abbrev pub reachedBy : Among → Fields → WalkEnd → BehindNode
-reachedBy p n w = if eqb (n .size) 0 then reached.At (afterLeaf p n) else behindGroup w p n
+abbrev pub behindLeaf : Bool → Among → Fields → BehindNode
+behindLeaf true p n = reached.At (afterLeaf p n)
+behindLeaf false p n = reached.Bad
+
+abbrev pub reachedBy : List ℕ → Among → Fields → WalkEnd → BehindNode
+reachedBy s p n w = if eqb (n .size) 0 then behindLeaf (eqb (halfOf s p n) noHalf) p n else behindGroup w p n
 
 -- The whole image: the walk from byte 7 on ends at the total length, and all n entries were met. A trie of no entries
 -- has no group.
@@ -203,7 +229,7 @@ unfoldable pub trieBodyIs : List ℕ → Bool
 trieBodyIs s =
     if eqb (numberAt 2 s 5) 0
     then eqb (numberAt 4 s 1) 7
-    else wholeIs (walkOf s (turns s) (inGroup 7 0 0 true (numberAt 2 s 5))) (numberAt 4 s 1)
+    else wholeIs (walkOf s (turns s) (inGroup 7 (above 0 noHalf 0 true) (numberAt 2 s 5))) (numberAt 4 s 1)
 
 -- the whole check of a trie
 unfoldable pub trieChecks : List ℕ → Bool

@@ -6,11 +6,11 @@ use mathlib.Core.List.{List, [], _++_, _∷_}
 use lib.ListN.{length, replicate, take}
 use Rattle.octets.specs.Octets.{be, fromBe, numberAt}
 use Rattle.octets.specs.Table.{Row, _gives_, failing}
+use Rattle.octets.specs.Text.{text}
 use Rattle.entries.specs.Entries.{entry}
-use Rattle.entries.specs.Names.{allowedBytes}
 use Rattle.frame_laws.specs.Test.{frameIs}
 use Rattle.frame.specs.Frame.{framed}
-use Rattle.book.specs.Shown.{P2, P4, changed, spare}
+use Rattle.book.specs.Shown.{P2, P4, changed, cutTrie, signedTrie, spare}
 use Rattle.trie.specs.Reading.{childSize, labelLength, lastMark, scoreSize}
 use Rattle.trie.specs.Trie.{groupBytes, headerByte, nodeBytes, nodeOf, otherBytes, trieImage}
 use Rattle.trie_check_laws.specs.Walk.{groupEnd, headOf, stands, trieBodyIs, trieChecks, walkOf}
@@ -59,6 +59,9 @@ table =
     ∷ 0xEE ∷ 0x8F ∷ 0x12 ∷ 0x61 ∷ 0x61 ∷ 0x00 ∷ 0xD9 ∷ 0x2C ∷ 0x77 ∷ 0xE5 ∷ 0xAF ∷ 0x08 ∷ 0x61 ∷ 0x04 ∷ 0x61 ∷ 0x61
     ∷ 0x61 ∷ 0x62 ∷ 0xC8 ∷ 0xD3 ∷ 0x87 ∷ 0x08 ∷ 0xE0 ∷ 0x00 ∷ 0xCB ∷ 0x00 ∷ 0x01 ∷ 0x10 ∷ 0x70 ∷ 0x61 ∷ 0x62 ∷ 0x62
     ∷ []))) gives accepted)
+    -- µ and Ω; a label cut inside µ
+    ∷ (shown (trieChecks signedTrie) gives accepted)
+    ∷ (shown (trieChecks cutTrie) gives accepted)
     -- another version; the total length; n is not the number of leaves; cut off
     ∷ (shown (trieChecks (changed P4 0 (0x30 ∷ []))) gives damaged)
     ∷ (shown (trieChecks (changed P4 4 (0x1B ∷ []))) gives damaged)
@@ -95,10 +98,17 @@ table =
     ∷ (shown (trieChecks (trieOf 1 (0x08 ∷ []))) gives damaged)
     ∷ (shown (trieChecks (trieOf 1 (0x09 ∷ 0x7F ∷ []))) gives damaged)
     ∷ (shown (trieChecks (longName 49)) gives damaged)
+    -- a label cut inside µ, then the other half of Ω, a letter, and the empty label; half a sign, at the end and in front
+    ∷ (shown (trieChecks (changed cutTrie 18 (0xA9 ∷ []))) gives damaged)
+    ∷ (shown (trieChecks (changed cutTrie 18 (0x41 ∷ []))) gives damaged)
+    ∷ (shown (trieChecks (trieOf 2 (0x1F ∷ 0x09 ∷ text "abcdef" ++ (0xC2 ∷ 0x00 ∷ 0x09 ∷ 0xB5 ∷ [])))) gives damaged)
+    ∷ (shown (trieChecks (trieOf 1 (0x0A ∷ 0x61 ∷ 0xC2 ∷ []))) gives damaged)
+    ∷ (shown (trieChecks (trieOf 1 (0x0A ∷ 0xB5 ∷ 0x61 ∷ []))) gives damaged)
+    ∷ (shown (trieChecks (trieOf 1 (0x0A ∷ 0xC2 ∷ 0xA9 ∷ []))) gives damaged)
     ∷ (shown (trieChecks (longName 48)) gives accepted)
     ∷ []
 
 worked : failing 0 table ≡ []
-unfolding be fromBe numberAt allowedBytes framed frameIs headerByte nodeBytes otherBytes groupBytes nodeOf trieImage
+unfolding be fromBe numberAt framed frameIs headerByte nodeBytes otherBytes groupBytes nodeOf trieImage
     scoreSize childSize lastMark labelLength headOf groupEnd stands walkOf trieBodyIs trieChecks
 worked = refl

@@ -20,8 +20,8 @@ pub enum Head {
 
 // Where the check stands among siblings: the node at `at`; the next group is to begin at `next`, which the next child
 // field gives as `back`, and that field counts its own bytes if `own`; score and key are those of the sibling before,
-// or the score above for the first; `path` bytes of names stand above, `full` if the label above has 7 bytes or there
-// is none; `left` entries are still to come.
+// or the score above for the first; `path` bytes of names stand above, behind which a half of a pair may be open,
+// `full` if the label above has 7 bytes or there is none; `left` entries are still to come.
 pub struct Among {
     pub at: usize,
     pub next: usize,
@@ -31,8 +31,18 @@ pub struct Among {
     pub score: usize,
     pub key: usize,
     pub path: usize,
+    pub half: usize,
     pub full: bool,
     pub left: usize,
+}
+
+// What stands above a group: how many bytes of names, which half of a pair is open behind them (none, C2, CE, or no text
+// goes on), the score above, and whether the label above has 7 bytes or there is none.
+pub struct Above {
+    pub path: usize,
+    pub half: usize,
+    pub score: usize,
+    pub full: bool,
 }
 
 // What is known behind a node.

@@ -138,6 +138,7 @@ pub fn after_node(
         score: new_score(p, n),
         key: n.key,
         path: p.path,
+        half: p.half,
         full: p.full,
         left: left,
     }
@@ -147,24 +148,24 @@ pub fn after_node(
 pub fn begin_at(
     at: usize,
     next: usize,
-    path: usize,
-    score: usize,
-    full: bool,
+    a: trie_check_laws::Above,
     left: usize,
 ) -> trie_check_laws::Among
     requires { ⌜ at ≤ next ⌝ }
-    ensures { λ r. ⌜ r ≡ beginGroup at next path score full left ⌝ }
+    ensures { λ r. ⌜ r ≡ beginGroup at next a left ⌝ }
 {
+    let back = next - at;
     trie_check_laws::Among {
         at: at,
         next: next,
-        back: next - at,
+        back: back,
         own: true,
         first: true,
-        score: score,
+        score: a.score,
         key: 0,
-        path: path,
-        full: full,
+        path: a.path,
+        half: a.half,
+        full: a.full,
         left: left,
     }
 }

@@ -49,9 +49,9 @@ pub set-before : (s t : List Entry) → (key (labelOf s) ≡ key (labelOf t) →
 set-before s t h = rw (below-ltb (labelOf s) (labelOf t) h)
 
 -- The sets of siblings in their order.
-pub record Siblings (path : ℕ) (full : Bool) (ss : List (List Entry)) : Type 0 where
+pub record Siblings (path half : ℕ) (full : Bool) (ss : List (List Entry)) : Type 0 where
   pub some : 0 < length ss
-  pub made : (s : List Entry) → s ∈ ss → Made path (labelOf s) (highest s) s
+  pub made : (s : List Entry) → s ∈ ss → Made path half (labelOf s) (highest s) s
   pub differ : keysDiffer ss
   pub order : chain setBefore ss
   pub lone : (s : List Entry) → ss ≡ s ∷ [] → (full ≡ true) × (0 < setKey s)
@@ -149,8 +149,8 @@ used-one (f ∷ []) h e (inl q) = ap (λ x. key (x .name)) q ∙ go (f .name) (e
 used-one (f ∷ []) h e (inr m) = absurd m
 used-one (f ∷ g ∷ es) h e m = absurd (false≢true h)
 
-module _ (path : ℕ) (full : Bool) (ss : List (List Entry)) (h : Siblings path full ss) where
-  facts : (s : List Entry) → s ∈ ss → Facts path (labelOf s) (highest s) s
+module _ (path half : ℕ) (full : Bool) (ss : List (List Entry)) (h : Siblings path half full ss) where
+  facts : (s : List Entry) → s ∈ ss → Facts path half (labelOf s) (highest s) s
   facts s m = made-facts (h .made s m)
 
   pub siblings-run : (s : List Entry) → s ∈ ss → OneFirst s
@@ -170,62 +170,62 @@ module _ (path : ℕ) (full : Bool) (ss : List (List Entry)) (h : Siblings path 
       let i = run-in s (siblings-run s m) in
       (i .0, whither s m (i .0) (i .1), run-key s (siblings-run s m) (i .0) (i .1))
 
-gather-lone : (path : ℕ) (full : Bool) (ss : List (List Entry)) → Siblings path full ss → usedUp 0 (gathered ss) ≡ true
+gather-lone : (path half : ℕ) (full : Bool) (ss : List (List Entry)) → Siblings path half full ss → usedUp 0 (gathered ss) ≡ true
     → ⊥
-gather-lone path full [] h u = let z = h .some in omega arith
-gather-lone path full (s ∷ []) h u =
+gather-lone path half full [] h u = let z = h .some in omega arith
+gather-lone path half full (s ∷ []) h u =
     let a = h .lone s refl .1 in
-    let k = gathered-key path full (s ∷ []) h s (inl refl) in
+    let k = gathered-key path half full (s ∷ []) h s (inl refl) in
     let z = used-one (gathered (s ∷ [])) u (k .0) (k .1) in
     let q = k .2 in
     omega arith
-gather-lone path full (s ∷ t ∷ ss) h u =
-    let k = gathered-key path full (s ∷ t ∷ ss) h s (inl refl) in
-    let l = gathered-key path full (s ∷ t ∷ ss) h t (inr (inl refl)) in
+gather-lone path half full (s ∷ t ∷ ss) h u =
+    let k = gathered-key path half full (s ∷ t ∷ ss) h s (inl refl) in
+    let l = gathered-key path half full (s ∷ t ∷ ss) h t (inr (inl refl)) in
     let y = used-one (gathered (s ∷ t ∷ ss)) u (k .0) (k .1) in
     let z = used-one (gathered (s ∷ t ∷ ss)) u (l .0) (l .1) in
     h .differ .0 t (inl refl) (sym (k .2) ∙ y ∙ sym z ∙ l .2)
 
-gather-wide : (path : ℕ) (full : Bool) (ss : List (List Entry)) → Siblings path full ss → full ≡ false
+gather-wide : (path half : ℕ) (full : Bool) (ss : List (List Entry)) → Siblings path half full ss → full ≡ false
     → commonPrefix (gathered ss) ≡ []
-gather-wide path full [] h f = let z = h .some in absurd (omega arith)
-gather-wide path full (s ∷ []) h f = absurd (false≢true (sym f ∙ h .lone s refl .0))
-gather-wide path full (s ∷ t ∷ ss) h f =
-    let k = gathered-key path full (s ∷ t ∷ ss) h s (inl refl) in
-    let l = gathered-key path full (s ∷ t ∷ ss) h t (inr (inl refl)) in
+gather-wide path half full [] h f = let z = h .some in absurd (omega arith)
+gather-wide path half full (s ∷ []) h f = absurd (false≢true (sym f ∙ h .lone s refl .0))
+gather-wide path half full (s ∷ t ∷ ss) h f =
+    let k = gathered-key path half full (s ∷ t ∷ ss) h s (inl refl) in
+    let l = gathered-key path half full (s ∷ t ∷ ss) h t (inr (inl refl)) in
     no-prefix (gathered (s ∷ t ∷ ss)) (k .0) (l .0) (k .1) (l .1) (λ q. h .differ .0 t (inl refl) (sym (k .2) ∙ q
     ∙ l .2))
 
-gather-some : (path : ℕ) (full : Bool) (ss : List (List Entry)) → Siblings path full ss → 0 < length (gathered ss)
-gather-some path full [] h = let z = h .some in absurd (omega arith)
-gather-some path full (s ∷ ss) h = some (gathered (s ∷ ss)) (gathered-key path full (s ∷ ss) h s (inl refl))
+gather-some : (path half : ℕ) (full : Bool) (ss : List (List Entry)) → Siblings path half full ss → 0 < length (gathered ss)
+gather-some path half full [] h = let z = h .some in absurd (omega arith)
+gather-some path half full (s ∷ ss) h = some (gathered (s ∷ ss)) (gathered-key path half full (s ∷ ss) h s (inl refl))
   where
     some : (es : List Entry) → (e : Entry) × (e ∈ es) × (key (e .name) ≡ setKey s) → 0 < length es
     some [] k = absurd (k .1)
     some (e ∷ es) k = omega arith
 
 -- sibling sets gathered are what a group is made of
-pub gather : (path : ℕ) (full : Bool) (ss : List (List Entry)) → Siblings path full ss
-    → Suffixes path full (gathered ss)
-gather path full ss h =
+pub gather : (path half : ℕ) (full : Bool) (ss : List (List Entry)) → Siblings path half full ss
+    → Suffixes path half full (gathered ss)
+gather path half full ss h =
     record {
-      some = gather-some path full ss h;
-      up = gathered-up ss (siblings-run path full ss h) (siblings-up path full ss h) (h .differ);
-      allowed = λ e m. let q = whence path full ss h e m in facts path full ss h (q .0) (q .1) .allowed e (q .2);
-      short = λ e m. let q = whence path full ss h e m in facts path full ss h (q .0) (q .1) .short e (q .2);
-      fits = λ e m. let q = whence path full ss h e m in facts path full ss h (q .0) (q .1) .fits e (q .2);
-      ends = λ z e m. let q = whence path full ss h e m in facts path full ss h (q .0) (q .1) .ends z e (q .2);
-      lone = by-test (usedUp 0 (gathered ss)) (λ t. absurd (gather-lone path full ss h t)) (λ t. t);
-      wide = gather-wide path full ss h;
+      some = gather-some path half full ss h;
+      up = gathered-up ss (siblings-run path half full ss h) (siblings-up path half full ss h) (h .differ);
+      allowed = λ e m. let q = whence path half full ss h e m in facts path half full ss h (q .0) (q .1) .allowed e (q .2);
+      short = λ e m. let q = whence path half full ss h e m in facts path half full ss h (q .0) (q .1) .short e (q .2);
+      fits = λ e m. let q = whence path half full ss h e m in facts path half full ss h (q .0) (q .1) .fits e (q .2);
+      ends = λ z e m. let q = whence path half full ss h e m in facts path half full ss h (q .0) (q .1) .ends z e (q .2);
+      lone = by-test (usedUp 0 (gathered ss)) (λ t. absurd (gather-lone path half full ss h t)) (λ t. t);
+      wide = gather-wide path half full ss h;
     }
 
 -- what a group is made of, as sibling sets
 abbrev pub scattered : List Entry → List (List Entry)
 scattered es = sortBy setBefore (byFirst es)
 
-made-key : {path : ℕ} {l : List ℕ} {v : ℕ} {s : List Entry} → Made path l v s → usedUp 0 s ≡ false → 0 < setKey s
+made-key : {path half : ℕ} {l : List ℕ} {v : ℕ} {s : List Entry} → Made path half l v s → usedUp 0 s ≡ false → 0 < setKey s
 made-key (leaf {l} {v} h) u = key-some l (eqb-false (length l) 0 u)
-made-key {path} (inner {l} {es} h) u = go l es (h .some) (h .below .some)
+made-key {path} {half} (inner {l} {es} h) u = go l es (h .some) (h .below .some)
   where
     go : (w : List ℕ) (fs : List Entry) → 0 < length w → 0 < length fs → 0 < setKey (prefixed w fs)
     go [] fs a b = absurd (omega arith)
@@ -241,16 +241,16 @@ sort-one r ss s q = go ss (sym (sort-length r ss) ∙ ap length q) q
     go (t ∷ []) n p = p
     go (t ∷ t′ ∷ ts) n p = absurd (omega arith)
 
-module _ (path : ℕ) (full : Bool) (es : List Entry) (h : Suffixes path full es) where
+module _ (path half : ℕ) (full : Bool) (es : List Entry) (h : Suffixes path half full es) where
   set-of : (s : List Entry) → s ∈ byFirst es → (e : Entry) → e ∈ s → e ∈ es
   set-of s m e n = rw (byFirst-flat es) at (in-flat e s (byFirst es) n m)
 
   set-up : (s : List Entry) → s ∈ byFirst es → rising s ≡ true
   set-up s m = set-rising es s (h .up) m
 
-  set-made : (s : List Entry) → s ∈ byFirst es → Made path (labelOf s) (highest s) s
+  set-made : (s : List Entry) → s ∈ byFirst es → Made path half (labelOf s) (highest s) s
   set-made s m =
-      plain-made path s
+      plain-made path half s
       (record {
         run = byFirst-run es s m;
         up = set-up s m;
@@ -277,7 +277,7 @@ module _ (path : ℕ) (full : Bool) (es : List Entry) (h : Suffixes path full es
         k,
       )
 
-  pub scatter : Siblings path full (scattered es)
+  pub scatter : Siblings path half full (scattered es)
   scatter =
       let d = up-differ (byFirst es) (byFirst-ordered es (h .up)) in
       record {

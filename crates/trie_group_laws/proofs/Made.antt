@@ -15,7 +15,8 @@ use Rattle.octets.specs.Lists.{_∈_}
 use Rattle.octets.specs.Octets.{below, common}
 use Rattle.entries.proofs.BestList.{different-rising}
 use Rattle.entries.specs.Entries.{Entry, entry, rising}
-use Rattle.entries.specs.Names.{allowedBytes}
+use Rattle.entries_laws.specs.Signs.{halfAfter, noHalf}
+use Rattle.entries_laws.proofs.Signs.{half-append}
 use Rattle.trie.proofs.Sets.{OneFirst, highest-remains, label-progress, label-short, label-split, length-remains}
 use Rattle.trie.proofs.Sets.{one-first, used-up}
 use Rattle.trie.specs.Reading.{prefixed}
@@ -80,17 +81,12 @@ run-more (x ∷ l) e es h = one-first (entry ((x ∷ l) ++ e .name) (e .score)) 
         → sameFirst ((x ∷ l) ++ e .name) (f .name) ≡ true
     go f q = rw (q .2) (eqb-self x)
 
-allowed-append : (l w : List ℕ) → allowedBytes (l ++ w) ≡ (allowedBytes l && allowedBytes w)
-unfolding allowedBytes
-allowed-append [] w = refl
-allowed-append (x ∷ l) w = by-test (leb 0x20 x && leb x 0x7E) (λ t. rw t (allowed-append l w)) (λ t. rw t)
-
--- What a group is made of: suffixes of names whose first `path` bytes stand above. `full`: the label above has 7 bytes,
--- or there is none.
-pub record Suffixes (path : ℕ) (full : Bool) (es : List Entry) : Type 0 where
+-- What a group is made of: suffixes of names whose first `path` bytes stand above, with the half of a pair open behind
+-- them. `full`: the label above has 7 bytes, or there is none.
+pub record Suffixes (path half : ℕ) (full : Bool) (es : List Entry) : Type 0 where
   pub some : 0 < length es
   pub up : rising es ≡ true
-  pub allowed : (e : Entry) → e ∈ es → allowedBytes (e .name) ≡ true
+  pub allowed : (e : Entry) → e ∈ es → halfAfter half (e .name) ≡ noHalf
   pub short : (e : Entry) → e ∈ es → path + length (e .name) ≤ 48
   pub fits : (e : Entry) → e ∈ es → e .score < 2 ^ 32
   pub ends : path ≡ 0 → (e : Entry) → e ∈ es → 0 < length (e .name)
@@ -98,42 +94,41 @@ pub record Suffixes (path : ℕ) (full : Bool) (es : List Entry) : Type 0 where
   pub wide : full ≡ false → commonPrefix es ≡ []
 
 -- What a node is made of: a label and a score, and for a node with children the suffixes of its group.
-pub record IsLeaf (path : ℕ) (l : List ℕ) (v : ℕ) : Type 0 where
+pub record IsLeaf (path half : ℕ) (l : List ℕ) (v : ℕ) : Type 0 where
   pub short : length l < 8
-  pub allowed : allowedBytes l ≡ true
+  pub allowed : halfAfter half l ≡ noHalf
   pub within : path + length l ≤ 48
   pub fits : v < 2 ^ 32
   pub ends : path ≡ 0 → 0 < length l
 
-pub record IsInner (path : ℕ) (l : List ℕ) (es : List Entry) : Type 0 where
+pub record IsInner (path half : ℕ) (l : List ℕ) (es : List Entry) : Type 0 where
   pub short : length l < 8
   pub some : 0 < length l
-  pub allowed : allowedBytes l ≡ true
-  pub below : Suffixes (path + length l) (eqb (length l) 7) es
+  pub below : Suffixes (path + length l) (halfAfter half l) (eqb (length l) 7) es
 
-pub data Made (path : ℕ) : List ℕ → ℕ → List Entry → Type 0 where
-  leaf : {l : List ℕ} {v : ℕ} → IsLeaf path l v → Made path l v (entry l v ∷ [])
-  inner : {l : List ℕ} {es : List Entry} → IsInner path l es → Made path l (highest es) (prefixed l es)
+pub data Made (path half : ℕ) : List ℕ → ℕ → List Entry → Type 0 where
+  leaf : {l : List ℕ} {v : ℕ} → IsLeaf path half l v → Made path half l v (entry l v ∷ [])
+  inner : {l : List ℕ} {es : List Entry} → IsInner path half l es → Made path half l (highest es) (prefixed l es)
 
 -- what the set of a node has
-pub record Facts (path : ℕ) (l : List ℕ) (v : ℕ) (s : List Entry) : Type 0 where
+pub record Facts (path half : ℕ) (l : List ℕ) (v : ℕ) (s : List Entry) : Type 0 where
   pub run : OneFirst s
   pub up : rising s ≡ true
   pub label : labelOf s ≡ l
   pub top : highest s ≡ v
-  pub allowed : (e : Entry) → e ∈ s → allowedBytes (e .name) ≡ true
+  pub allowed : (e : Entry) → e ∈ s → halfAfter half (e .name) ≡ noHalf
   pub short : (e : Entry) → e ∈ s → path + length (e .name) ≤ 48
   pub fits : (e : Entry) → e ∈ s → e .score < 2 ^ 32
   pub ends : path ≡ 0 → (e : Entry) → e ∈ s → 0 < length (e .name)
 
-pub leaf-facts : (path : ℕ) (l : List ℕ) (v : ℕ) → IsLeaf path l v → Facts path l v (entry l v ∷ [])
-leaf-facts path l v h =
+pub leaf-facts : (path half : ℕ) (l : List ℕ) (v : ℕ) → IsLeaf path half l v → Facts path half l v (entry l v ∷ [])
+leaf-facts path half l v h =
     record {
       run = one-first (entry l v) [] (λ f m. absurd m);
       up = refl;
       label = take-all 7 l (omega (arith, h .short));
       top = omega arith;
-      allowed = λ e m. go e m (λ x. allowedBytes (x .name) ≡ true) (h .allowed);
+      allowed = λ e m. go e m (λ x. halfAfter half (x .name) ≡ noHalf) (h .allowed);
       short = λ e m. go e m (λ x. path + length (x .name) ≤ 48) (h .within);
       fits = λ e m. go e m (λ x. x .score < 2 ^ 32) (h .fits);
       ends = λ z e m. go e m (λ x. 0 < length (x .name)) (h .ends z);
@@ -161,16 +156,16 @@ some-run : (l : List ℕ) (es : List Entry) → 0 < length es → 0 < length l �
 some-run l [] h k = absurd (omega arith)
 some-run l (e ∷ es) h k = run-more l e es k
 
-pub inner-facts : (path : ℕ) (l : List ℕ) (es : List Entry) → IsInner path l es
-    → Facts path l (highest es) (prefixed l es)
-inner-facts path l es h =
+pub inner-facts : (path half : ℕ) (l : List ℕ) (es : List Entry) → IsInner path half l es
+    → Facts path half l (highest es) (prefixed l es)
+inner-facts path half l es h =
     record {
       run = some-run l es (h .below .some) (h .some);
       up = rising-more l es ∙ h .below .up;
       label = rw (some-cons l es (h .below .some)) (label-of l (commonPrefix es) (h .short) (h .below .wide));
       top = highest-more l es;
       allowed = λ e m. let q = of e m in
-          rw (q .2) (rw (allowed-append l (q .0 .name), h .allowed) (h .below .allowed (q .0) (q .1)));
+          rw (q .2) (half-append half l (q .0 .name) ∙ h .below .allowed (q .0) (q .1));
       short =
           λ e m.
           let q = of e m in
@@ -189,15 +184,15 @@ inner-facts path l es h =
     of : (e : Entry) → e ∈ prefixed l es → (g : Entry) × (g ∈ es) × (e ≡ entry (l ++ g .name) (g .score))
     of e m = map-in (λ g. entry (l ++ g .name) (g .score)) e es m
 
-pub made-facts : {path : ℕ} {l : List ℕ} {v : ℕ} {s : List Entry} → Made path l v s → Facts path l v s
-made-facts {path} (leaf {l} {v} h) = leaf-facts path l v h
-made-facts {path} (inner {l} {es} h) = inner-facts path l es h
+pub made-facts : {path half : ℕ} {l : List ℕ} {v : ℕ} {s : List Entry} → Made path half l v s → Facts path half l v s
+made-facts {path} {half} (leaf {l} {v} h) = leaf-facts path half l v h
+made-facts {path} {half} (inner {l} {es} h) = inner-facts path half l es h
 
 -- A set of suffixes of a group is what a node is made of.
-pub record Plain (path : ℕ) (s : List Entry) : Type 0 where
+pub record Plain (path half : ℕ) (s : List Entry) : Type 0 where
   pub run : OneFirst s
   pub up : rising s ≡ true
-  pub allowed : (e : Entry) → e ∈ s → allowedBytes (e .name) ≡ true
+  pub allowed : (e : Entry) → e ∈ s → halfAfter half (e .name) ≡ noHalf
   pub short : (e : Entry) → e ∈ s → path + length (e .name) ≤ 48
   pub fits : (e : Entry) → e ∈ s → e .score < 2 ^ 32
   pub ends : path ≡ 0 → (e : Entry) → e ∈ s → 0 < length (e .name)
@@ -221,15 +216,15 @@ take-whole l p h q = go p (let a = ap length q in let b = length-take 7 (l
 in-eq : (x : Entry) (s t : List Entry) → s ≡ t → x ∈ t → x ∈ s
 in-eq x s t q m = rw q m
 
-made-eq : (path : ℕ) (l : List ℕ) (v w : ℕ) (s t : List Entry) → s ≡ t → v ≡ w → Made path l w t → Made path l v s
-made-eq path l v w s t q r m = rw (q, r) m
+made-eq : (path half : ℕ) (l : List ℕ) (v w : ℕ) (s t : List Entry) → s ≡ t → v ≡ w → Made path half l w t → Made path half l v s
+made-eq path half l v w s t q r m = rw (q, r) m
 
-pub plain-made : (path : ℕ) (s : List Entry) → Plain path s → Made path (labelOf s) (highest s) s
-plain-made path s h =
+pub plain-made : (path half : ℕ) (s : List Entry) → Plain path half s → Made path half (labelOf s) (highest s) s
+plain-made path half s h =
     by-test (usedUp (length (labelOf s)) s)
-    (λ t. made-eq path (labelOf s) (highest s) (highest s) s (entry (labelOf s) (highest s)
+    (λ t. made-eq path half (labelOf s) (highest s) (highest s) s (entry (labelOf s) (highest s)
     ∷ []) (used-up s t) refl (leaf (isLeaf t)))
-    (λ t. made-eq path (labelOf s) (highest s) (highest es) s (prefixed (labelOf s) es) whole
+    (λ t. made-eq path half (labelOf s) (highest s) (highest es) s (prefixed (labelOf s) es) whole
     (sym (highest-remains (length (labelOf s)) s)) (inner (isInner t)))
   where
     es : List Entry
@@ -238,7 +233,7 @@ plain-made path s h =
     whole : s ≡ prefixed (labelOf s) es
     whole = put-back (labelOf s) s (label-split s)
 
-    isLeaf : usedUp (length (labelOf s)) s ≡ true → IsLeaf path (labelOf s) (highest s)
+    isLeaf : usedUp (length (labelOf s)) s ≡ true → IsLeaf path half (labelOf s) (highest s)
     isLeaf t =
         let m : entry (labelOf s) (highest s) ∈ s = in-eq (entry (labelOf s) (highest s)) s
         (entry (labelOf s) (highest s) ∷ []) (used-up s t) (inl refl) in
@@ -258,27 +253,20 @@ plain-made path s h =
         ++ e .name) (e .score)) s (prefixed (labelOf s) es) whole (in-map (λ g. entry (labelOf s
         ++ g .name) (g .score)) e es m)
 
-    isInner : usedUp (length (labelOf s)) s ≡ false → IsInner path (labelOf s) es
+    isInner : usedUp (length (labelOf s)) s ≡ false → IsInner path half (labelOf s) es
     isInner t =
         let progress = label-progress s (h .run) (different-rising s (h .up)) t in
         record {
           short = label-short s;
           some = progress;
-          allowed =
-              let i = run-in s (h .run) in
-              let a = h .allowed (i .0) (i .1) in
-              and-true (allowedBytes (labelOf s)) (allowedBytes (drop (length (labelOf s)) (i .0 .name)))
-              (sym (allowed-append (labelOf s) (drop (length (labelOf s)) (i .0 .name)))
-              ∙ sym (ap allowedBytes (label-split s (i .0) (i .1))) ∙ a) .0;
           below =
               record {
                 some = some;
                 up = sym (rising-more (labelOf s) es) ∙ sym (ap rising whole) ∙ h .up;
                 allowed =
                     λ e m.
-                    and-true (allowedBytes (labelOf s)) (allowedBytes (e .name))
-                    (sym (allowed-append (labelOf s) (e .name))
-                    ∙ h .allowed (entry (labelOf s ++ e .name) (e .score)) (back e m)) .1;
+                    sym (half-append half (labelOf s) (e .name))
+                    ∙ h .allowed (entry (labelOf s ++ e .name) (e .score)) (back e m);
                 short =
                     λ e m.
                     let a = h .short (entry (labelOf s ++ e .name) (e .score)) (back e m) in

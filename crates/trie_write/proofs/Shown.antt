@@ -5,13 +5,13 @@ use mathlib.Core.Logic.{_⊎_, inl, inr}
 use mathlib.Core.Bool.{Bool, false, false≢true, true}
 use mathlib.Core.List.{List, [], _++_, _∷_, map}
 use lib.Dec.{eqb, ltb}
-use lib.ListN.{drop, getD, length, length-append, length-drop, length-take, take}
-use lib.Seq.{drop-drop, slice, take-append-seam, take-take}
+use lib.ListN.{drop, getD, length, length-append, length-drop, take}
+use lib.Seq.{drop-drop, slice, take-add, take-append-seam, take-take}
 use native.Mathlib.Omega.{arith}
 use borrow.Author.Tests.{eq-eqb, eqb-false, eqb-true, ltb-false, ltb-true, ne-eqb}
-use Rattle.octets.specs.Lists.{_∈_, concatMap, countFrom, sortBy}
+use Rattle.octets.specs.Lists.{_∈_, concatMap, sortBy}
 use Rattle.octets.specs.Octets.{below}
-use Rattle.octets.proofs.Lists.{map-in, sort-in, sort-map}
+use Rattle.octets.proofs.Lists.{sort-in, sort-map}
 use Rattle.octets.proofs.Tests.{by-test}
 use Rattle.entries.specs.Entries.{Entry, at, entry}
 use Rattle.entries.proofs.BestList.{different-rising}
@@ -20,7 +20,7 @@ use Rattle.trie.specs.Trie.{Node, byFirst, firstScore, groupBytes, groupOf, isL
 use Rattle.trie.specs.Trie.{otherBytes, remains, siblings, standsBefore, usedUp}
 use Rattle.trie.proofs.Sets.{byFirst-run, label-progress, label-short, label-split, stripped}
 use Rattle.trie.proofs.Trie.{node-inner, node-label, node-leaf, node-score, set-different}
-use Rattle.book_table.specs.Table.{Table, entries, rowAt}
+use Rattle.book_table.specs.Table.{Table, entries}
 use Rattle.book_table.proofs.Rows.{entries-length, row-length}
 use Rattle.trie_write_runs.specs.Fields.{after, firstFields, plainFields}
 use Rattle.trie_write_nodes.specs.Nodes.{RunFits, groupOwnBytes, nodesBytes, nodesLength, oneNode, runLabel}
@@ -114,30 +114,22 @@ used-remains k (e ∷ []) h = go (eqb (length (e .name)) k) refl
         let l = h e (inl refl) in sym (ne-eqb (length (drop k (e .name))) 0 (λ y. z (omega arith)))
 used-remains k (e ∷ f ∷ s) h = refl
 
-count-in : (i n p : ℕ) → p ∈ countFrom i n → p < i + n
-count-in i zero p m = absurd m
-count-in i (suc n) p (inl e) = omega arith
-count-in i (suc n) p (inr m) = let q = count-in (suc i) n p m in omega arith
-
-row-short : (u m sc : List ℕ) → Table u m sc → (e : Entry) → e ∈ entries u m sc → length (e .name) ≤ longestName
-unfolding entries
-row-short u m sc z e q =
-    let r = map-in (rowAt u m sc) e (countFrom 0 (length m)) q in
-    let a = z .short (r .0) (let y = count-in 0 (length m) (r .0) (r .1) in omega arith) in
-    let b = length-take (getD m (r .0) 0) (drop (r .0 * longestName) u) in
-    rw (ap (λ x. x .name) (r .2)) (omega arith)
-
 set-short : (u m sc : List ℕ) → Table u m sc → (lo hi d : ℕ) → Shared (entries u m sc) d lo hi
     → Enough levels (setAt (entries u m sc) lo hi d)
 set-short u m sc z lo hi d s =
+    let es = entries u m sc in
     record {
-      short = λ e q. short e (set-member (entries u m sc) d lo hi e q);
-      apart = different-rising (setAt (entries u m sc) lo hi d) (shared-rising (entries u m sc) d lo hi s);
+      short = λ e q. short e (set-member es d (hi - lo) lo hi (omega (arith, s .order)) (s .inside) e q);
+      apart = different-rising (setAt es lo hi d) (shared-rising es d lo hi s);
     }
   where
-    short : (e : Entry) → (f : Entry) × (f ∈ entries u m sc) × (e ≡ stripped d f) → length (e .name) < levels
-    short e q = let a = row-short u m sc z (q .0) (q .1) in let b = length-drop d (q .0 .name) in
-        rw (ap (λ x. x .name) (q .2)) (omega arith)
+    short : (e : Entry) → (p : ℕ) × (lo ≤ p) × (p < hi) × (e ≡ stripped d (at (entries u m sc) p))
+        → length (e .name) < levels
+    short e q =
+        let p : q .0 < length m = omega (arith, q .2, s .inside, entries-length u m sc) in
+        let a = row-length u m sc z (q .0) p in
+        let b = z .short (q .0) p in
+        rw (ap (λ x. x .name) (q .3)) (omega (arith, length-drop d (at (entries u m sc) (q .0) .name)))
 
 label-take : (s : List Entry) (e : Entry) → e ∈ s → take (length (labelOf s)) (e .name) ≡ labelOf s
 label-take s e m = ap (take (length (labelOf s))) (label-split s e m)
@@ -264,12 +256,22 @@ module _ (u m sc : List ℕ) (z : Table u m sc) (lo hi d : ℕ) (sh : Shared (en
               let w = label-within own (entry (restAt es d p) (at es p .score)) f in
               let y = length-drop d (at es p .name) in let v = sh .long p (omega (arith, g .from)) (omega arith) in
               rw (g .len) (omega arith);
+          alike = λ p h k. front p h k ∙ sym (front (r .lo) (omega arith) a);
           rises = λ p h k. below-rest p h k;
         }
       where
         in-own : (p : ℕ) → r .lo ≤ p → p < r .hi → entry (restAt es d p) (at es p .score) ∈ own
         in-own p h k = let b = g .upto in let c = sh .inside in
             set-has es d (p - r .lo) (r .lo) (r .hi) p (omega arith) k (omega arith)
+
+        front : (p : ℕ) → r .lo ≤ p → p < r .hi → take (d + r .len) (at es p .name) ≡ take d (at es lo .name)
+            ++ labelOf own
+        front p h k =
+            let b = g .upto in let f = g .from in
+            take-add d (r .len) (at es p .name)
+            ∙ rw (sh .alike p (omega arith) (omega arith), g .len)
+            (ap (λ w. take d (at es lo .name) ++ w) (label-take own (entry (restAt es d p) (at es p .score))
+            (in-own p h k)))
 
         below-rest : (p : ℕ) → r .lo ≤ p → suc p < r .hi
             → below (restAt es (d + r .len) p) (restAt es (d + r .len) (suc p)) ≡ true

@@ -84,6 +84,7 @@ module _
           order = omega arith;
           inside = omega arith;
           long = λ p a b. omega arith;
+          alike = λ p a b. refl;
           rises = λ p a b. rising-at es (v .order) p (suc p) (omega arith) (omega arith);
         }
 

@@ -13,7 +13,7 @@ use Rattle.octets.proofs.Tests.{by-test}
 use Rattle.trie.specs.Trie.{longestLabel}
 use Rattle.trie_write_runs.specs.declared.NodeFields.{NodeFields}
 use Rattle.trie_write_runs.specs.declared.Run.{Run}
-use Rattle.trie_write_runs.specs.Runs.{Each, RunsKept, endsHere, firstHigh, firstRuns, noRun, runsIn}
+use Rattle.trie_write_runs.specs.Runs.{Each, RunsKept, endsHere, firstHigh, firstRuns, mostRuns, noRun, runsIn}
 use Rattle.trie_write_runs.specs.Fields.{after, firstFields, nodeLength, plainFields}
 use Rattle.trie.proofs.Header.{ownSize-most}
 use Rattle.trie_write_runs.proofs.Fields.{after-size}
@@ -62,7 +62,7 @@ module _
             size = rw (w, p) (after-size here f s (v .size));
           }
 
-    pub sizing-end : n ≤ i → (sum ≡ nodesLength first (firstRuns ws n)) × (sum ≤ 1536)
+    pub sizing-end : n ≤ i → (sum ≡ nodesLength first (firstRuns ws n)) × (sum ≤ mostRuns * 16)
     sizing-end h =
         let a : sum + nodesLength f [] ≡ nodesLength first (firstRuns ws n) = rw (kept-end k i h) at (v .rest) in
         (omega (arith, a), omega (arith, v .low, v .upto, k .few))

@@ -4,11 +4,11 @@ use trie_write_runs::NodeFields;
 use trie_write_runs::Run;
 ghost use mathlib.Core.Path.{_≡_};
 ghost use mathlib.Core.List.{[], _∷_};
-ghost use Prim.Native.Nat.{_≤_};
+ghost use Prim.Native.Nat.{_*_, _≤_};
 ghost use lib.ListN.{length};
 ghost use lib.Seq.{sets};
 ghost use Rattle.octets.specs.Octets.{be};
-ghost use Rattle.trie_write_runs.specs.Runs.{RunsKept, firstRuns};
+ghost use Rattle.trie_write_runs.specs.Runs.{RunsKept, firstRuns, mostRuns};
 ghost use Rattle.trie_write_nodes.specs.Nodes.{AllFit, Finished, Finishing, Measurable, OneFits, nodesBytes};
 ghost use Rattle.trie_write_nodes.specs.Nodes.{nodesLength, oneNode};
 
@@ -23,7 +23,7 @@ pub struct Target {
 // The bytes of a group's own nodes, where the fields of the first are given.
 fn nodes_size(runs: &[u32], count: usize, first: NodeFields) -> usize
     requires { ⌜ RunsKept (now runs) count × Measurable (firstRuns (now runs) count) first ⌝ }
-    ensures { λ n. ⌜ (n ≡ nodesLength first (firstRuns (now (runs .entry)) count)) × (n ≤ 1536) ⌝ }
+    ensures { λ n. ⌜ (n ≡ nodesLength first (firstRuns (now (runs .entry)) count)) × (n ≤ mostRuns * 16) ⌝ }
 {
     let mut f = first;
     let mut sum = 0;

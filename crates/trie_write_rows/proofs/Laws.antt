@@ -190,6 +190,7 @@ shared-part es d lo hi a b s h k l =
       order = k;
       inside = omega arith;
       long = λ p x y. s .long p (omega arith) (omega arith);
+      alike = λ p x y. s .alike p (omega arith) (omega arith) ∙ sym (s .alike a h (omega arith));
       rises = λ p x y. s .rises p (omega arith) (omega arith);
     }
 

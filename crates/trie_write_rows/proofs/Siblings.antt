@@ -1,5 +1,5 @@
 -- The sets of suffixes by first byte, set by set from the last; their order, their labels, how many there are.
-use Prim.Native.Nat.{_+_, _<_, _≤_, min, ℕ}
+use Prim.Native.Nat.{_<_, _≤_, min, suc, zero, ℕ}
 use mathlib.Core.Path.{_∙_, _≡_, ap, refl, sym}
 use mathlib.Core.Logic.{_⊎_, inl, inr}
 use mathlib.Core.Bool.{false, false≢true, true}
@@ -20,7 +20,7 @@ use Rattle.trie.specs.Trie.{byFirst, commonPrefix, highest, labelOf, sameFirst}
 use Rattle.trie_laws.proofs.Keys.{Ordered, first-head, join-apart, join-same, key-below, label-key}
 use Rattle.trie.proofs.Sets.{OneFirst}
 use Rattle.trie_write_runs.specs.Runs.{mostRuns}
-use Rattle.trie_write_rows.specs.Rows.{Chain, higher}
+use Rattle.trie_write_rows.specs.Rows.{Chain, KeyIn, higher, keysBehind, keysFrom}
 use Rattle.trie_laws.specs.Keys.{setBefore, setKey}
 
 -- a chain of suffixes in front of others that begin otherwise is a set of its own
@@ -54,33 +54,37 @@ sort-higher (s ∷ ss) o r =
     (key-below (labelOf s) (labelOf y) (let a = o .0 y n in let b = label-key s (r s (inl refl)) in
     let c = label-key y (r y (inr n)) in omega arith))))
 
--- there are at most 96: the empty suffix and 95 bytes
-abbrev pub Keyed : List (List Entry) → Type 0
-Keyed ss = (s : List Entry) → s ∈ ss → (setKey s ≡ 0) ⊎ ((33 ≤ setKey s) × (setKey s ≤ 127))
+-- there are no more sets than keys
+keys-fall : (k l : ℕ) (rs : List (ℕ × ℕ)) → k ≤ l → keysFrom l rs ≤ keysFrom k rs
+keys-fall k l [] e = omega arith
+keys-fall k l (r ∷ rs) e = let ih = keys-fall k l rs e in omega arith
 
-count-from : (s : List Entry) (ss : List (List Entry)) → Ordered (s ∷ ss) → Keyed (s ∷ ss) → 33 ≤ setKey s
-    → length (s ∷ ss) + setKey s ≤ 128
-count-from s [] o k h = go (k s (inl refl))
-  where
-    go : (setKey s ≡ 0) ⊎ ((33 ≤ setKey s) × (setKey s ≤ 127)) → 1 + setKey s ≤ 128
-    go (inl a) = omega arith
-    go (inr a) = omega (arith, a .1)
-count-from s (t ∷ ss) o k h =
-    let a = o .0 t (inl refl) in
-    let ih = count-from t ss (o .1) (λ u m. k u (inr m)) (omega arith) in
+key-counts : (k : ℕ) (rs : List (ℕ × ℕ)) → KeyIn k rs → keysFrom (suc k) rs < keysFrom k rs
+key-counts k [] m = absurd m
+key-counts k (r ∷ rs) (inl m) = let ih = keys-fall k (suc k) rs (omega arith) in omega (arith, m .0, m .1)
+key-counts k (r ∷ rs) (inr m) = let ih = key-counts k rs m in omega arith
+
+abbrev pub Keyed : List (ℕ × ℕ) → List (List Entry) → Type 0
+Keyed rs ss = (s : List Entry) → s ∈ ss → KeyIn (setKey s) rs
+
+count-from : (rs : List (ℕ × ℕ)) (s : List Entry) (ss : List (List Entry)) → Ordered (s ∷ ss) → Keyed rs (s ∷ ss)
+    → length (s ∷ ss) ≤ keysFrom (setKey s) rs
+count-from rs s [] o k = let a = key-counts (setKey s) rs (k s (inl refl)) in omega arith
+count-from rs s (t ∷ ss) o k =
+    let a = key-counts (setKey s) rs (k s (inl refl)) in
+    let b = keys-fall (suc (setKey s)) (setKey t) rs (o .0 t (inl refl)) in
+    let ih = count-from rs t ss (o .1) (λ u m. k u (inr m)) in
     omega arith
 
-pub count-few : (ss : List (List Entry)) → Ordered ss → Keyed ss → length ss ≤ mostRuns
-count-few [] o k = omega arith
-count-few (s ∷ []) o k = omega arith
-count-few (s ∷ t ∷ ss) o k =
-    let a = o .0 t (inl refl) in
-    let q = count-from t ss (o .1) (λ u m. k u (inr m)) (high (k t (inr (inl refl))) a) in
-    omega (arith, q, high (k t (inr (inl refl))) a)
-  where
-    high : (setKey t ≡ 0) ⊎ ((33 ≤ setKey t) × (setKey t ≤ 127)) → setKey s < setKey t → 33 ≤ setKey t
-    high (inl e) h = absurd (omega arith)
-    high (inr e) h = e .0
+pub count-few : (rs : List (ℕ × ℕ)) (ss : List (List Entry)) → Ordered ss → Keyed rs ss → length ss ≤ keysFrom 0 rs
+count-few rs [] o k = omega arith
+count-few rs (s ∷ ss) o k = let a = count-from rs s ss o k in let b = keys-fall 0 (setKey s) rs (omega arith) in
+    omega arith
+
+pub keys-few : (h : ℕ) → keysFrom 0 (keysBehind h) ≤ mostRuns
+keys-few zero = omega arith
+keys-few (suc zero) = omega arith
+keys-few (suc (suc h)) = omega arith
 
 -- the label of a rising set: what its first and its last have in common
 abbrev AtMost : List ℕ → List ℕ → Type 0

@@ -1,10 +1,11 @@
 -- Ranges of rows of a table: their sets of suffixes, and the runs that stand for the sets.
-use Prim.Native.Nat.{_-_, _<_, _≤_, suc, ℕ}
+use Prim.Native.Nat.{_+_, _-_, _<_, _≤_, max, suc, zero, ℕ}
 use mathlib.Core.Path.{_≡_}
+use mathlib.Core.Logic.{_⊎_}
 use mathlib.Core.Bool.{Bool, false, true}
 use mathlib.Core.List.{List, [], _∷_, map}
 use lib.Dec.{ltb}
-use lib.ListN.{drop, length}
+use lib.ListN.{drop, length, take}
 use lib.Seq.{slice}
 use Rattle.octets.specs.Lists.{all, sortBy}
 use Rattle.octets.specs.Octets.{below}
@@ -41,11 +42,28 @@ pub record Shared (es : List Entry) (d lo hi : ℕ) : Type 0 where
   pub order : lo ≤ hi
   pub inside : hi ≤ length es
   pub long : (p : ℕ) → lo ≤ p → p < hi → d ≤ length (at es p .name)
+  pub alike : (p : ℕ) → lo ≤ p → p < hi → take d (at es p .name) ≡ take d (at es lo .name)
   pub rises : (p : ℕ) → lo ≤ p → suc p < hi → below (restAt es d p) (restAt es d (suc p)) ≡ true
 
 -- names of allowed bytes
 abbrev pub Named : List Entry → Type 0
 Named es = all (λ e. allowedBytes (e .name)) es ≡ true
+
+-- The keys that sets can have behind half h, as ranges from the first to the last: between signs that of the empty
+-- suffix, those of 20 to 7E, of C2 and of CE; inside a pair that of its other half.
+abbrev pub keysBehind : ℕ → List (ℕ × ℕ)
+keysBehind zero = (0, 0) ∷ (suc 0x20, suc 0x7E) ∷ (suc 0xC2, suc 0xC2) ∷ (suc 0xCE, suc 0xCE) ∷ []
+keysBehind (suc zero) = (suc 0xB5, suc 0xB5) ∷ []
+keysBehind (suc (suc h)) = (suc 0xA9, suc 0xA9) ∷ []
+
+abbrev pub KeyIn : ℕ → List (ℕ × ℕ) → Type 0
+KeyIn k [] = ⊥
+KeyIn k (r ∷ rs) = ((r .0 ≤ k) × (k ≤ r .1)) ⊎ KeyIn k rs
+
+-- how many of them there are from k on
+abbrev pub keysFrom : ℕ → List (ℕ × ℕ) → ℕ
+keysFrom k [] = 0
+keysFrom k (r ∷ rs) = (suc (r .1) - max (r .0) k) + keysFrom k rs
 
 -- sets in falling score
 abbrev pub higher : List Entry → List Entry → Bool

@@ -26,9 +26,9 @@ runsIn (a ∷ b ∷ c ∷ d ∷ e ∷ ws) = record { lo = a; hi = b; high = c; l
 abbrev pub firstRuns : List ℕ → ℕ → List Run
 firstRuns ws n = take n (runsIn ws)
 
--- the most siblings: one for each allowed byte, and the empty one
+-- the most siblings: one for each byte 20 to 7E, one for each first half of a pair, and the empty one
 abbrev pub mostRuns : ℕ
-mostRuns = 96
+mostRuns = 98
 
 -- numbers with room for the run at an index, and for as many runs as a group can have, n of them held
 pub record Within (ws : List ℕ) (i : ℕ) : Type 0 where

@@ -12,7 +12,7 @@ ghost use Rattle.trie_write_runs.specs.Fields.{plainFields};
 // The numbers that a run is kept as, the most runs of a group (`mostRuns`), and room for them.
 const RUN_WORDS: usize = 5;
 
-const MOST_RUNS: usize = 96;
+const MOST_RUNS: usize = 98;
 
 pub const RUNS_ROOM: usize = MOST_RUNS * RUN_WORDS;
 

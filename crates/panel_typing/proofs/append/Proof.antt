@@ -1,25 +1,47 @@
--- `panel_typing::append` meets its contract: the byte behind the text is the key (proofs/Text).
+-- `panel_typing::append` meets its contract: the tests of the definition, in its order.
 -- No loop, so no invariant. Assumes nothing.
-use mathlib.Core.Path.{_≡_, refl}
-use lib.ListN.{length}
-use borrow.Author.Needs.{needs}
+use Prim.Native.Nat.{_+_, _≤_}
+use native.Mathlib.Omega.{arith}
+use borrow.Author.Tests.{ne-eqb}
 use Rattle.entries.specs.Names.{longestName}
-use Rattle.panel_typing.proofs.Text.{appends-to}
 use Rattle.panel_typing.proofs.append.Statement.{statement}
 use Rattle.panel_typing.proofs.append.Tie as tie
 
--- the array is 48 bytes long
-long : (c : tie.Start) → length (c .args .p .text) ≡ longestName
-long c = search needs
-
-element-write-q : tie.Need-element-write-q
-element-write-q c = search needs
-
-add-q : tie.Need-add-q
-add-q c = search needs
+append-pair-requires : tie.Need-append-pair-requires
+append-pair-requires c κs =
+    let z = c .before in
+    let room : z .args .p .len + 2 ≤ longestName = rw (c .if1 .taken) at (z .pre) in omega arith
 
 returns : tie.Need-returns
-returns c = appends-to (c .args .p) (long c) _ (c .args .key) (c .pre) refl refl
+returns c = rw (c .before .if1 .taken) (c .append-pair .ensures)
+
+append-pair-requires-2 : tie.Need-append-pair-requires-2
+append-pair-requires-2 c κs =
+    let z = c .before .before in
+    let room : z .args .p .len + 2 ≤ longestName = rw (c .if2 .taken) at (z .pre) in omega arith
+
+returns-2 : tie.Need-returns-2
+returns-2 c = rw (c .before .if2 .taken) (c .append-pair2 .ensures)
+
+append-byte-requires : tie.Need-append-byte-requires
+append-byte-requires c κs =
+    let z = c .before .before in
+    let room : z .args .p .len + 1 ≤ longestName = rw (ne-eqb _ _ (c .before .if1 .left), ne-eqb _ _ (c .if2 .left))
+    at (z .pre) in
+    omega arith
+
+returns-3 : tie.Need-returns-3
+returns-3 c =
+    let e = c .before in
+    rw (ne-eqb _ _ (e .before .if1 .left), ne-eqb _ _ (e .if2 .left)) (c .append-byte .ensures)
 
 pub append-spec : {M : Type 1} → statement M
-append-spec = tie.close (tie.spec element-write-q add-q returns)
+append-spec =
+    tie.close
+    (tie.spec
+    append-pair-requires
+    returns
+    append-pair-requires-2
+    returns-2
+    append-byte-requires
+    returns-3)

@@ -4,7 +4,7 @@ use mathlib.Core.Path.{_∙_, _≡_, sym}
 use mathlib.Core.Bool.{false, not, true}
 use lib.Dec.{eqb}
 use native.Mathlib.Omega.{arith}
-use borrow.Author.Tests.{eqb-false, leb-false, not-true}
+use borrow.Author.Tests.{eqb-false, ltb-false, not-true}
 use Rattle.octets.proofs.Tests.{and-true}
 use Rattle.entries.specs.Names.{longestName}
 use Rattle.panel.specs.Panel.{appends}
@@ -23,7 +23,7 @@ appends-requires c κs = tt
 
 append-requires : tie.Need-append-requires
 append-requires c κs =
-    let z = c .before .before in leb-false longestName (z .args .p .len) (rw (appending c) at (z .pre .1))
+    let z = c .before .before in ltb-false longestName _ (rw (appending c) at (z .pre .1))
 
 returns : tie.Need-returns
 returns c = rw (appending (c .before)) (c .append .ensures)

@@ -16,10 +16,10 @@ use borrow.Fn.Kinds.{In}
 use borrow.Fn.PlainCycle.{Measures, and, falls as lower, is}
 use Rattle.octets.proofs.Numbers.{Bytes}
 use Rattle.trie_check_fields.proofs.Heads.{Read, read-node}
-use Rattle.trie_check_laws.specs.Walk.{stands}
+use Rattle.trie_check_laws.specs.Walk.{beginGroup, stands}
 use Rattle.trie_check.proofs.Walking.{GroupGoing, ahead-of, end-of, falls, going-ahead, going-bad, going-last}
-use Rattle.trie_check.proofs.Walking.{going-less, going-on, going-start, group-bad, node-bad, node-leaf}
-use Rattle.trie_check.proofs.Walking.{node-more, onward-to, path-short, rest-cut, rest-out, rest-twice}
+use Rattle.trie_check.proofs.Walking.{going-less, going-on, going-start, group-bad, node-bad, node-cut}
+use Rattle.trie_check.proofs.Walking.{node-leaf, node-more, onward-to, path-short, rest-cut, rest-out, rest-twice}
 use Rattle.trie_check.proofs.Walking.{some-left}
 use Rattle.trie_check.proofs.group.Reads as group
 use Rattle.trie_check.proofs.group.Kinds as group-kinds
@@ -28,6 +28,7 @@ use Rattle.trie_check.proofs.node.Reads as node
 use Rattle.trie_check.proofs.node.Kinds as node-kinds
 use Rattle.trie_check.proofs.+group+node.Lts-node as node-lts
 use Rattle.trie_check_fields.proofs.group_end.Reads as group-end-reads
+use Rattle.trie_check_fields.proofs.half_behind.Reads as half-behind-reads
 use Rattle.trie_check_fields.proofs.head_at.Reads as head-at-reads
 use Rattle.trie_check_rules.proofs.after_node.Reads as after-node-reads
 use Rattle.trie_check_rules.proofs.begin_at.Reads as begin-at-reads
@@ -35,6 +36,7 @@ use Rattle.trie_check_rules.proofs.fits_here.Reads as fits-here-reads
 use Rattle.trie_check_rules.proofs.new_score.Reads as new-score-reads
 use Rattle.trie_check.proofs.+group+node.{statement}
 use Rattle.trie_check.proofs.+group+node.Tie.{close}
+use Rattle.trie_check_laws.specs.declared.Above.{Above}
 use Rattle.trie_check_laws.specs.declared.WalkEnd.the-variants.{Bad}
 
 abbrev μ-group : Measures 1 group-kinds.ps ℕ
@@ -55,12 +57,13 @@ node-at t = and 1 node-kinds.ps (is 1 node-kinds.ps μ-node t) node.Pre
 abbrev node-below : ℕ → In 1 node-kinds.ps
 node-below t = and 1 node-kinds.ps (lower 1 node-kinds.ps _<_ μ-node t) node.Pre
 
--- The group, where its measure is t.
+-- The group, where its measure is t. What stands above it is what it began with.
 abbrev group-Inv-loop : group-lts.InvT-loop
-group-Inv-loop buf at path score full left next p₀ seen₀ p seen = GroupGoing buf at path score full left next p seen
+group-Inv-loop buf at left next p₀ seen₀ p seen = (a : Above) → p₀ ≡ beginGroup at next a left
+    → GroupGoing buf at a left next p seen
 
 abbrev group-μ-loop : group-lts.MeasureT-loop
-group-μ-loop buf at path score full left next p₀ seen₀ p seen = length buf - p .at
+group-μ-loop buf at left next p₀ seen₀ p seen = length buf - p .at
 
 module _ (t : ℕ) where
   abbrev gc : group-lts.Claims
@@ -93,6 +96,13 @@ module _ (t : ℕ) where
   abbrev buf : Loop → List ℕ
   buf l = start l .before .args .buf .now
 
+  -- the invariant, of what stands above the group
+  going : (l : Loop)
+      → let a = start l .before .args in
+      GroupGoing (buf l) (a .at) (a .a) (a .left) (l .before .before .before .next .given .0 .0) (l .loop .p)
+      (l .loop .seen)
+  going l = l .loop .inv (start l .before .args .a) (l .before .begin-at .ensures)
+
   bytes : (l : Loop) → Bytes (buf l)
   bytes l i = omega (arith, start l .shared-slice-known .given i)
 
@@ -109,7 +119,7 @@ module _ (t : ℕ) where
   group-returns c =
       let e = c .before .before in
       let a = e .before .before .args in (
-        group-bad (a .buf .now) (a .at) (a .path) (a .score) (a .full) (a .left) (e .group-end .ensures .0)
+        group-bad (a .buf .now) (a .at) (a .a) (a .left) (e .group-end .ensures .0)
             (c .enum-told .given .1),
         tt,
       )
@@ -125,10 +135,10 @@ module _ (t : ℕ) where
       let k = c .before in
       let g = k .before .before .before in
       let e = g .group-end in
-      let a = g .before .before .args in
-      going-start (a .buf .now) (a .at) (a .path) (a .score) (a .full) (a .left) (k .before .next .given .0 .0)
-      (e .ensures .0) (k .before .next .given .1) (e .ensures .1)
-      (c .begin-at .ensures)
+      let z = g .before .before .args in
+      λ a begun.
+      going-start (z .buf .now) (z .at) a (z .left) (k .before .next .given .0 .0) (e .ensures .0)
+      (k .before .next .given .1) (e .ensures .1) begun
 
   group-head-at-requires : group-lts.Need-head-at-requires gc (group-at t) group.Post group-Inv-loop group-μ-loop
   group-head-at-requires c κs = search needs
@@ -143,7 +153,7 @@ module _ (t : ℕ) where
   group-returns-2 c =
       let h = c .before .before in
       let l = h .before in (
-        l .loop .inv .onto Bad (rest-cut (buf l) (l .loop .p) (l .loop .seen) (h .head-at .ensures .0)
+        going l .onto Bad (rest-cut (buf l) (l .loop .p) (l .loop .seen) (h .head-at .ensures .0)
             (c .enum-told2 .given .1)),
         tt,
       )
@@ -161,7 +171,7 @@ module _ (t : ℕ) where
       let f = c .before in
       let k = f .before in
       let l = loop k in (
-        l .loop .inv .onto Bad (rest-out (buf l) (l .loop .p) (l .loop .seen) (k .before .n .given .0 .0) (read k)
+        going l .onto Bad (rest-out (buf l) (l .loop .p) (l .loop .seen) (k .before .n .given .0 .0) (read k)
             (sym (f .fits-here .ensures) ∙ not-true (f .fits-here .result) (c .if1 .taken))),
         tt,
       )
@@ -179,7 +189,7 @@ module _ (t : ℕ) where
       let e = c .before in
       let k = e .before .before in
       let l = loop k in (
-        l .loop .inv .onto Bad (rest-twice (buf l) (l .loop .p) (l .loop .seen) (k .before .n .given .0 .0) (read k)
+        going l .onto Bad (rest-twice (buf l) (l .loop .p) (l .loop .seen) (k .before .n .given .0 .0) (read k)
             (fits e) (c .if2 .taken)),
         tt,
       )
@@ -189,12 +199,13 @@ module _ (t : ℕ) where
 
   group-node-requires : group-lts.Need-node-requires gc (group-at t) group.Post group-Inv-loop group-μ-loop
   group-node-requires c κs =
-      let l = loop (c .before .before .before) in
-      let g = l .loop .inv in
+      let k = c .before .before .before in
+      let l = loop k in
+      let g = going l in
       let z = start l .before in (
         subst (λ (j : ℕ). 2 * (length (z .args .buf .now) - l .loop .p .next) + 1 < j) (z .pre .0)
             (omega (arith, g .past, g .on, g .within)),
-        (g .within, fits (c .before)),
+        (g .within, fits (c .before), read k .held, read k .within),
       )
 
   group-enum-known-q : group-lts.Need-enum-known-q gc (group-at t) group.Post group-Inv-loop group-μ-loop
@@ -209,7 +220,7 @@ module _ (t : ℕ) where
       let e = d .before in
       let k = e .before .before .before in
       let l = loop k in (
-        going-bad (l .loop .inv) (bytes l) (read k) (fits (e .before)) (e .if2 .left) (d .node .ensures .0)
+        going-bad (going l) (bytes l) (read k) (fits (e .before)) (e .if2 .left) (d .node .ensures .0)
             (d .node .ensures .1) (c .enum-told3 .given .1),
         tt,
       )
@@ -226,9 +237,9 @@ module _ (t : ℕ) where
       let k = e .before .before .before in
       let l = loop k in
       let h = c .before .before .q .given .1 in (
-        going-last (l .loop .inv) (bytes l) (read k) (fits (e .before)) (e .if2 .left) (d .node .ensures .0)
+        going-last (going l) (bytes l) (read k) (fits (e .before)) (e .if2 .left) (d .node .ensures .0)
             (d .node .ensures .1) h (c .if3 .taken),
-        going-ahead (l .loop .inv) (bytes l) (read k) (fits (e .before)) (e .if2 .left) (d .node .ensures .0)
+        going-ahead (going l) (bytes l) (read k) (fits (e .before)) (e .if2 .left) (d .node .ensures .0)
             (d .node .ensures .1) h,
       )
 
@@ -239,7 +250,7 @@ module _ (t : ℕ) where
       let k = e .before .before .before in
       let l = loop k in
       let h = c .before .before .q .given .1 in
-      going-less (l .loop .inv) (bytes l) (read k) (fits (e .before)) (e .if2 .left) (d .node .ensures .0)
+      going-less (going l) (bytes l) (read k) (fits (e .before)) (e .if2 .left) (d .node .ensures .0)
       (d .node .ensures .1) h
 
   group-loop-again : group-lts.Need-loop-again gc (group-at t) group.Post group-Inv-loop group-μ-loop
@@ -249,13 +260,16 @@ module _ (t : ℕ) where
       let k = e .before .before .before in
       let l = loop k in
       let h = c .before .before .q .given .1 in
-      going-on (l .loop .inv) (bytes l) (read k) (fits (e .before)) (e .if2 .left) (d .node .ensures .0)
+      λ a begun.
+      going-on (l .loop .inv a begun) (bytes l) (read k) (fits (e .before)) (e .if2 .left) (d .node .ensures .0)
       (d .node .ensures .1) h (c .if3 .left)
 
 -- The node, where its measure is t.
 module _ (t : ℕ) where
   abbrev nc : node-lts.Claims
   nc = (
+    half-behind-reads.Asked,
+    half-behind-reads.Learnt,
     after-node-reads.Asked,
     after-node-reads.Learnt,
     new-score-reads.Asked,
@@ -264,49 +278,73 @@ module _ (t : ℕ) where
     group.Post,
   )
 
-  -- from where the arguments are known: the entry; from behind the group below: the score, and the entry
+  -- from where the half behind the label is known: the entry; from behind the group below: the score, and that half
   abbrev Start : Type 0
   Start = node-lts.Start nc (node-at t) node.Post
 
-  abbrev entry : node-lts.After-struct-known nc (node-at t) node.Post → Start
-  entry c = c .before .before
+  abbrev Halved : Type 0
+  Halved = node-lts.After-half-behind nc (node-at t) node.Post
+
+  abbrev entry : Halved → Start
+  entry h = h .before .before
 
   abbrev Scored : Type 0
   Scored = node-lts.After-new-score nc (node-at t) node.Post
 
-  abbrev begin : Scored → Start
-  begin v = entry (v .before .before)
+  abbrev branch : Scored → node-lts.Else1 nc (node-at t) node.Post
+  branch v = v .before .before .before
+
+  abbrev halved : Scored → Halved
+  halved v = branch v .before .before
 
   abbrev scored : node-lts.After-group nc (node-at t) node.Post → Scored
-  scored g = g .before .before .before .before
+  scored g = g .before .before
 
-  node-sub-after-node : node-lts.Need-sub-after-node nc (node-at t) node.Post
-  node-sub-after-node c = let z = entry (c .before .before) in
-      some-left (z .args .p) (z .args .n) (z .pre .1 .1) (c .before .if1 .taken)
+  abbrev leaf : node-lts.Then1 nc (node-at t) node.Post → Halved
+  leaf c = c .before .before
 
-  node-after-node-requires : node-lts.Need-after-node-requires nc (node-at t) node.Post
-  node-after-node-requires c κs = let z = entry (c .before .before) in
-      falls (z .args .p) (z .args .n) (z .pre .1 .1)
+  node-half-behind-requires : node-lts.Need-half-behind-requires nc (node-at t) node.Post
+  node-half-behind-requires c κs = let z = c .before in (z .pre .1 .2, z .pre .1 .3)
 
   node-returns : node-lts.Need-returns nc (node-at t) node.Post
   node-returns c =
-      let z = entry (c .before .before .before) in
+      let h = leaf (c .before) in
+      let a = entry h .args in (
+        node-cut (a .buf .now) (a .p) (a .n) (h .half-behind .ensures) (c .before .if1 .taken) (c .if2 .taken),
+        tt,
+      )
+
+  node-sub-after-node : node-lts.Need-sub-after-node nc (node-at t) node.Post
+  node-sub-after-node c = let d = c .before .before in let z = entry (leaf d) in
+      some-left (z .args .p) (z .args .n) (z .pre .1 .1) (d .if1 .taken)
+
+  node-after-node-requires : node-lts.Need-after-node-requires nc (node-at t) node.Post
+  node-after-node-requires c κs = let z = entry (leaf (c .before .before)) in
+      falls (z .args .p) (z .args .n) (z .pre .1 .1)
+
+  node-returns-2 : node-lts.Need-returns-2 nc (node-at t) node.Post
+  node-returns-2 c =
+      let e = c .before .before in
+      let h = leaf (e .before) in
+      let z = entry h in
       let a = z .args in (
-        node-leaf (a .buf .now) (a .p) (a .n) (c .before .before .if1 .taken) (c .after-node .ensures),
+        node-leaf (a .buf .now) (a .p) (a .n) (h .half-behind .ensures) (e .before .if1 .taken) (e .if2 .left)
+            (c .after-node .ensures),
         onward-to (a .p) (a .n) (a .p .next) (a .p .back) (a .p .left - 1) (a .p .own) (length (a .buf .now))
             (c .after-node .ensures) (omega arith) (z .pre .1 .0),
       )
 
-  node-new-score-requires : node-lts.Need-new-score-requires nc (node-at t) node.Post
-  node-new-score-requires c κs = let z = c .before .before .before in falls (z .args .p) (z .args .n) (z .pre .1 .1)
-
-  node-add-group : node-lts.Need-add-group nc (node-at t) node.Post
-  node-add-group c = let z = begin (c .before .before) in
+  node-add-path : node-lts.Need-add-path nc (node-at t) node.Post
+  node-add-path c = let z = entry (c .before .before .before .before) in
       omega (arith, path-short (z .args .p) (z .args .n) (z .pre .1 .1))
+
+  node-new-score-requires : node-lts.Need-new-score-requires nc (node-at t) node.Post
+  node-new-score-requires c κs = let z = entry (c .before .before .before .before) in
+      falls (z .args .p) (z .args .n) (z .pre .1 .1)
 
   node-group-requires : node-lts.Need-group-requires nc (node-at t) node.Post
   node-group-requires c κs =
-      let z = begin (c .before .before .before) in
+      let z = entry (halved (c .before)) in
       (subst (λ (j : ℕ). 2 * (length (z .args .buf .now) - z .args .p .next) < j) (z .pre .0) (omega arith), tt)
 
   node-enum-known-end : node-lts.Need-enum-known-end nc (node-at t) node.Post
@@ -315,13 +353,14 @@ module _ (t : ℕ) where
   node-enum-told : node-lts.Need-enum-told nc (node-at t) node.Post
   node-enum-told c = search needs
 
-  node-returns-2 : node-lts.Need-returns-2 nc (node-at t) node.Post
-  node-returns-2 c =
+  node-returns-3 : node-lts.Need-returns-3 nc (node-at t) node.Post
+  node-returns-3 c =
       let g = c .before .before in
       let v = scored g in
-      let a = begin v .args in (
-        node-bad (a .buf .now) (a .p) (a .n) (v .before .if1 .left) (v .new-score .ensures) (g .group .ensures .0)
-            (c .enum-told .given .1),
+      let h = halved v in
+      let a = entry h .args in (
+        node-bad (a .buf .now) (a .p) (a .n) (branch v .if1 .left) (h .half-behind .ensures) (v .new-score .ensures)
+            (g .group .ensures .0) (c .enum-told .given .1),
         tt,
       )
 
@@ -333,21 +372,22 @@ module _ (t : ℕ) where
   node-after-node-requires-2 : node-lts.Need-after-node-requires-2 nc (node-at t) node.Post
   node-after-node-requires-2 c κs =
       let e = c .before .before in
-      let z = begin (scored (e .before .before)) in
+      let z = entry (halved (scored (e .before .before))) in
       falls (z .args .p) (z .args .n) (z .pre .1 .1)
 
-  node-returns-3 : node-lts.Need-returns-3 nc (node-at t) node.Post
-  node-returns-3 c =
+  node-returns-4 : node-lts.Need-returns-4 nc (node-at t) node.Post
+  node-returns-4 c =
       let o = c .before .before .before in
       let e = o .end .given in
       let g = o .before .before in
       let v = scored g in
-      let a = begin v .args in
-      let h = ahead-of (e .1) (g .group .ensures .1) in (
-        node-more (a .buf .now) (a .p) (a .n) (v .before .if1 .left) (v .new-score .ensures) (g .group .ensures .0)
-            (e .1) (c .after-node2 .ensures),
+      let h = halved v in
+      let a = entry h .args in
+      let b = ahead-of (e .1) (g .group .ensures .1) in (
+        node-more (a .buf .now) (a .p) (a .n) (branch v .if1 .left) (h .half-behind .ensures) (v .new-score .ensures)
+            (g .group .ensures .0) (e .1) (c .after-node2 .ensures),
         onward-to (a .p) (a .n) (e .0 .0) (e .0 .0 - a .p .next) (e .0 .1 .0) false (length (a .buf .now))
-            (c .after-node2 .ensures) (le-of-lt (h .0)) (h .1),
+            (c .after-node2 .ensures) (le-of-lt (b .0)) (b .1),
       )
 
 pub +group+node-spec : {M : Type 1} → statement M
@@ -379,15 +419,17 @@ pub +group+node-spec : {M : Type 1} → statement M
     (group-loop-again t))
     (λ t.
     node-lts.spec (nc t) (node-at t) node.Post
+    (node-half-behind-requires t)
+    (node-returns t)
     (node-sub-after-node t)
     (node-after-node-requires t)
-    (node-returns t)
+    (node-returns-2 t)
+    (node-add-path t)
     (node-new-score-requires t)
-    (node-add-group t)
     (node-group-requires t)
     (node-enum-known-end t)
     (node-enum-told t)
-    (node-returns-2 t)
+    (node-returns-3 t)
     (node-sub-after-node-2 t)
     (node-after-node-requires-2 t)
-    (node-returns-3 t))
+    (node-returns-4 t))

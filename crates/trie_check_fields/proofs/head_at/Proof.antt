@@ -2,9 +2,8 @@
 -- law of the answer (proofs/Heads). No loop, so no invariant. Assumes nothing.
 use native.Mathlib.Omega.{arith}
 use borrow.Author.Needs.{needs}
-use borrow.Author.Tests.{not-false, not-true}
 use Rattle.octets.proofs.Numbers.{Bytes}
-use Rattle.trie_check_fields.proofs.Heads.{Sizes, child-size, head-dirty, head-good, head-known, head-out}
+use Rattle.trie_check_fields.proofs.Heads.{Sizes, child-size, head-good, head-known, head-out}
 use Rattle.trie_check_fields.proofs.Heads.{head-short, head-wide, label-size, score-size}
 use Rattle.trie_check_fields.proofs.head_at.Statement.{statement}
 use Rattle.trie_check_fields.proofs.head_at.Tie as tie
@@ -16,20 +15,14 @@ else1 c = c .before .before .before .before
 abbrev after-label-length : tie.Then3 → tie.After-label-length
 after-label-length c = c .before .before .before .before
 
-abbrev after-label-length-of-else4 : tie.Else4 → tie.After-label-length
-after-label-length-of-else4 c = c .before .before .before .before .before .before .before
+abbrev after-label-length-of-label : tie.After-label-part → tie.After-label-length
+after-label-length-of-label c = c .before .before .before .before .before
 
-abbrev after-field-at-of-is-prefix : tie.After-is-prefix → tie.After-field-at
-after-field-at-of-is-prefix c = c .before .before .before .before
+abbrev after-label : tie.After-key-of → tie.After-label-part
+after-label c = c .before .before .before
 
-abbrev after-field-at : tie.Then4 → tie.After-field-at
-after-field-at c = after-field-at-of-is-prefix (c .before)
-
-abbrev after-size-of : tie.Then4 → tie.After-size-of
-after-size-of c = c .before .before .before .before
-
-abbrev after-is-prefix : tie.After-key-of → tie.After-is-prefix
-after-is-prefix c = c .before .before .before .before
+abbrev after-field-at : tie.After-label-part → tie.After-field-at
+after-field-at c = c .before .before .before
 
 bytes : (k : tie.After-shared-slice-known) → Bytes (k .before .args .buf .now)
 bytes k i = omega (arith, k .shared-slice-known .given i)
@@ -109,22 +102,8 @@ add-label-part c = omega arith
 label-part-requires : tie.Need-label-part-requires
 label-part-requires c κs = omega arith
 
-is-prefix-requires : tie.Need-is-prefix-requires
-is-prefix-requires c κs = search needs
-
-returns-4 : tie.Need-returns-4
-returns-4 c =
-    let f = after-field-at c in
-    let l = f .before .before in (
-      head-dirty (sizes l) (f .before .if2 .left) (f .field-at .ensures)
-          (after-size-of c .size-of .ensures) (c .before .before .before .if3 .left)
-          (c .before .before .label-part .ensures) (c .before .is-prefix .ensures)
-          (not-true (c .before .is-prefix .result) (c .if4 .taken)),
-      tt,
-    )
-
 field-at-requires-2 : tie.Need-field-at-requires-2
-field-at-requires-2 c κs = let l = after-label-length-of-else4 c in
+field-at-requires-2 c κs = let l = after-label-length-of-label c in
     let s = child-size (sizes l) in (omega arith, s .0, s .1)
 
 cast-child : tie.Need-cast-child
@@ -139,16 +118,15 @@ last-mark-requires c κs = search needs
 key-of-requires : tie.Need-key-of-requires
 key-of-requires c κs = search needs
 
-returns-5 : tie.Need-returns-5
-returns-5 c =
-    let p = after-is-prefix c in
-    let f = after-field-at-of-is-prefix p in
+returns-4 : tie.Need-returns-4
+returns-4 c =
+    let p = after-label c in
+    let f = after-field-at p in
     let l = f .before .before in
     let z = start l in
     let good =
-    head-good (sizes l) (f .before .if2 .left) (f .field-at .ensures) (p .before .before .before .size-of .ensures)
-    (p .before .before .if3 .left) (p .before .label-part .ensures) (p .is-prefix .ensures)
-    (not-false (p .is-prefix .result) (c .before .before .before .if4 .left)) (c .before .last-mark .ensures)
+    head-good (sizes l) (f .before .if2 .left) (f .field-at .ensures) (p .before .before .size-of .ensures)
+    (p .before .if3 .left) (p .label-part .ensures) (c .before .last-mark .ensures)
     (c .before .before .field-at2 .ensures) (c .key-of .ensures)
     in
     (good, head-known (z .before .args .buf .now) (z .before .args .at) (bytes z) _ good)
@@ -158,5 +136,5 @@ head-at-spec =
     tie.close
     (tie.spec returns shared-slice-read-h score-size-requires child-size-requires label-length-requires add-body
     add-body-2 sub-if2 sub-if2-2 returns-2 add-from field-at-requires cast-field size-of-requires returns-3 add-mid
-    add-label-part label-part-requires is-prefix-requires returns-4 field-at-requires-2 cast-child add-t17
-    last-mark-requires key-of-requires returns-5)
+    add-label-part label-part-requires field-at-requires-2 cast-child add-t17 last-mark-requires key-of-requires
+    returns-4)

@@ -20,6 +20,7 @@ returns c =
       score = c .new-score .ensures i;
       key = a .n .key;
       path = a .p .path;
+      half = a .p .half;
       full = a .p .full;
       left = a .left;
     }

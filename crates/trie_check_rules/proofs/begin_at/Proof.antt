@@ -4,11 +4,11 @@ use native.Mathlib.Omega.{arith}
 use Rattle.trie_check_rules.proofs.begin_at.Statement.{statement}
 use Rattle.trie_check_rules.proofs.begin_at.Tie as tie
 
-sub-t7 : tie.Need-sub-t7
-sub-t7 c = omega arith
+sub-back : tie.Need-sub-back
+sub-back c = omega arith
 
 returns : tie.Need-returns
 returns c = refl
 
 pub begin-at-spec : {M : Type 1} → statement M
-begin-at-spec = tie.close (tie.spec sub-t7 returns)
+begin-at-spec = tie.close (tie.spec sub-back returns)

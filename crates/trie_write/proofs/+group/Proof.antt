@@ -128,7 +128,7 @@ module _ (t : ℕ) where
   group-split-requires : group-lts.Need-split-requires claims (group-at t) group.Post group-Inv-loop group-μ-loop
   group-split-requires c κs = (
     start (c .before .before) .pre .1 .able,
-    record { few = omega arith; long = length-replicate {A = ℕ} 480 0 },
+    record { few = omega arith; long = length-replicate {A = ℕ} 490 0 },
   )
 
   group-loop-holds : group-lts.Need-loop-holds claims (group-at t) group.Post group-Inv-loop group-μ-loop
