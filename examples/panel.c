@@ -1,8 +1,8 @@
 /*
  * A term's first lesson: a teacher starts a book and edits it, a course's book is merged into it, a
- * student types the start of a name and takes one that is offered, the teacher keeps the book as a
- * sheet and writes a trie of it. Build and run it with examples/run-c; examples/panel.rs is the
- * same in Rust and prints the same, which is in examples/expected.
+ * student types the start of a name and takes one that is offered, also one with µ or Ω in it, the
+ * teacher keeps the book as a sheet and writes a trie of it. Build and run it with examples/run-c;
+ * examples/panel.rs is the same in Rust and prints the same, which is in examples/expected.
  */
 #include <stdbool.h>
 #include <stdio.h>
@@ -139,6 +139,27 @@ static void type(struct bench *b) {
                (unsigned)score);
 }
 
+/* A panel on which this is typed already. It holds no name yet: the next key finds the row. */
+static struct label_book_panel typed(const char *text) {
+    struct label_book_panel panel = {0};
+    panel.len = strlen(text);
+    memcpy(panel.text, text, panel.len);
+    return panel;
+}
+
+/* Names with µ and Ω, which have two bytes each in UTF-8, keys of their own on the panel, and are
+ * erased whole. */
+static void type_signs(struct bench *b) {
+    set(b, "10 µF", 8);
+    set(b, "4.7 kΩ", 6);
+    struct label_book_panel panel = typed("10 ");
+    press(b, &panel, LABEL_BOOK_KEY_MICRO);
+    panel = typed("4.7 k");
+    press(b, &panel, LABEL_BOOK_KEY_OHM);
+    press(b, &panel, LABEL_BOOK_KEY_ERASE);
+    press(b, &panel, LABEL_BOOK_KEY_TAKE);
+}
+
 /* The teacher again: the book as a plain sheet, and a book built from the sheet, which is the same
  * book byte for byte. */
 static void keep(struct bench *b) {
@@ -176,6 +197,7 @@ int main(void) {
     edit(&bench);
     join(&bench);
     type(&bench);
+    type_signs(&bench);
     keep(&bench);
     offer_from_trie(&bench);
     return 0;

@@ -1,13 +1,14 @@
 //! A term's first lesson: a teacher starts a book and edits it, a course's book is merged into it,
-//! a student types the start of a name and takes one that is offered, the teacher keeps the book as
-//! a sheet and writes a trie of it. Build and run it with examples/run-rust; examples/panel.c is
-//! the same in C and prints the same, which is in examples/expected.
+//! a student types the start of a name and takes one that is offered, also one with µ or Ω in it,
+//! the teacher keeps the book as a sheet and writes a trie of it. Build and run it with
+//! examples/run-rust; examples/panel.c is the same in C and prints the same, which is in
+//! examples/expected.
 use label_book::{entries, key, Book, Entries, Panel, Refusal, Written};
 use label_book::{ENTRY_MAX, PANEL_ROWS};
 use std::borrow::Cow;
 use std::error::Error;
 
-/// Names are bytes; they are shown as text.
+/// Names are bytes, of UTF-8; they are shown as text.
 fn text(name: &[u8]) -> Cow<'_, str> {
     String::from_utf8_lossy(name)
 }
@@ -95,6 +96,25 @@ fn type_keys(book: &mut Book) -> Result<(), Refusal> {
     Ok(())
 }
 
+/// A panel on which this is typed already. It holds no name yet: the next key finds the row.
+fn typed(text: &str) -> Panel {
+    let mut panel = Panel { len: text.len(), ..Panel::default() };
+    panel.text[..text.len()].copy_from_slice(text.as_bytes());
+    panel
+}
+
+/// Names with µ and Ω, which have two bytes each in UTF-8, keys of their own on the panel, and are
+/// erased whole.
+fn type_signs(book: &mut Book) -> Result<(), Refusal> {
+    set(book, "10 µF", 8);
+    set(book, "4.7 kΩ", 6);
+    press(book, &mut typed("10 "), key::MICRO)?;
+    let mut panel = typed("4.7 k");
+    press(book, &mut panel, key::OHM)?;
+    press(book, &mut panel, key::ERASE)?;
+    press(book, &mut panel, key::TAKE)
+}
+
 /// The teacher again: the book as a plain sheet, and a book built from the sheet, which is the same
 /// book byte for byte.
 fn keep(book: &Book) -> Result<(), Refusal> {
@@ -121,6 +141,7 @@ fn main() -> Result<(), Box<dyn Error>> {
     edit(&mut book);
     join(&mut book)?;
     type_keys(&mut book)?;
+    type_signs(&mut book)?;
     keep(&book)?;
     offer_from_trie(&book)?;
     Ok(())

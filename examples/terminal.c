@@ -6,14 +6,15 @@
  *
  *     examples/run-terminal [FILE]    builds it and runs it
  *
- *     letters, digits, space ...      append to the text
- *     Backspace                       erases the last letter
+ *     letters, digits, space ...      append to the text, so do µ and Ω
+ *     Backspace                       erases the last letter or sign
  *     Up, Down (Ctrl-P, Ctrl-N)       move the highlight
  *     Enter                           takes the highlighted name: its set-up is loaded
  *     Esc Esc, Ctrl-C, Ctrl-D         leave; Ctrl-Z stops, and `fg` goes on
  *
- * Any other byte goes to the library as it is, which refuses those that are no key of the panel.
- * C11 and POSIX; the terminal must know the usual sequences (ECMA-48), as all of today do.
+ * Any other byte goes to the library as it is, which refuses those that are no key of the panel; of
+ * any other sign of several bytes (as ä) the first. C11 and POSIX; the terminal must know the usual
+ * sequences (ECMA-48) and UTF-8, as all of today do.
  */
 #define _POSIX_C_SOURCE 200809L
 
@@ -39,7 +40,7 @@ enum { LEFT = 0, NO_BOOK = 1, CALLED_WRONGLY = 2 };
 enum { TICK = 200 };
 
 /* Bytes of a line on the screen, also where the terminal is wider, and of a reason; with a zero. */
-enum { LINE = 160, REASON = 100 };
+enum { LINE = 160, REASON = 128 };
 
 struct bench {
     const char *path;
@@ -117,9 +118,13 @@ static bool same_file(const struct stat *a, const struct stat *b) {
 
 /* ---- Keys and what they do ------------------------------------------------------------------- */
 
-/* Bytes that a terminal sends. */
+/* Bytes that a terminal sends, and one that it never does. */
 enum { CTRL_C = 0x03, CTRL_D = 0x04, NEWLINE = 0x0A, CTRL_N = 0x0E, CTRL_P = 0x10, ESC = 0x1B,
-       DELETE = 0x7F };
+       DELETE = 0x7F, NEVER_SENT = 0xFF };
+
+/* The signs of two bytes that a name may have. */
+#define MICRO "\xC2\xB5"
+#define OHM "\xCE\xA9"
 
 /* What a byte can mean besides a key of the panel. */
 enum { NO_KEY = -1, LEAVE = -2 };
@@ -127,8 +132,47 @@ enum { NO_KEY = -1, LEAVE = -2 };
 /* Where in a sequence that Esc begins the keyboard is. ESC_ALONE: one Esc, and then a pause. */
 enum escape { PLAIN, ESC_ONCE, ESC_ALONE, ESC_TWICE, SEQUENCE, ONE_MORE };
 
+/* What was sent in part: a sequence, or the first byte of a sign in UTF-8 that has so many more. */
+struct keyboard {
+    enum escape escape;
+    uint8_t first;
+    int more;
+};
+
+/* Whether a byte of UTF-8 is a sign's second or a later one. */
+static bool goes_on(uint8_t byte) { return byte >= 0x80 && byte <= 0xBF; }
+
+/* How many bytes follow the first one of a sign. */
+static int more_behind(uint8_t first) {
+    if (first >= 0xC2 && first <= 0xDF) return 1;
+    if (first >= 0xE0 && first <= 0xEF) return 2;
+    return first >= 0xF0 && first <= 0xF4 ? 3 : 0;
+}
+
+/* A byte past 7F: the keys of µ and Ω are pressed by their two bytes. Any other sign counts as its
+ * first byte, which the library refuses. A later byte that follows no first one must not be taken
+ * for a key of the same number. */
+static int sign_key(struct keyboard *k, uint8_t byte) {
+    if (!goes_on(byte)) {
+        k->first = byte;
+        k->more = more_behind(byte);
+        return k->more > 0 ? NO_KEY : byte;
+    }
+    if (k->more == 0) {
+        bool has_key = byte == LABEL_BOOK_KEY_MICRO || byte == LABEL_BOOK_KEY_OHM;
+        return has_key ? NEVER_SENT : byte;
+    }
+    if (--k->more > 0) return NO_KEY;
+    const char sign[] = {(char)k->first, (char)byte, 0};
+    if (strcmp(sign, MICRO) == 0) return LABEL_BOOK_KEY_MICRO;
+    if (strcmp(sign, OHM) == 0) return LABEL_BOOK_KEY_OHM;
+    return k->first;
+}
+
 /* A byte that is in no sequence. */
-static int plain_key(uint8_t byte) {
+static int plain_key(struct keyboard *k, uint8_t byte) {
+    if (byte > DELETE) return sign_key(k, byte);
+    k->more = 0; /* a sign that is cut is dropped */
     switch (byte) {
     case CTRL_C: return LEAVE; /* where the terminal's interrupt key is another one */
     case CTRL_D: return LEAVE;
@@ -156,8 +200,8 @@ static int sequence_key(enum escape *state, uint8_t byte) {
 }
 
 /* The key that a byte completes. A control byte acts by itself also where it cuts a sequence. */
-static int key_of(enum escape *state, uint8_t byte) {
-    enum escape before = *state;
+static int key_of(struct keyboard *k, uint8_t byte) {
+    enum escape *state = &k->escape, before = *state;
     bool control = byte < 0x20;
     *state = PLAIN;
     if ((before == ESC_ONCE || before == ESC_TWICE) && (byte == '[' || byte == 'O')) {
@@ -166,23 +210,28 @@ static int key_of(enum escape *state, uint8_t byte) {
     }
     if (before == ESC_TWICE) return LEAVE;
     if (byte == ESC) {
+        k->more = 0;
         *state = before == ESC_ONCE || before == ESC_ALONE ? ESC_TWICE : ESC_ONCE;
         return NO_KEY;
     }
     if (before == SEQUENCE && !control) return sequence_key(state, byte);
     if (before == ESC_ONCE && !control) return ESC; /* Alt and a letter */
     if (before == ONE_MORE && !control) return ESC;
-    return plain_key(byte);
+    return plain_key(k, byte);
 }
 
 /* The key that a pause completes. */
-static int key_at_pause(enum escape *state) {
-    switch (*state) {
+static int key_at_pause(struct keyboard *k) {
+    if (k->more > 0) {
+        k->more = 0;
+        return k->first;
+    }
+    switch (k->escape) {
     case PLAIN:
     case ESC_ALONE: return NO_KEY;
-    case ESC_ONCE: *state = ESC_ALONE; return NO_KEY;
+    case ESC_ONCE: k->escape = ESC_ALONE; return NO_KEY;
     case ESC_TWICE: return LEAVE;
-    default: *state = PLAIN; return ESC;
+    default: k->escape = PLAIN; return ESC;
     }
 }
 
@@ -276,6 +325,25 @@ struct page {
     char line[LINES + 1][LINE];
 };
 
+/* How many bytes the sign at the front of a text has: µ and Ω two, any other one. */
+static size_t sign_length(const char *text) {
+    return strncmp(text, MICRO, 2) == 0 || strncmp(text, OHM, 2) == 0 ? 2 : 1;
+}
+
+/* How many bytes of a text stand in so many columns, a sign in each. */
+static size_t length_in(const char *text, size_t columns) {
+    size_t length = 0;
+    for (; columns > 0 && text[length] != 0; columns--) length += sign_length(text + length);
+    return length;
+}
+
+/* How many columns the text of a panel has. */
+static size_t columns_of(const struct label_book_panel *panel) {
+    size_t columns = 0;
+    for (size_t i = 0; i < panel->len; i++) columns += !goes_on(panel->text[i]);
+    return columns;
+}
+
 /* The names offered, each with its score in front. */
 static void write_rows(struct page *page, const struct bench *b) {
     struct label_book_rows rows;
@@ -290,9 +358,8 @@ static void write_rows(struct page *page, const struct bench *b) {
 
 /* The last event, over two lines if it is long. */
 static void write_news(struct page *page, const char *text, size_t columns) {
-    size_t length = strlen(text);
-    if (length > columns) {
-        length = columns;
+    size_t length = length_in(text, columns);
+    if (text[length] != 0) {
         while (length > 0 && text[length] != ' ') length--;
     }
     snprintf(page->line[NEWS_LINE], LINE, "%.*s", (int)length, text);
@@ -325,15 +392,15 @@ static void add_move(struct frame *f, size_t line, size_t column) {
 }
 
 /* One line, cut to the terminal's columns, the highlighted name's in reverse. A byte that is no
- * printing one, which a file's name may have, shows as a question mark. */
+ * printing one and not of µ or Ω, which a file's name may have, shows as a question mark. */
 static void add_line(struct frame *f, size_t line, const char *text) {
     char cut[LINE];
-    size_t length = 0;
-    for (; length < f->columns && text[length] != 0; length++) {
-        unsigned char byte = (unsigned char)text[length];
-        cut[length] = byte >= 0x20 && byte <= 0x7E ? text[length] : '?';
-    }
+    size_t length = length_in(text, f->columns);
+    memcpy(cut, text, length);
     cut[length] = 0;
+    for (char *at = cut; *at != 0; at += sign_length(at)) {
+        if (sign_length(at) == 1 && (*at < ' ' || *at > '~')) *at = '?';
+    }
     add_move(f, line, 1);
     add(f, CLEAR_LINE);
     if (text[0] == MARK) add(f, REVERSE);
@@ -343,7 +410,7 @@ static void add_line(struct frame *f, size_t line, const char *text) {
 
 /* The whole screen, of which lines that the terminal does not have are left out, and the cursor
  * behind the text. */
-static void fill(struct frame *f, const struct page *page, size_t text_length) {
+static void fill(struct frame *f, const struct page *page, size_t text_columns) {
     f->length = 0;
     add(f, HIDE_CURSOR);
     for (size_t line = 1; line <= LINES && line <= f->lines; line++) {
@@ -353,7 +420,7 @@ static void fill(struct frame *f, const struct page *page, size_t text_length) {
         add_move(f, LINES + 1, 1);
         add(f, CLEAR_BELOW);
     }
-    add_move(f, TEXT_LINE, strlen(TEXT_LABEL) + text_length + 1);
+    add_move(f, TEXT_LINE, strlen(TEXT_LABEL) + text_columns + 1);
     add(f, SHOW_CURSOR);
 }
 
@@ -386,7 +453,7 @@ static bool draw(struct frame *shown, const struct bench *b, enum escape state) 
     struct page page;
     measure(&next);
     write_page(&page, b, news(b, state), next.columns);
-    fill(&next, &page, b->panel.len);
+    fill(&next, &page, columns_of(&b->panel));
     if (next.length == shown->length && memcmp(next.bytes, shown->bytes, next.length) == 0) {
         return true;
     }
@@ -457,19 +524,19 @@ static void stop(void) {
 
 /* Waits for keys, for a tick at most, and presses them. False if it is time to leave. A signal that
  * comes just before the wait is seen after it. */
-static bool take_keys(struct bench *b, enum escape *state) {
-    struct pollfd keyboard = {.fd = STDIN_FILENO, .events = POLLIN};
+static bool take_keys(struct bench *b, struct keyboard *k) {
+    struct pollfd keys = {.fd = STDIN_FILENO, .events = POLLIN};
     uint8_t bytes[LABEL_BOOK_NAME_MAX];
-    int ready = poll(&keyboard, 1, TICK);
+    int ready = poll(&keys, 1, TICK);
     if (ready < 0) return errno == EINTR;
     if (ready == 0) {
-        int key = key_at_pause(state);
+        int key = key_at_pause(k);
         if (key >= 0) press(b, (uint8_t)key);
         return key != LEAVE;
     }
     ssize_t count = read(STDIN_FILENO, bytes, sizeof bytes);
     for (ssize_t i = 0; i < count; i++) {
-        int key = key_of(state, bytes[i]);
+        int key = key_of(k, bytes[i]);
         if (key == LEAVE) return false;
         if (key >= 0) press(b, (uint8_t)key);
     }
@@ -479,7 +546,7 @@ static bool take_keys(struct bench *b, enum escape *state) {
 /* The panel, until it is left. */
 static void run(struct bench *b) {
     static struct frame shown;
-    enum escape state = PLAIN;
+    struct keyboard keyboard = {.escape = PLAIN};
     for (;;) {
         if (stop_asked) stop();
         if (open_asked) {
@@ -492,8 +559,8 @@ static void run(struct bench *b) {
             shown.length = 0;
         }
         follow(b);
-        if (!draw(&shown, b, state)) return;
-        if (leave_asked || !take_keys(b, &state)) return;
+        if (!draw(&shown, b, keyboard.escape)) return;
+        if (leave_asked || !take_keys(b, &keyboard)) return;
     }
 }
 

@@ -8,10 +8,15 @@
  *
  * Words
  *
- *   name          1 to 48 bytes, each from 0x20 to 0x7E, given as a pointer and a length. NOT
+ *   sign          one byte from 0x20 to 0x7E, or two bytes: µ, which is 0xC2 0xB5, or Ω, which is
+ *                 0xCE 0xA9, both as in UTF-8. Half of one is no sign, and no other byte is: the
+ *                 Greek small mu and the ohm sign of Unicode, which look alike, are other bytes.
+ *   name          1 to 48 bytes of whole signs, given as a pointer and a length. NOT
  *                 zero-terminated, neither where a call reads a name nor where it writes one: the
- *                 length of a C string s is strlen(s), and printf shows a name by "%.*s".
- *   prefix        0 to 48 such bytes. A name begins itself; the empty prefix begins every name.
+ *                 length of a C string s is strlen(s), and printf shows a name by "%.*s". Lengths
+ *                 count bytes everywhere: a name with µ has fewer columns on a screen than bytes.
+ *   prefix        0 to 48 such bytes. A name begins itself; the empty prefix begins every name. The
+ *                 front of a name that ends in half a sign is no prefix.
  *   score         a whole number from 0 to 4,294,967,295.
  *   entry         a name and its score.
  *   name order    byte order; a name that begins another comes before it. Positions count from 0
@@ -68,10 +73,10 @@
  *
  *   1  LABEL_BOOK_NOT_LAID_OUT        a book, sheet, trie or script that is not laid out as such,
  *                                     or is cut off by its buffer
- *   2  LABEL_BOOK_NOT_ALLOWED         a name or prefix that is not allowed; a panel whose length is
- *                                     over 48, or whose text has a byte within it that is not
- *                                     allowed; a panel whose held name is neither of length 0 nor
- *                                     a name that is allowed
+ *   2  LABEL_BOOK_NOT_ALLOWED         a name or prefix that is not allowed: too long, not of whole
+ *                                     signs, or a name of no bytes; a panel whose length is over
+ *                                     48, or whose text is not of whole signs; a panel whose held
+ *                                     name is neither of length 0 nor a name that is allowed
  *   3  LABEL_BOOK_COUNT_OUT_OF_RANGE  a completion of 0 or more than LABEL_BOOK_COUNT_MAX entries
  *   4  LABEL_BOOK_NOT_HELD            withdraw, name_of: a name that the book does not hold
  *   5  LABEL_BOOK_FULL                set: a new name where 1,024 are held; merge: more than 1,024
@@ -81,7 +86,7 @@
  *                                     ranges than entries asked for, or the buffers of a run of
  *                                     two lengths
  *   8  LABEL_BOOK_NO_SUCH_KEY         a key that the panel does not have
- *   9  LABEL_BOOK_TEXT_FULL           a key that appends, at 48 bytes
+ *   9  LABEL_BOOK_TEXT_FULL           a key that appends, where its sign does not fit into 48 bytes
  *
  * With a refusal every out value is 0 and no lent byte has changed, those of the ranges and of the
  * panel included. With 0 the out values are as said at each call, and a destination has changed
@@ -119,10 +124,10 @@
  *   label_book_prefix_range       384
  *   label_book_head               320
  *   label_book_build              320
- *   label_book_list               512
+ *   label_book_list               448
  *   label_book_complete         20096
- *   label_book_write_trie      168512
- *   label_book_complete_trie    30720
+ *   label_book_write_trie      170816
+ *   label_book_complete_trie    38528
  *   label_book_press             3584
  *   label_book_run               1280
  *
@@ -149,9 +154,10 @@ extern "C" {
 #endif
 
 /* The version, as text and as a number to compare: 0xAABBCC is AA.BB.CC. In 1.2 the panel's struct
- * has grown: a program that has a panel must be compiled anew. */
-#define LABEL_BOOK_VERSION "1.2.0"
-#define LABEL_BOOK_VERSION_NUMBER 0x010200
+ * has grown: a program that has a panel must be compiled anew. Since 1.3 names may have µ and Ω; a
+ * library before it declines an image with such a name. */
+#define LABEL_BOOK_VERSION "1.3.0"
+#define LABEL_BOOK_VERSION_NUMBER 0x010300
 
 /* The most there can be. */
 #define LABEL_BOOK_NAME_MAX 48      /* bytes of a name or prefix */
@@ -179,12 +185,15 @@ extern "C" {
 #define LABEL_BOOK_TEXT_FULL 9
 
 /* The keys of label_book_press besides 0x20 to 0x7E. A terminal sends other codes for some of them
- * (0x7F for erase, several bytes for an arrow): translate those. */
+ * (0x7F for erase, several bytes for an arrow, the two bytes of µ or of Ω): translate those. A byte
+ * 0x80 or 0x81 that a terminal sends is none of these keys but a part of another sign, as of À. */
 #define LABEL_BOOK_KEY_RECOUNT 0x00
 #define LABEL_BOOK_KEY_UP 0x01
 #define LABEL_BOOK_KEY_DOWN 0x02
 #define LABEL_BOOK_KEY_ERASE 0x08
 #define LABEL_BOOK_KEY_TAKE 0x0D
+#define LABEL_BOOK_KEY_MICRO 0x80
+#define LABEL_BOOK_KEY_OHM 0x81
 
 /* An open range, in which completion from a book keeps where it looks on. The caller only lends the
  * room: what is in it before a call is not read, and after an answer it may be anything. */
@@ -355,7 +364,10 @@ uint8_t label_book_complete_trie(const uint8_t *trie, size_t trie_len,
 /* One key, which changes the panel:
  *
  *   0x20 to 0x7E            appends the byte; highlight 0
- *   LABEL_BOOK_KEY_ERASE    erases the last byte; highlight 0; on empty text nothing
+ *   LABEL_BOOK_KEY_MICRO    appends µ, two bytes; highlight 0
+ *   LABEL_BOOK_KEY_OHM      appends Ω, two bytes; highlight 0
+ *   LABEL_BOOK_KEY_ERASE    erases the last sign, of a µ or Ω both bytes; highlight 0; on empty
+ *                           text nothing
  *   LABEL_BOOK_KEY_UP       moves the highlight up, stopping at row 0
  *   LABEL_BOOK_KEY_DOWN     moves the highlight down, stopping at the last row
  *   LABEL_BOOK_KEY_TAKE     replaces the text by the highlighted name; highlight 0; without rows
@@ -377,9 +389,9 @@ uint8_t label_book_complete_trie(const uint8_t *trie, size_t trie_len,
  *
  * The rows given in are not read, nor the text past len and held past held_len, which an accepted
  * key makes zero.
- * Refusals: 1 the book; 2 len is over LABEL_BOOK_NAME_MAX, or a byte of the text within it is not
- * allowed, or the held name is neither of length 0 nor a name that is allowed; 8 another key; 9 a
- * key that appends, at LABEL_BOOK_NAME_MAX bytes. */
+ * Refusals: 1 the book; 2 len is over LABEL_BOOK_NAME_MAX, or the text is not of whole signs, or
+ * the held name is neither of length 0 nor a name that is allowed; 8 another key; 9 a key that
+ * appends, at LABEL_BOOK_NAME_MAX bytes, or with one byte left and two to append. */
 uint8_t label_book_press(const uint8_t *book, size_t book_len, struct label_book_panel *panel,
                          uint8_t key, size_t *rows);
 

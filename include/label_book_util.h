@@ -48,7 +48,7 @@ static inline const uint8_t *label_book_next_entry(const uint8_t *at, const uint
 }
 
 /* Writes the name of an entry as a C string, with a zero at its end, and gives it. A name that the
- * library wrote holds no zero itself. */
+ * library wrote holds no zero itself; a µ or Ω in it is UTF-8. */
 static inline const char *label_book_name_text(const struct label_book_entry *entry,
                                                char text[LABEL_BOOK_NAME_MAX + 1]) {
     size_t len = entry->name_len;
@@ -66,8 +66,8 @@ static inline const char *label_book_refusal_text(uint8_t number) {
     case LABEL_BOOK_NOT_LAID_OUT:
         return "not laid out as a book, sheet, trie or script, or cut off";
     case LABEL_BOOK_NOT_ALLOWED:
-        return "a name or prefix that is not allowed "
-               "(a name has 1 to 48 bytes, each from 20 to 7E)";
+        return "a name or prefix that is not allowed (a name has 1 to 48 bytes, "
+               "each from 20 to 7E or in a whole µ or Ω)";
     case LABEL_BOOK_COUNT_OUT_OF_RANGE:
         return "the number of names asked for is not 1 to 16";
     case LABEL_BOOK_NOT_HELD:

@@ -90,6 +90,39 @@ static void refused_sets(void) {
     SAME_BYTES(dst, 7, FILL_7);
 }
 
+/* µ and Ω in UTF-8, as a name has them. */
+#define MICRO "\xC2\xB5"
+#define OHM "\xCE\xA9"
+
+static void names_with_signs(void) {
+    static const char *const refused[] = {"\xC2", "\xB5", "\xCE", "\xA9", "10 \xC2", "\xC2\xA9",
+                                          "\xCE\xB5", "\xC3\xB5", "\xC2" MICRO, MICRO "\xB5",
+                                          "\x80", "\x81", "\xC2 ", "k\xE2\x84\xA6"};
+    char name[64];
+    bench_of_e(&bench);
+    GIVES(label_book_set(BOOK, NAME("10 " MICRO "F"), 7, fresh(), 999, &one, &two), LABEL_BOOK_OK,
+          5, E_BYTES + 4 + 2 + 6);
+    SAME_BYTES(dst + 31, 7, "06 31 30 20 C2 B5 46");
+    for (size_t i = 0; i < sizeof refused / sizeof refused[0]; i++) {
+        GIVES(label_book_set(BOOK, NAME(refused[i]), 7, fresh(), 999, &one, &two),
+              LABEL_BOOK_NOT_ALLOWED, 0, 0);
+        GIVES(label_book_prefix_range(BOOK, NAME(refused[i]), &one, &two), LABEL_BOOK_NOT_ALLOWED,
+              0, 0);
+    }
+    for (size_t letters_before = 45; letters_before <= 48; letters_before++) {
+        snprintf(name, sizeof name, "%s" OHM, letters(letters_before));
+        const uint8_t number = letters_before <= 46 ? LABEL_BOOK_OK : LABEL_BOOK_NOT_ALLOWED;
+        SAME(label_book_set(BOOK, NAME(name), 7, fresh(), 999, &one, &two), number);
+    }
+    bench_set(&bench, "10 " MICRO "F", 7);
+    bench_set(&bench, "4.7 k" OHM, 8);
+    GIVES(label_book_prefix_range(BOOK, NAME("10 " MICRO), &one, &two), LABEL_BOOK_OK, 0, 1);
+    GIVES(label_book_head(BOOK, 0, &one, &two), LABEL_BOOK_OK, 36, 6);
+    GIVES(label_book_name_of(BOOK, NAME("4.7 k" OHM), fresh(), 12, &one, &two), LABEL_BOOK_OK, 1,
+          12);
+    SAME_BYTES(dst, 12, "07 34 2E 37 20 6B CE A9 00 00 00 08");
+}
+
 static void ten_names_and_nine(void) {
     char digit[2] = "1";
     bench_empty(&bench);
@@ -262,6 +295,10 @@ static void tries(void) {
     bench_empty(&bench);
     bench_set(&bench, letters(8), 5);
     GIVES(write_trie(99), LABEL_BOOK_OK, 1, 7 + 10 + 2); /* two: with a child field; 2 more */
+    bench_empty(&bench);
+    bench_set(&bench, "abcdef" MICRO, 0); /* the label of 7 bytes ends inside the sign */
+    GIVES(write_trie(99), LABEL_BOOK_OK, 1, 18);
+    SAME_BYTES(dst, 18, "31 00 00 00 12 00 01 1F 09 61 62 63 64 65 66 C2 09 B5");
     bench_of_e(&bench);
     GIVES(write_trie(28), LABEL_BOOK_OK, 4, 28);
     GIVES(write_trie(99), LABEL_BOOK_OK, 4, 28);
@@ -333,6 +370,40 @@ static void keys(void) {
     key_gives(&panel, 0x7F, LABEL_BOOK_NO_SUCH_KEY, 0, 1, 0);
     key_gives(&panel, 'x', LABEL_BOOK_OK, 0, 2, 0);
     holds(&panel, "");
+}
+
+static void keys_of_signs(void) {
+    struct label_book_panel panel;
+    memset(&panel, 0, sizeof panel);
+    bench_empty(&bench);
+    bench_set(&bench, MICRO "A", 7);
+    bench_set(&bench, "4.7 k" OHM, 9);
+    key_gives(&panel, LABEL_BOOK_KEY_MICRO, LABEL_BOOK_OK, 1, 2, 0);
+    SAME_BYTES(panel.text, 3, "C2 B5 00");
+    holds(&panel, MICRO "A");
+    key_gives(&panel, LABEL_BOOK_KEY_OHM, LABEL_BOOK_OK, 0, 4, 0);
+    SAME_BYTES(panel.text, 5, "C2 B5 CE A9 00");
+    key_gives(&panel, LABEL_BOOK_KEY_ERASE, LABEL_BOOK_OK, 1, 2, 0);
+    SAME_BYTES(panel.text, 4, "C2 B5 00 00");
+    key_gives(&panel, LABEL_BOOK_KEY_ERASE, LABEL_BOOK_OK, 2, 0, 0);
+    holds(&panel, "4.7 k" OHM);
+    key_gives(&panel, LABEL_BOOK_KEY_TAKE, LABEL_BOOK_OK, 1, 7, 0);
+    key_gives(&panel, LABEL_BOOK_KEY_ERASE, LABEL_BOOK_OK, 1, 5, 0);
+    key_gives(&panel, LABEL_BOOK_KEY_OHM, LABEL_BOOK_OK, 1, 7, 0);
+    holds(&panel, "4.7 k" OHM);
+    for (int key = 0x7F; key <= 0xFF; key++)
+        if (key != LABEL_BOOK_KEY_MICRO && key != LABEL_BOOK_KEY_OHM)
+            key_gives(&panel, key, LABEL_BOOK_NO_SUCH_KEY, 0, 7, 0);
+    memset(panel.text, 'x', sizeof panel.text);
+    for (panel.len = 47; panel.len <= 48; panel.len++) {
+        key_gives(&panel, LABEL_BOOK_KEY_MICRO, LABEL_BOOK_TEXT_FULL, 0, panel.len, 0);
+        key_gives(&panel, LABEL_BOOK_KEY_OHM, LABEL_BOOK_TEXT_FULL, 0, panel.len, 0);
+    }
+    panel.len = 46;
+    key_gives(&panel, LABEL_BOOK_KEY_OHM, LABEL_BOOK_OK, 0, 48, 0);
+    SAME_BYTES(panel.text + 45, 3, "78 CE A9");
+    panel.len = 47; /* which ends in half a sign */
+    key_gives(&panel, LABEL_BOOK_KEY_ERASE, LABEL_BOOK_NOT_ALLOWED, 0, 47, 0);
 }
 
 /* The highlight given in counts where no name is held, else the held name. */
@@ -442,7 +513,8 @@ static void key_refused(const uint8_t *book, size_t book_len, struct label_book_
 }
 
 static void refused_held_names(void) {
-    static const char *const refused[] = {"\x1F", "\x7F", "rc\x1F", "rc\x7F", "\xFFrc"};
+    static const char *const refused[] = {"\x1F", "\x7F", "rc\x1F", "rc\x7F", "\xFFrc", "rc\xC2",
+                                          "\xB5rc", "r\xCE\xB5"};
     struct label_book_panel panel = panel_with("r", "rc");
     bench_of_e(&bench);
     key_refused(BOOK, panel, 0x7F, LABEL_BOOK_NO_SUCH_KEY);
@@ -567,6 +639,7 @@ int main(void) {
     test("empty: P1", the_empty_book);
     test("set: P3, and its bytes where they were", a_book_by_sets);
     test("set: its refusals; 48 bytes of name and 49", refused_sets);
+    test("set, prefix_range, name_of: names with signs, and with halves of them", names_with_signs);
     test("withdraw, head: P9 and P10, in 130 bytes and in 167; two buckets", ten_names_and_nine);
     test("withdraw: the book from before the name; its refusals", withdrawals);
     test("merge: the first book's scores; its refusals", merges);
@@ -578,9 +651,11 @@ int main(void) {
     test("list, build: E as a sheet and back; refusals", sheets);
     test("complete: P5 to P8", completion_from_a_book);
     test("complete: k 16 and 17, and its other refusals", refused_completions);
-    test("write_trie: P2, P4, lone names of 7 and 8 bytes", tries);
+    test("write_trie: P2, P4, lone names of 7 and 8 bytes, a label cut in a sign", tries);
     test("complete_trie: P5 to P7, k 16 and 17", completion_from_a_trie);
     test("press: every key, and the name that is then held", keys);
+    test("press: the keys of signs, and erasing them; room for two bytes, one and none",
+         keys_of_signs);
     test("press: a highlight given in, with and without a held name", highlights_given_in);
     test("press: the highlight stays on its name while the book is edited", a_name_that_moves);
     test("press: a held name that is no longer offered", a_name_no_longer_offered);

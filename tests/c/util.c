@@ -167,6 +167,9 @@ static void words_of_refusals(void) {
     }
     SAME_TEXT(label_book_refusal_text(LABEL_BOOK_OK), "no refusal");
     SAME_TEXT(label_book_refusal_text(LABEL_BOOK_NOT_HELD), "the book does not hold that name");
+    SAME_TEXT(label_book_refusal_text(LABEL_BOOK_NOT_ALLOWED),
+              "a name or prefix that is not allowed (a name has 1 to 48 bytes, "
+              "each from 20 to 7E or in a whole \xC2\xB5 or \xCE\xA9)");
     SAME_TEXT(label_book_refusal_text(10), "no such refusal");
     SAME_TEXT(label_book_refusal_text(255), "no such refusal");
 }
@@ -190,6 +193,11 @@ static void rows_of_e(void) {
     same_entry(&rows.row[0], "rl", 12);
     same_entry(&rows.row[1], "rc", 9);
     same_entry(&rows.row[2], "rc step", 9);
+    bench_set(&bench, "r\xC2\xB5", 1);
+    panel = panel_of("r\xC2\xB5", 3);
+    SAME(label_book_rows_of(bench_book(&bench), bench_bytes(&bench), &panel, &rows), LABEL_BOOK_OK);
+    SAME(rows.count, 1);
+    same_entry(&rows.row[0], "r\xC2\xB5", 1);
     panel = panel_of("q", 1);
     SAME(label_book_rows_of(bench_book(&bench), bench_bytes(&bench), &panel, &rows), LABEL_BOOK_OK);
     SAME(rows.count, 0);
@@ -248,6 +256,7 @@ static void refused_rows(void) {
     refused_as_by_a_key(book, len, panel_of("r", 49), LABEL_BOOK_NOT_ALLOWED);
     refused_as_by_a_key(book, len, panel_of("r", (size_t)-1), LABEL_BOOK_NOT_ALLOWED);
     refused_as_by_a_key(book, len, panel_of("r\x1F", 2), LABEL_BOOK_NOT_ALLOWED);
+    refused_as_by_a_key(book, len, panel_of("r\xC2\xB5", 2), LABEL_BOOK_NOT_ALLOWED);
     refused_as_by_a_key(book, len - 1, panel_of("r", 1), LABEL_BOOK_NOT_LAID_OUT);
     refused_as_by_a_key(book, len - 1, panel_of("r", 49), LABEL_BOOK_NOT_LAID_OUT);
     refused_as_by_a_key(NULL, 0, panel_of("r", 1), LABEL_BOOK_NOT_LAID_OUT);

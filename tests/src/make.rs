@@ -12,16 +12,28 @@ pub enum Names {
     LongPrefix,
     /// 48 bytes each, different near the end
     Full,
-    /// any length and any allowed bytes, the least and the greatest often
+    /// any length and any allowed signs, the least and the greatest often
     Any,
     /// names that begin each other
     Chain,
-    /// words that share beginnings of any length with an earlier name
+    /// words that share beginnings of any length with an earlier name, each sign of one byte
     Mixed,
+    /// of few different signs, µ and Ω among them, which begin at any place of a name, to its end
+    Signs,
+    /// as mixed, with µ and Ω
+    Units,
 }
 
-pub const NAMES: [Names; 6] =
-    [Names::Short, Names::LongPrefix, Names::Full, Names::Any, Names::Chain, Names::Mixed];
+pub const NAMES: [Names; 8] = [
+    Names::Short,
+    Names::LongPrefix,
+    Names::Full,
+    Names::Any,
+    Names::Chain,
+    Names::Mixed,
+    Names::Signs,
+    Names::Units,
+];
 
 #[derive(Clone, Copy, Debug)]
 pub enum Scores {
@@ -43,6 +55,12 @@ pub enum Places {
 
 pub const PLACES: [Places; 3] = [Places::Mixed, Places::Before, Places::Behind];
 
+/// The halves of µ and Ω, each of which is not allowed by itself.
+pub const HALVES: [u8; 4] = [0xC2, 0xB5, 0xCE, 0xA9];
+
+/// Bytes that are not allowed in any name.
+const NEVER_ALLOWED: [u8; 8] = [0, 0x1F, 0x7F, 0x80, 0x81, 0xB6, 0xC3, 0xFF];
+
 fn word(random: &mut Random, letters: &[u8], first: usize, last: usize) -> Vec<u8> {
     let count = random.between(first, last);
     (0..count).map(|_| random.pick(letters)).collect()
@@ -56,6 +74,52 @@ fn allowed_byte(random: &mut Random) -> u8 {
     }
 }
 
+/// A sign that is allowed, in one byte or in two.
+fn sign(random: &mut Random) -> char {
+    match random.below(6) {
+        0 => random.pick(&[MICRO, OHM]),
+        _ => allowed_byte(random) as char,
+    }
+}
+
+/// Signs one behind the other, as many as fit.
+fn filled(mut signs: impl FnMut() -> char, room: usize) -> Vec<u8> {
+    let mut name = String::new();
+    loop {
+        let sign = signs();
+        if name.len() + sign.len_utf8() > room {
+            return name.into_bytes();
+        }
+        name.push(sign);
+    }
+}
+
+/// The front of a text without what is cut: at most so many bytes, and no half of a sign at the
+/// end.
+pub fn whole(mut text: Vec<u8>, most: usize) -> Vec<u8> {
+    text.truncate(most);
+    while !is_prefix(&text) {
+        text.pop();
+    }
+    text
+}
+
+/// The beginning of a name, of whole signs.
+pub fn beginning(random: &mut Random, name: &[u8]) -> Vec<u8> {
+    whole(name.to_vec(), random.below(name.len() + 1))
+}
+
+/// Some bytes that are not allowed: half a sign, halves of two, a byte that is never allowed.
+fn wrong_sign(random: &mut Random) -> Vec<u8> {
+    match random.below(6) {
+        0 | 1 => vec![random.pick(&HALVES)],
+        2 => random.pick(&[[0xC2, 0xA9], [0xCE, 0xB5], [0xB5, 0xC2], [0xC3, 0xB5]]).to_vec(),
+        3 => vec![random.pick(&HALVES), allowed_byte(random)],
+        4 => vec![random.pick(&HALVES), random.pick(&HALVES)],
+        _ => vec![random.pick(&NEVER_ALLOWED)],
+    }
+}
+
 /// An allowed name. `held` may lend its beginning.
 pub fn name(random: &mut Random, names: Names, held: &Entries) -> Vec<u8> {
     match names {
@@ -63,12 +127,12 @@ pub fn name(random: &mut Random, names: Names, held: &Entries) -> Vec<u8> {
         Names::LongPrefix => [vec![b'x'; 40], word(random, b"xyz", 0, 8)].concat(),
         Names::Full => [vec![b'~'; 38], word(random, b" ~", 10, 10)].concat(),
         Names::Any => {
-            let count = random.between(1, LONGEST_NAME);
-            (0..count).map(|_| allowed_byte(random)).collect()
+            let room = random.between(2, LONGEST_NAME);
+            filled(|| sign(random), room)
         }
         Names::Chain => {
-            let count = random.between(1, LONGEST_NAME);
-            vec![random.between(0x20, 0x7E) as u8; count]
+            let (sign, room) = (sign(random), random.between(2, LONGEST_NAME));
+            filled(|| sign, room)
         }
         Names::Mixed => {
             let start = some_name(random, held);
@@ -77,7 +141,23 @@ pub fn name(random: &mut Random, names: Names, held: &Entries) -> Vec<u8> {
             let mut name = start[..kept].to_vec();
             name.extend((0..added).map(|_| allowed_byte(random)));
             name.truncate(LONGEST_NAME);
-            name
+            if is_name(&name) {
+                name
+            } else {
+                self::name(random, Names::Short, held)
+            }
+        }
+        Names::Signs => {
+            let letters = random.below(8);
+            let room = random.pick(&[2, 3, 5, 7, 8, 9, 14, 15, 20, 47, 48]);
+            let end = filled(|| random.pick(&['a', MICRO, MICRO, OHM]), room);
+            whole([vec![b'a'; letters], end].concat(), LONGEST_NAME)
+        }
+        Names::Units => {
+            let start = some_name(random, held);
+            let start = beginning(random, &start);
+            let room = random.between(2, LONGEST_NAME.min(20));
+            whole([start, filled(|| sign(random), room)].concat(), LONGEST_NAME)
         }
     }
 }
@@ -137,12 +217,12 @@ pub fn pair(
 /// A name or prefix to ask for: held, close to a held one, allowed or not.
 pub fn asked(random: &mut Random, held: &Entries) -> Vec<u8> {
     let mut name = some_name(random, held);
-    match random.below(12) {
+    match random.below(15) {
         0..=3 => {}
         4 => {
             name.pop();
         }
-        5 => name.push(allowed_byte(random)),
+        5 => name.extend(sign(random).to_string().bytes()),
         6 => {
             let kept = random.below(name.len() + 1);
             name.truncate(kept);
@@ -153,16 +233,100 @@ pub fn asked(random: &mut Random, held: &Entries) -> Vec<u8> {
         }
         8 if !name.is_empty() => {
             let at = random.below(name.len());
-            name[at] = random.pick(&[0, 0x1F, 0x7F, 0x80, 0xFF]);
+            name[at] = random.pick(&NEVER_ALLOWED);
         }
         9 => {
             let length = random.pick(&[0, 1, 47, 48, 49, 50, 255, 256, 257, 1000]);
             name.resize(length, b'x');
         }
         10 => name = self::name(random, Names::Short, held),
+        11 => name = spoiled(random, &name),
+        // 43 to 50 bytes that end in a sign, or in half of it.
+        12 => {
+            let length = random.between(42, 48);
+            name.resize(length, b'x');
+            name.extend(random.pick(&[MICRO, OHM]).to_string().bytes());
+            name.truncate(length + random.between(1, 2));
+        }
+        13 => name = beginning(random, &name),
         _ => name = self::name(random, Names::Any, held),
     }
     name
+}
+
+/// A name with bytes in it that are not allowed there, at any place, or instead of one byte or two
+/// of it.
+fn spoiled(random: &mut Random, name: &[u8]) -> Vec<u8> {
+    let (at, instead) = (random.below(name.len() + 1), random.below(3));
+    let end = (at + instead).min(name.len());
+    [&name[..at], &wrong_sign(random), &name[end..]].concat()
+}
+
+/// The entries with a name that is not allowed among them: of whole signs but for one.
+pub fn with_a_wrong_name(random: &mut Random, entries: &Entries) -> Entries {
+    let mut wrong = entries.clone();
+    let name = some_name(random, entries);
+    if random.chance(2) {
+        wrong.remove(&name);
+    }
+    for _ in 0..20 {
+        let name = spoiled(random, &name);
+        if !name.is_empty() && name.len() <= LONGEST_NAME && !is_name(&name) {
+            wrong.insert(name, random.below(9) as u32);
+            break;
+        }
+    }
+    wrong
+}
+
+/// The book of entries with one record put in another way: as much of the name before as is said,
+/// often to the inside of a sign, and the rest of the name, or whole signs, or halves.
+pub fn respelled(random: &mut Random, entries: &Entries) -> Vec<u8> {
+    let names: Vec<&Vec<u8>> = entries.keys().collect();
+    let image = book::image(entries);
+    let Some(i) = (1..names.len()).rev().find(|&i| i % book::BUCKET != 0 && random.chance(3))
+    else {
+        return image;
+    };
+    let (before, name) = (names[i - 1], names[i]);
+    let places: Vec<usize> =
+        (1..=before.len()).filter(|&at| text(&before[..at]).is_none()).collect();
+    let kept = match places[..] {
+        [_, ..] if !random.chance(3) => random.pick(&places),
+        _ => random.below(before.len() + 1),
+    };
+    let rest = match random.below(4) {
+        0 => name.get(kept..).unwrap_or_default().to_vec(),
+        1 => {
+            let room = random.between(2, 5);
+            filled(|| sign(random), room)
+        }
+        2 => random.pick(&[MICRO, OHM]).to_string().into_bytes(),
+        _ => wrong_sign(random),
+    };
+    let old = common(before, name);
+    let (front, length) = (record_at(&names, entries.len(), i), 2 + name.len() - old);
+    let new = [&[kept as u8, rest.len() as u8][..], &rest].concat();
+    let mut bytes = [&image[..front], &new, &image[front + length..]].concat();
+    let grown = bytes.len() as isize - image.len() as isize;
+    let total = (bytes.len() as u32).to_be_bytes();
+    bytes[1..5].copy_from_slice(&total);
+    for bucket in i / book::BUCKET + 1..entries.len().div_ceil(book::BUCKET) {
+        let at = 7 + 4 * entries.len() + 2 * bucket;
+        let offset = u16::from_be_bytes([bytes[at], bytes[at + 1]]) as isize + grown;
+        bytes[at..at + 2].copy_from_slice(&(offset as u16).to_be_bytes());
+    }
+    bytes
+}
+
+/// Where the record of a position begins in a book of n names.
+fn record_at(names: &[&Vec<u8>], n: usize, position: usize) -> usize {
+    let tables = 7 + 4 * n + 2 * n.div_ceil(book::BUCKET) + 2 * n.div_ceil(book::BLOCK);
+    let lengths = (0..position).map(|i| match i % book::BUCKET {
+        0 => 1 + names[i].len(),
+        _ => 2 + names[i].len() - common(names[i - 1], names[i]),
+    });
+    tables + lengths.sum::<usize>()
 }
 
 /// A number to ask for near a limit, or far from all.
@@ -218,10 +382,19 @@ pub fn room(random: &mut Random, needed: usize) -> usize {
     }
 }
 
+/// A place in an image at a half of a sign or beside one; any place if there is none.
+fn beside_a_sign(random: &mut Random, image: &[u8]) -> usize {
+    let halves: Vec<usize> = (0..image.len()).filter(|&at| HALVES.contains(&image[at])).collect();
+    match halves[..] {
+        [] => random.below(image.len()),
+        _ => (random.pick(&halves) + random.pick(&[0, 0, 1, 1, 2])).clamp(1, image.len()) - 1,
+    }
+}
+
 /// An image with a byte, a field or its length changed.
 pub fn damaged(random: &mut Random, image: &[u8]) -> Vec<u8> {
     let mut bytes = image.to_vec();
-    match random.below(10) {
+    match random.below(12) {
         0 => bytes.truncate(random.below(image.len())),
         1 => {
             let more = random.between(1, 20);
@@ -268,6 +441,14 @@ pub fn damaged(random: &mut Random, image: &[u8]) -> Vec<u8> {
         7 => {
             let (a, b) = (random.below(bytes.len()), random.below(bytes.len()));
             bytes.swap(a, b);
+        }
+        8 | 9 if !bytes.is_empty() => {
+            let at = beside_a_sign(random, &bytes);
+            bytes[at] = match random.below(4) {
+                0 => allowed_byte(random),
+                1 => bytes[at].wrapping_add(random.pick(&[1, 255])),
+                _ => random.pick(&HALVES),
+            };
         }
         _ => {
             let at = random.below(bytes.len());
@@ -324,21 +505,18 @@ pub fn held_name(
             let length = random.below(name.len() + 1);
             return (in_front(random, &name), length);
         }
-        4 => name.push(allowed_byte(random)),
+        4 => name.extend(sign(random).to_string().bytes()),
         5 => name.resize(LONGEST_NAME, b' '),
         6 => name = self::name(random, Names::Any, entries),
         7 => name.clear(),
-        8 | 9 if !name.is_empty() => {
-            let at = random.below(name.len());
-            name[at] = random.pick(&[0, 0x1F, 0x7F, 0x80, 0xFF]);
-        }
+        8 | 9 => name = spoiled(random, &name),
         10 => {
             let lengths = [49, 50, 64, 256, 1 << 32, (1 << 32) + name.len(), usize::MAX];
             return (in_front(random, &name), random.pick(&lengths));
         }
         _ => {}
     }
-    // A name of 49 bytes loses its last byte, not its length.
+    // A name of more bytes loses the last ones, not its length.
     (in_front(random, &name), name.len())
 }
 
@@ -357,16 +535,17 @@ pub fn panel_of(
     panel
 }
 
-/// A panel that nobody typed on: the start of a name of the book or what is close to it, any row,
-/// any held name.
+/// A panel that nobody typed on: the start of a name of the book or what is close to it, now and
+/// then cut inside a sign, any row, any held name.
 pub fn panel(random: &mut Random, entries: &Entries) -> Panel {
     let mut text = some_name(random, entries);
     match random.below(8) {
         0 => text = asked(random, entries),
         1 => {}
-        2 | 3 => text.truncate(random.below(text.len() + 1)),
+        2 => text.truncate(random.below(text.len() + 1)),
+        3 => text = beginning(random, &text),
         // Short, so that there are rows.
-        _ => text.truncate(random.below(3)),
+        _ => text = whole(text, random.below(4)),
     }
     let (held, held_len) = held_name(random, entries, &text);
     let len = if random.chance(20) { number(random, LONGEST_NAME) } else { text.len() };
@@ -374,13 +553,21 @@ pub fn panel(random: &mut Random, entries: &Entries) -> Panel {
     Panel { text: in_front(random, &text), len, highlight, rows, held, held_len }
 }
 
-/// A key: any byte, one that is no sign or next to one of these, the next byte of a name on a row.
+/// A key: any byte, one that is no sign or next to one of these, the next sign of a name on a row.
 pub fn key(random: &mut Random, entries: &Entries, text: &[u8]) -> u8 {
     match random.below(10) {
+        0 if random.chance(2) => random.pick(&[key::MICRO, key::OHM]),
         0 => random.byte(),
-        1 => random.pick(&[0x03, 0x07, 0x09, 0x0C, 0x0E, 0x1F, b' ', b'~', 0x7F, 0x80, 0xFF]),
+        1 => random.pick(&[
+            0x03, 0x07, 0x09, 0x0C, 0x0E, 0x1F, b' ', b'~', 0x7F, 0x82, 0xA9, 0xB5, 0xC2, 0xCE,
+            0xFF,
+        ]),
         2..=6 => random.pick(&[key::RECOUNT, key::UP, key::DOWN, key::DOWN, key::ERASE, key::TAKE]),
-        _ => offered(random, entries, text).get(text.len()).copied().unwrap_or(b'a'),
+        _ => match offered(random, entries, text).get(text.len()) {
+            Some(0xC2) => key::MICRO,
+            Some(0xCE) => key::OHM,
+            byte => byte.copied().unwrap_or(b'a'),
+        },
     }
 }
 
@@ -404,9 +591,9 @@ pub fn edit(random: &mut Random, entries: &mut Entries, panel: &Panel) {
         }
         _ => {
             let start = if is_prefix(panel.typed()) { panel.typed() } else { &[] };
-            let mut new = [start, &word(random, b"abcxyz ~", 1, 4)].concat();
-            new.truncate(LONGEST_NAME);
-            entries.insert(new, score);
+            let end = if random.chance(4) { sign(random).to_string().into_bytes() } else { vec![] };
+            let new = [start, &word(random, b"abcxyz ~", 1, 4), &end].concat();
+            entries.insert(whole(new, LONGEST_NAME), score);
         }
     }
 }

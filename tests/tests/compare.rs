@@ -14,6 +14,8 @@ mod histories;
 mod panels;
 #[path = "compare/scripts.rs"]
 mod scripts;
+#[path = "compare/signs.rs"]
+mod signs;
 
 /// Longer than every image.
 const LONG_BUFFER: usize = 70_000;
@@ -115,7 +117,7 @@ fn sizes(compare: &mut Compare, random: &mut Random, rounds: usize) {
 /// Images cut at every place, and with every byte changed.
 fn every_place(compare: &mut Compare, random: &mut Random, values: usize) {
     for n in [0, 1, 2, 4, 8, 9, 16, 17] {
-        let names = random.pick(&NAMES);
+        let names = if random.chance(2) { Names::Signs } else { random.pick(&NAMES) };
         let held = make::entries(random, n, names, Scores::Few);
         for image in [book::image(&held), sheet::image(&held), trie::image(&held)] {
             for at in 0..image.len() {
@@ -130,6 +132,9 @@ fn every_place(compare: &mut Compare, random: &mut Random, values: usize) {
                     bytes[at] = bytes[at].wrapping_add(step);
                     any_image(compare, random, &bytes, &held);
                 }
+                let mut bytes = image.clone();
+                bytes[at] = random.pick(&make::HALVES);
+                any_image(compare, random, &bytes, &held);
             }
         }
     }
@@ -192,7 +197,19 @@ fn damage(compare: &mut Compare, random: &mut Random, rounds: usize) {
                 any_image(compare, random, &bytes, &held);
             }
         }
+        wrong_signs(compare, random, &held);
     }
+}
+
+/// Images that are laid out right but for a name in them, and a book with a record that keeps more
+/// or less of the name before, often up to the inside of a sign.
+fn wrong_signs(compare: &mut Compare, random: &mut Random, held: &Entries) {
+    let wrong = make::with_a_wrong_name(random, held);
+    for image in [book::image(&wrong), sheet::image(&wrong), trie::image(&wrong)] {
+        any_image(compare, random, &image, held);
+    }
+    let buffer = make::respelled(random, held);
+    any_image(compare, random, &buffer, held);
 }
 
 /// Buffers of any bytes, with a front that looks like an image's.
@@ -207,7 +224,7 @@ fn noise(compare: &mut Compare, random: &mut Random, rounds: usize) {
             bytes[5] = 0;
             bytes[6] = random.below(4) as u8;
             for byte in &mut bytes[7..] {
-                *byte = random.pick(&[0, 0, 1, 2, 8, 9, 0x19, 0x41, 0x4A, 0x61, *byte]);
+                *byte = random.pick(&[0, 0, 1, 2, 8, 9, 0x19, 0x41, 0x4A, 0x61, 0xC2, 0xB5, *byte]);
             }
         }
         any_image(compare, random, &bytes, &Entries::new());
@@ -220,7 +237,7 @@ fn lists(compare: &mut Compare, random: &mut Random, book: &[u8], held: &Entries
     assert_eq!(told.0, 0);
     for _ in 0..4 {
         let name = make::some_name(random, held);
-        let prefix = &name[..random.below(name.len() + 1)];
+        let prefix = &make::beginning(random, &name)[..];
         let k = random.between(1, 16);
         let dst = vec![0; 53 * k];
         let (a, from_book) = compare.complete(book, prefix, k, &dst, k);
@@ -392,8 +409,9 @@ fn round(compare: &mut Compare, seed: u64) {
     worked_merges(compare);
     worked_run(compare);
     panels::worked(compare);
-    sizes(compare, &mut random, 40);
-    every_place(compare, &mut random, 6);
+    signs::worked(compare);
+    sizes(compare, &mut random, 30);
+    every_place(compare, &mut random, 5);
     damage(compare, &mut random, 600);
     noise(compare, &mut random, 40_000);
     for buffer in 0..12 {
@@ -403,17 +421,17 @@ fn round(compare: &mut Compare, seed: u64) {
         let (buffer, names) = (random.between(7, 900), random.pick(&NAMES));
         histories::history(compare, &mut random, buffer, 150, names);
     }
-    for names in [Names::Mixed, Names::Any] {
+    for names in [Names::Units, Names::Any] {
         histories::history(compare, &mut random, 57_344, 1800, names);
     }
-    for (length, names) in [(57_344, Names::Mixed), (57_344, Names::Any), (20_000, Names::Any)] {
+    for (length, names) in [(57_344, Names::Mixed), (57_344, Names::Units), (20_000, Names::Any)] {
         histories::long_history(compare, &mut random, length, 20_000, names);
     }
     for (length, names) in [7, 18, 25, 130, 300, 900, 3000]
         .into_iter()
         .flat_map(|length| NAMES.map(|names| (length, names)))
     {
-        histories::long_history(compare, &mut random, length, 10_000, names);
+        histories::long_history(compare, &mut random, length, 8000, names);
     }
     scripts::hostile_scripts(compare, &mut random, 40);
     scripts::hostile_calls(compare, &mut random);

@@ -175,7 +175,7 @@ fn given() -> Given {
     let none = Entries::new();
     let call = |kind, name: &[u8]| Call { kind, score: 9, name: name.to_vec() };
     let calls = [call(Kind::Set, b"rc"), call(Kind::Set, b""), call(Kind::Withdraw, b"rc")];
-    let names = [&b""[..], b"rc", b"r", b"zz", b"\x7F", &[b'x'; NAME_MAX + 1]];
+    let names = [&b""[..], b"rc", b"r\xC2\xB5", b"zz", b"\xC2", &[b'x'; NAME_MAX + 1]];
     Given {
         books: with_cut([book::image(&none), book::image(&some)]),
         names: names.map(<[u8]>::to_vec).into(),
@@ -271,7 +271,7 @@ fn panel(len: usize, held_len: usize) -> Vec<u8> {
 
 fn pressing(tried: &mut Tried, given: &Given) {
     let lengths = [0, 1, NAME_MAX, NAME_MAX + 1];
-    let keys = [key::RECOUNT, key::TAKE, b'r', 3];
+    let keys = [key::RECOUNT, key::TAKE, key::MICRO, 3];
     for (book, ((&len, &held_len), &key)) in
         pairs(&given.books, &triples(&lengths, &lengths, &keys).collect::<Vec<_>>())
     {

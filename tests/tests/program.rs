@@ -119,6 +119,8 @@ fn main() {
         b"\n".to_vec(),
         b"\n\n".to_vec(),
         b"set 5 ac".to_vec(),
+        "set 5 10 µF\nset 9 4.7 kΩ\ntop 5 10 µ\ntop 5 4.7 kΩ\ndel µ\ndel 10 µF".into(),
+        b"set 5 10 \xC2\nset 5 \xB5F\ntop 1 \xCE\ndel \xCE\xB5\nset 1 \xC3\xA4\n".to_vec(),
         full,
         vec![b'x'; 200_000],
     ];

@@ -114,6 +114,111 @@ fn erasing() {
     window.press_and_see(b"a", &shown("a", &[(5, "ac")]));
 }
 
+/// What a terminal sends for µ and for Ω.
+const MICRO: &[u8] = "µ".as_bytes();
+const OHM: &[u8] = "Ω".as_bytes();
+
+const UNITS: [(&str, u32); 5] = [("10 µA", 4), ("10 µF", 5), ("4.7 kΩ", 9), ("µA", 7), ("Ω", 3)];
+
+/// What is shown of the book of units for a text, with these rows.
+fn shown_of_units(text: &str, rows: &[(u32, &str)]) -> Shown {
+    Shown { names: UNITS.len(), ..shown(text, rows) }
+}
+
+/// µ and Ω are typed by their bytes, also where these are read apart, erased whole, shown in one
+/// column each, and taken.
+fn signs() {
+    let mut window = Window::new("signs", &book(&UNITS));
+    let all = [(9, "4.7 kΩ"), (7, "µA"), (5, "10 µF"), (4, "10 µA"), (3, "Ω")];
+    window.see(&shown_of_units("", &all));
+    window.press_and_see(MICRO, &shown_of_units("µ", &[(7, "µA")]));
+    window.press_and_see(OHM, &shown_of_units("µΩ", &[]));
+    window.press_and_see(b"\x7F", &shown_of_units("µ", &[(7, "µA")]));
+    window.press_and_see(b"\x08", &shown_of_units("", &all));
+    window.press_and_see(b"10 ", &shown_of_units("10 ", &[(5, "10 µF"), (4, "10 µA")]));
+    window.press_and_see(MICRO, &shown_of_units("10 µ", &[(5, "10 µF"), (4, "10 µA")]));
+    window.press_and_see(b"A", &shown_of_units("10 µA", &[(4, "10 µA")]));
+    window.press_and_see(b"\x7F\x7F", &shown_of_units("10 ", &[(5, "10 µF"), (4, "10 µA")]));
+    let taken = Shown {
+        loaded: "loaded 10 µA, score 4".into(),
+        ..shown_of_units("10 µA", &[(4, "10 µA")])
+    };
+    window.press_and_see(&[DOWN, b"\r"].concat(), &taken);
+    let erased = Shown { loaded: taken.loaded.clone(), ..shown_of_units("", &all) };
+    window.press_and_see(&b"\x7F".repeat(5), &erased);
+    // The panel reads 48 bytes at a time.
+    let split = [&b"\x7F".repeat(47), MICRO, b"\x7F"].concat();
+    window.press_and_see(&split, &erased);
+    let rows = [(9, "4.7 kΩ")];
+    let wanted = Shown { loaded: taken.loaded, ..shown_of_units("4.7 kΩ", &rows) };
+    window.press_and_see(&[&b"4.7 k"[..], OHM].concat(), &wanted);
+}
+
+/// Other signs, of two, three and four bytes, and bytes of signs by themselves: none of them
+/// presses the keys 80 and 81, nor does µ in an encoding of one byte.
+fn other_signs() {
+    let mut window = Window::new("other signs", &book(&UNITS));
+    let sent: [(&[u8], &str); 14] = [
+        ("ä".as_bytes(), "C3"),
+        ("À".as_bytes(), "C3"),
+        ("\u{81}".as_bytes(), "C2"),
+        ("©".as_bytes(), "C2"),
+        ("ε".as_bytes(), "CE"),
+        ("\u{3BC}".as_bytes(), "CE"),
+        ("\u{2126}".as_bytes(), "E2"),
+        ("\u{2001}".as_bytes(), "E2"),
+        ("\u{10041}".as_bytes(), "F0"),
+        (b"\x80", "FF"),
+        (b"\x81", "FF"),
+        (b"\xB5", "B5"),
+        (b"\xFE", "FE"),
+        (b"\xC1\x80", "FF"),
+    ];
+    let mut typed = String::new();
+    for (sent, byte) in sent {
+        window.pty.send(sent);
+        window.wait_for_news(&format!("key {byte} refused, 8: the panel has no such key"));
+        window.pty.send(b"z");
+        typed.push('z');
+        window.wait_for_news("");
+        window.see(&shown_of_units(&typed, &[]));
+    }
+    // Half a sign and a pause; half a sign that another key cuts, or Esc.
+    for half in [&MICRO[..1], &OHM[..1], b"\xE2\x80"] {
+        window.pty.send(half);
+        window.wait_for_news(&format!("key {:02X} refused, 8: the panel has no such key", half[0]));
+        typed.push('z');
+        window.press_and_see(&[half, b"z"].concat(), &shown_of_units(&typed, &[]));
+        let cut = [half, UP, b"\x80", half, b"\x7F", half].concat();
+        typed.pop();
+        typed.push('µ');
+        window.press_and_see(&[&cut, MICRO].concat(), &shown_of_units(&typed, &[]));
+    }
+}
+
+/// 46 letters and a sign fill the text; behind 47 there is no room for one.
+fn full_of_signs() {
+    let longest = "x".repeat(46) + "Ω";
+    let mut window = Window::new("full of signs", &book(&[(&longest, 7)]));
+    let at = |text: String, rows| Shown { names: 1, ..shown(&text, rows) };
+    let rows = [(7, &longest[..])];
+    window.press_and_see(&b"x".repeat(46), &at("x".repeat(46), &rows));
+    window.press_and_see(OHM, &at(longest.clone(), &rows));
+    let full = |key: &str| format!("key {key} refused, 9: the panel's text is full");
+    for (sent, key) in [(&b"x"[..], "78"), (MICRO, "80"), (OHM, "81")] {
+        window.pty.send(sent);
+        window.wait_for_news(&full(key));
+        window.see(&Shown { news: full(key), ..at(longest.clone(), &rows) });
+    }
+    window.press_and_see(b"\x7Fx", &at("x".repeat(47), &[]));
+    for (sent, key) in [(MICRO, "80"), (OHM, "81")] {
+        window.pty.send(sent);
+        window.wait_for_news(&full(key));
+        window.see(&Shown { news: full(key), ..at("x".repeat(47), &[]) });
+    }
+    window.press_and_see(b"x", &at("x".repeat(48), &[]));
+}
+
 /// Keys that the panel does not have, as a terminal sends them. The next key clears the line.
 fn refused() {
     let mut window = Window::new("refused", &lesson());
@@ -347,7 +452,7 @@ struct Bench {
 
 impl Bench {
     fn shown(&self) -> Shown {
-        let text = |name: &[u8]| String::from_utf8(name.to_vec()).expect("names are ASCII");
+        let text = |name: &[u8]| String::from_utf8(name.to_vec()).expect("names are UTF-8");
         let offered = self.book.complete(self.panel.typed(), PANEL_ROWS).expect("a prefix");
         Shown {
             names: self.book.entries(),
@@ -366,13 +471,15 @@ impl Bench {
         }
         let name = self.panel.typed();
         let found = self.book.find(name).expect("a name").expect("which the book holds");
-        self.loaded = format!("loaded {}, score {}", name.escape_ascii(), found.score);
+        let name = std::str::from_utf8(name).expect("names are UTF-8");
+        self.loaded = format!("loaded {name}, score {}", found.score);
     }
 
     /// A name of few letters, new or with another score.
     fn set_any(&mut self, random: &mut Random) {
-        let name: Vec<u8> = (0..random.between(1, 4)).map(|_| random.pick(b"rlc ")).collect();
-        self.book.set(&name, random.below(9) as u32).expect("a name and room for it");
+        let signs = ['r', 'l', 'c', ' ', 'µ', 'Ω'];
+        let name: String = (0..random.between(1, 4)).map(|_| random.pick(&signs)).collect();
+        self.book.set(name.as_bytes(), random.below(9) as u32).expect("a name and room for it");
     }
 
     /// Some of the names offered.
@@ -384,7 +491,10 @@ impl Bench {
 }
 
 /// What is sent for each key.
-const KEYS: [(&[u8], u8); 11] = [
+const KEYS: [(&[u8], u8); 14] = [
+    (MICRO, key::MICRO),
+    (OHM, key::OHM),
+    ("ä".as_bytes(), 0xC3),
     (b"r", b'r'),
     (b"l", b'l'),
     (b"c", b'c'),
@@ -437,7 +547,7 @@ fn any_keys() {
 /// Screens that are too small: lines are cut, those that do not fit are left out. A screen that
 /// becomes larger or smaller is drawn again.
 fn small_screens() {
-    let name = "abcdefghijklmnopqrstuvwxyz0123456789";
+    let name = "abcdefghijklmnopµrstuvwxyz01234567Ω9";
     let rows = vec![(1, name.to_string())];
     let mut window = Window::of_size("small screens", &book(&[(name, 1)]), (8, 30));
     window.pty.send(b"a");
@@ -578,8 +688,11 @@ fn not_started(case: &str, command: &str, message: &str, status: i32) {
     assert_eq!(window.screen.line(2), format!("left with {status}"), "{case}");
 }
 
-const CASES: [fn(); 22] = [
+const CASES: [fn(); 25] = [
     typing,
+    signs,
+    other_signs,
+    full_of_signs,
     highlight,
     erasing,
     refused,

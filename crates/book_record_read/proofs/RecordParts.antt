@@ -23,8 +23,8 @@ use Rattle.book_laws.specs.Cursor.{recordIs}
 use Rattle.book_record_read.specs.declared.Part.the-variants.{Bad, Own}
 use Rattle.book_record_read.proofs.Standing.{head-stands, tail-stands}
 
--- A name that keeps the first k bytes of prev and goes on with v: its bytes, its order. Where no half is open behind the
--- kept bytes, the name is allowed exactly if v is.
+-- A name that keeps the first k bytes of prev and goes on with v: its bytes, its order. Where no half is open behind
+-- the kept bytes, the name is allowed exactly if v is.
 allowed-kept : (k : ℕ) (prev v : List ℕ) → halfAfter noHalf (take k prev) ≡ noHalf
     → allowedBytes (take k prev ++ v) ≡ allowedBytes v
 allowed-kept k prev v e = allowed-append (take k prev) v ∙ rw e (sym (allowed-half v))

@@ -25,7 +25,8 @@ module _ (w : List ℕ) (i : ℕ) (h : i < length w) where
   sign-plain t = rw (drop-next w i h) (first-one (getD w i 0) (drop (i + 1) w) t)
 
   pub sign-cut : isPlain (getD w i 0) ≡ false → length w - i < 2 → firstSign (drop i w) ≡ 0
-  sign-cut t l = let e : drop (i + 1) w ≡ [] = drop-of-length-le w {i = i + 1} (omega arith) in rw (drop-next w i h, e, t)
+  sign-cut t l = let e : drop (i + 1) w ≡ [] = drop-of-length-le w {i = i + 1} (omega arith) in
+      rw (drop-next w i h, e, t)
 
   pub sign-two : isPlain (getD w i 0) ≡ false → 2 ≤ length w - i
       → firstSign (drop i w) ≡ (if isPair (getD w i 0) (getD w (i + 1) 0) then 2 else 0)

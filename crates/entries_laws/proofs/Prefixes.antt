@@ -1,16 +1,18 @@
--- An allowed prefix with signs behind it, and without its last sign.
+-- Texts of whole signs: an allowed prefix with signs behind it and without its last sign, a text as a list of signs.
 use Prim.Native.Nat.{_+_, _-_, _≤_, suc, ℕ}
 use mathlib.Core.Path.{_∙_, _≡_, ap, refl, sym}
-use mathlib.Core.Bool.{false, false≢true, true}
+use mathlib.Core.Bool.{Bool, false, false≢true, true}
 use mathlib.Core.List.{List, [], _++_, _∷_}
 use lib.Dec.{eqb, leb}
-use lib.ListN.{getD, length, length-append, length-take, take}
-use lib.Seq.{take-append-add}
+use lib.ListN.{drop, getD, length, length-append, length-take, take, take-append-drop}
 use native.Mathlib.Omega.{arith}
 use borrow.Author.Tests.{eqb-true, le-leb, leb-true, ne-eqb}
 use Rattle.octets.proofs.Tests.{and-false, and-intro, and-true, by-test}
-use Rattle.entries.specs.Names.{allowedBytes, isPair, isPlain, isPrefix, lastSign, longestName}
-use Rattle.entries_laws.proofs.Signs.{allowed-behind, first-sign}
+use Rattle.octets.specs.Lists.{all, concatMap}
+use Rattle.entries.specs.Names.{InSigns, allowedBytes, isPair, isPlain, isPrefix, isSign, lastSign, longestName}
+use Rattle.entries_laws.specs.Signs.{halfAfter, noHalf}
+use Rattle.entries_laws.proofs.Signs.{CutAt, allowed-behind, allowed-half, between, cut-allowed, first-sign}
+use Rattle.entries_laws.proofs.Signs.{inMicro, inOhm}
 
 -- at most 48 bytes, and allowed ones
 prefix-of : (w : List ℕ) → length w ≤ longestName → allowedBytes w ≡ true → isPrefix w ≡ true
@@ -67,41 +69,61 @@ one-before a w h =
     let z : suc (length w) - 1 ≡ suc (length w - 1) = omega arith in
     rw (y, z)
 
--- without its last sign a text is allowed as before: with whole signs in front of it, then by its signs
-before-last : (v w : List ℕ) → allowedBytes v ≡ true → 1 ≤ length w → lastSign (v ++ w) ≡ lastSign w
-    → allowedBytes (take (length w - lastSign w) w) ≡ true
-    → allowedBytes (take (length (v ++ w) - lastSign (v ++ w)) (v ++ w)) ≡ true
-before-last v w a n e ih =
-    let k = length w - lastSign w in
-    let z : length (v ++ w) - lastSign (v ++ w) ≡ length v + k = omega (arith, length-append v w, last-within w n) in
-    ap (λ m. allowedBytes (take m (v ++ w))) z ∙ ap allowedBytes (take-append-add v w k)
-    ∙ allowed-behind v (take k w) a ∙ ih
+-- what stands in the place of the last sign of an allowed text is one
+abbrev lastOf : List ℕ → List ℕ
+lastOf w = drop (length w - lastSign w) w
+
+behind-one : (a : ℕ) (w : List ℕ) → 1 ≤ length w → lastSign (a ∷ w) ≡ lastSign w → lastOf (a ∷ w) ≡ lastOf w
+behind-one a w n e =
+    let z : suc (length w) - lastSign w ≡ suc (length w - lastSign w) = omega (arith, last-within w n) in rw (e, z)
+
+last-is-sign : (w : List ℕ) → allowedBytes w ≡ true → 1 ≤ length w → isSign (lastOf w) ≡ true
+unfolding allowedBytes
+last-is-sign [] h n = absurd (omega arith)
+last-is-sign (a ∷ []) h n = rw same-first h
+last-is-sign (a ∷ b ∷ []) h n =
+    by-test (isPlain a)
+    (λ t. rw (plain-first a b t) (sym (first-sign a b [] true t) ∙ h))
+    (λ t. let p = and-true (isPair a b) true (sym (first-sign a b [] false t) ∙ h) .0 in rw p p)
+last-is-sign (a ∷ b ∷ c ∷ w) h n =
+    by-test (isPlain a)
+    (λ t.
+    ap isSign (behind-one a (b ∷ c ∷ w) (omega arith) (one-before a (b ∷ c ∷ w) (omega arith)))
+    ∙ last-is-sign (b ∷ c ∷ w) (sym (first-sign a b (c ∷ w) true t) ∙ h) (omega arith))
+    (λ t.
+    let s = and-true (isPair a b) (allowedBytes (c ∷ w)) (sym (first-sign a b (c ∷ w) false t) ∙ h) in
+    ap isSign (behind-pair a b c w (s .0)) ∙ last-is-sign (c ∷ w) (s .1) (omega arith))
+  where
+    behind-pair : (a b c : ℕ) (w : List ℕ) → isPair a b ≡ true → lastOf (a ∷ b ∷ c ∷ w) ≡ lastOf (c ∷ w)
+    behind-pair a b c [] p = rw (tail-first a b c p, same-first c)
+    behind-pair a b c (d ∷ w) p =
+        behind-one a (b ∷ c ∷ d ∷ w) (omega arith) (one-before a (b ∷ c ∷ d ∷ w) (omega arith))
+        ∙ behind-one b (c ∷ d ∷ w) (omega arith) (one-before b (c ∷ d ∷ w) (omega arith))
+
+-- so the text ends between signs in front of it, since no sign begins with the other half of a pair
+tail-alone : (u : List ℕ) → (isSign (0xB5 ∷ u) ≡ false) × (isSign (0xA9 ∷ u) ≡ false)
+tail-alone [] = (refl, refl)
+tail-alone (b ∷ []) = (refl, refl)
+tail-alone (b ∷ c ∷ u) = (refl, refl)
 
 sign-less : (w : List ℕ) → allowedBytes w ≡ true → allowedBytes (take (length w - lastSign w) w) ≡ true
 unfolding allowedBytes
 sign-less [] h = refl
-sign-less (a ∷ []) h = rw same-first
-sign-less (a ∷ b ∷ []) h =
-    by-test (isPlain a)
-    (λ t. rw (plain-first a b t) t)
-    (λ t. rw (and-true (isPair a b) true (sym (first-sign a b [] false t) ∙ h) .0))
-sign-less (a ∷ b ∷ c ∷ w) h =
-    by-test (isPlain a)
-    (λ t.
-    before-last (a ∷ []) (b ∷ c ∷ w) t (omega arith) (one-before a (b ∷ c ∷ w) (omega arith))
-    (sign-less (b ∷ c ∷ w) (sym (first-sign a b (c ∷ w) true t) ∙ h)))
-    (λ t.
-    let s = and-true (isPair a b) (allowedBytes (c ∷ w)) (sym (first-sign a b (c ∷ w) false t) ∙ h) in
-    before-last (a ∷ b ∷ []) (c ∷ w) (pair-allowed a b t (s .0)) (omega arith) (behind-pair a b c w (s .0))
-    (sign-less (c ∷ w) (s .1)))
+sign-less (a ∷ w) h = ends (halfAfter noHalf front) (lastOf v) refl (cut-allowed k v h) (last-is-sign v h (omega arith))
   where
-    pair-allowed : (a b : ℕ) → isPlain a ≡ false → isPair a b ≡ true → allowedBytes (a ∷ b ∷ []) ≡ true
-    pair-allowed a b t p = first-sign a b [] false t ∙ rw p
+    v : List ℕ
+    v = a ∷ w
 
-    behind-pair : (a b c : ℕ) (w : List ℕ) → isPair a b ≡ true → lastSign (a ∷ b ∷ c ∷ w) ≡ lastSign (c ∷ w)
-    behind-pair a b c [] p = rw (tail-first a b c p, same-first c)
-    behind-pair a b c (d ∷ w) p =
-        one-before a (b ∷ c ∷ d ∷ w) (omega arith) ∙ one-before b (c ∷ d ∷ w) (omega arith)
+    k : ℕ
+    k = length v - lastSign v
+
+    front : List ℕ
+    front = take k v
+
+    ends : (g : ℕ) (s : List ℕ) → halfAfter noHalf front ≡ g → CutAt g s → isSign s ≡ true → allowedBytes front ≡ true
+    ends g s e between i = allowed-half front ∙ rw e
+    ends g s e (inMicro {w}) i = absurd (false≢true (sym (tail-alone w .0) ∙ i))
+    ends g s e (inOhm {w}) i = absurd (false≢true (sym (tail-alone w .1) ∙ i))
 
 -- a prefix without its last sign
 pub prefix-less : (w : List ℕ) → isPrefix w ≡ true → isPrefix (take (length w - lastSign w) w) ≡ true
@@ -109,3 +131,45 @@ prefix-less w h =
     let a = prefix-is w h in
     let k = length w - lastSign w in
     prefix-of (take k w) (omega (arith, a .0, length-take k w)) (sign-less w (a .1))
+
+-- and what it loses is a whole sign
+pub sign-lost : (w : List ℕ) → isPrefix w ≡ true → 1 ≤ length w
+    → (s : List ℕ) × (isSign s ≡ true) × (take (length w - lastSign w) w ++ s ≡ w)
+sign-lost w h n = (lastOf w, last-is-sign w (prefix-is w h .1) n, take-append-drop (length w - lastSign w) w)
+
+-- a text is allowed exactly if it is signs one behind the other
+pub in-signs : (w : List ℕ) → allowedBytes w ≡ true → InSigns w
+unfolding allowedBytes
+in-signs [] h = record { signs = []; each = refl; joined = refl }
+in-signs (a ∷ []) h = record { signs = (a ∷ []) ∷ []; each = rw h; joined = refl }
+in-signs (a ∷ b ∷ w) h = both (isPlain a) refl (in-signs (b ∷ w)) (in-signs w)
+  where
+    front : (s v : List ℕ) → isSign s ≡ true → InSigns v → InSigns (s ++ v)
+    front s v i r = record { signs = s ∷ r .signs; each = rw i (r .each); joined = ap (λ u. s ++ u) (r .joined) }
+
+    both : (t : Bool) → isPlain a ≡ t → (allowedBytes (b ∷ w) ≡ true → InSigns (b ∷ w))
+        → (allowedBytes w ≡ true → InSigns w) → InSigns (a ∷ b ∷ w)
+    both true t one two = front (a ∷ []) (b ∷ w) t (one (sym (first-sign a b w true t) ∙ h))
+    both false t one two =
+        let p = and-true (isPair a b) (allowedBytes w) (sym (first-sign a b w false t) ∙ h) in
+        front (a ∷ b ∷ []) w (p .0) (two (p .1))
+
+sign-allowed : (s : List ℕ) → isSign s ≡ true → allowedBytes s ≡ true
+unfolding allowedBytes
+sign-allowed [] h = absurd (false≢true h)
+sign-allowed (a ∷ []) h = h
+sign-allowed (a ∷ b ∷ []) h =
+    by-test (isPlain a)
+    (λ t. absurd (false≢true (sym (plain-first a b t) ∙ h)))
+    (λ t. first-sign a b [] false t ∙ rw h)
+sign-allowed (a ∷ b ∷ c ∷ s) h = absurd (false≢true h)
+
+pub of-signs : (w : List ℕ) → InSigns w → allowedBytes w ≡ true
+unfolding allowedBytes
+of-signs w r = ap allowedBytes (sym (r .joined)) ∙ go (r .signs) (r .each)
+  where
+    go : (ss : List (List ℕ)) → all isSign ss ≡ true → allowedBytes (concatMap (λ s. s) ss) ≡ true
+    go [] h = refl
+    go (s ∷ ss) h =
+        let a = and-true (isSign s) (all isSign ss) h in
+        allowed-behind s (concatMap (λ s. s) ss) (sign-allowed s (a .0)) ∙ go ss (a .1)

@@ -1,14 +1,13 @@
 -- Texts sign by sign: allowed exactly if no half is open behind the last byte, whichever way the text is cut in two.
-use Prim.Native.Nat.{_+_, _-_, _<_, _≤_, suc, zero, ℕ}
+use Prim.Native.Nat.{_+_, _-_, suc, zero, ℕ}
 use mathlib.Core.Path.{_∙_, _≡_, ap, refl, sym}
-use mathlib.Core.Logic.{_⊎_, inl, inr}
-use mathlib.Core.Bool.{Bool, _&&_, _||_, false, false≢true, true}
+use mathlib.Core.Bool.{Bool, _&&_, _||_, false, true}
 use mathlib.Core.List.{List, [], _++_, _∷_}
-use lib.Dec.{eqb, leb}
-use lib.ListN.{drop, length, take, take-append-drop}
+use lib.Dec.{eqb}
+use lib.ListN.{drop, take, take-append-drop}
 use native.Mathlib.Omega.{arith}
-use borrow.Author.Tests.{eq-eqb, eqb-false, eqb-true, leb-true, ne-eqb}
-use Rattle.octets.proofs.Tests.{and-true, by-test}
+use borrow.Author.Tests.{eqb-true, ne-eqb}
+use Rattle.octets.proofs.Tests.{by-test}
 use Rattle.octets.specs.Lists.{if_then_else_}
 use Rattle.entries.specs.Names.{allowedBytes, isPair, isPlain}
 use Rattle.entries_laws.specs.Signs.{brokenHalf, halfAfter, halfStep, isTail, microHalf, noHalf, ohmHalf}

@@ -1,5 +1,5 @@
--- Where a text stands behind some of its bytes, as a number: between two signs, behind the first half of a pair, or past
--- a byte that cannot stand in its place. A text is allowed exactly if it ends between signs (`allowed-half`).
+-- Where a text stands behind some of its bytes, as a number: between two signs, behind the first half of a pair, or
+-- past a byte that cannot stand in its place. A text is allowed exactly if it ends between signs (`allowed-half`).
 use Prim.Native.Nat.{suc, zero, ℕ}
 use mathlib.Core.Bool.{Bool, _||_}
 use mathlib.Core.List.{List, [], _∷_}

@@ -9,6 +9,7 @@ use Rattle.octets.proofs.Tests.{or-false}
 use Rattle.entries.proofs.BestList.{best-list}
 use Rattle.entries.proofs.TopK.{top-k, top-k-only}
 use Rattle.entries.proofs.Valid.{valid-of}
+use Rattle.entries_laws.proofs.Prefixes.{in-signs, of-signs, sign-lost}
 use Rattle.frame.specs.Frame.{entriesOf, isRead}
 use Rattle.frame.proofs.Frame.{entries-valid, same-reading}
 use Rattle.book.specs.Book.{bookImage, inBook, isBook, readBook}
@@ -101,4 +102,6 @@ promises =
       merging = λ first second. writes _ _ _ (λ dst. refl);
       holdsItsName = holds-its-name;
       staysOnItsName = stays-on-its-name;
+      wholeSigns = λ w. (in-signs w, of-signs w);
+      erasesASign = sign-lost;
     }

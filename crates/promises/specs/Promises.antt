@@ -3,14 +3,14 @@
 use Prim.Native.Nat.{_*_, _+_, _≤_, ℕ}
 use mathlib.Core.Path.{_≡_}
 use mathlib.Core.Bool.{_&&_, _||_, not, true}
-use mathlib.Core.List.{List, [], _∷_}
+use mathlib.Core.List.{List, [], _++_, _∷_}
 use mathlib.Core.Option.{Option, some}
-use lib.Dec.{leb, ltb}
+use lib.Dec.{ltb}
 use lib.ListN.{length}
 use Rattle.octets.specs.Table.{failing}
 use Rattle.entries.specs.Completion.{BestList, TopK, completion, maxCount}
 use Rattle.entries.specs.Entries.{Entry, at, entry, maxEntries, position, valid, with, without}
-use Rattle.entries.specs.Names.{isPrefix, longestName}
+use Rattle.entries.specs.Names.{InSigns, allowedBytes, isPrefix, isSign, longestName}
 use Rattle.frame.specs.Frame.{Exact, isRead}
 use Rattle.answer.specs.Answers.{_when_, entryBytes, refused}
 use Rattle.book.specs.Book.{bookImage, inBook, isBook, readBook}
@@ -23,7 +23,7 @@ use Rattle.trie.specs.Reading.{readTrie}
 use Rattle.trie.specs.Trie.{trieImage}
 use Rattle.sheet.specs.Sheet.{RoundTrips, buildBook, inSheet, listBook, readSheet, sheetImage}
 use Rattle.panel.specs.declared.Panel.{Panel}
-use Rattle.panel.specs.Panel.{appends, isHeld, isListed, isTyped, keyBytes, press}
+use Rattle.panel.specs.Panel.{appends, isHeld, isListed, isTyped, keyBytes, press, withoutLast}
 use Rattle.panel.specs.Highlight.{HoldsItsName, StaysOnItsName}
 use Rattle.ledger.specs.Demand.{Demand3·all, OffersBest, offersOf}
 use Rattle.ledger.specs.Marked.{table}
@@ -170,3 +170,11 @@ pub record Promises : Type 0 where
   -- The highlight stays on its name: while the held name is still offered for the text, no edit of the book moves the
   -- highlight off it, and 0D takes it. For every two books, and every panel that a key left on the first.
   pub staysOnItsName : StaysOnItsName
+  -- REQUEST C. Names and prefixes may hold µ and Ω whole: a text is allowed exactly if it is signs one behind the
+  -- other, each a byte 20 to 7E, µ or Ω. A lone half, or any other byte past 7E, gives 2, in an image 1, and 48 counts
+  -- bytes (`isName`, `isPrefix`, of which all that stands above speaks: the best list covers such names and prefixes).
+  pub wholeSigns : (w : List ℕ) → (allowedBytes w ≡ true → InSigns w) × (InSigns w → allowedBytes w ≡ true)
+  -- Erase removes a whole sign.
+  pub erasesASign :
+      (w : List ℕ) → isPrefix w ≡ true → 1 ≤ length w
+      → (s : List ℕ) × (isSign s ≡ true) × (withoutLast w ++ s ≡ w)

@@ -216,7 +216,8 @@ calls =
     gives (0 ∷ 2 ∷ 16 ∷ 0 ∷ answerFor µF 9 ++ answerFor µA 4 ++ spare 90))
     ∷ (shownOffered (completeTrie cutTrie (text "abcdef") 1 (spare 53))
     gives (0 ∷ 1 ∷ 13 ∷ 0 ∷ answerFor cutName 1 ++ spare 40))
-    ∷ (shownOffered (completeTrie cutTrie cutName 1 (spare 53)) gives (0 ∷ 1 ∷ 13 ∷ 0 ∷ answerFor cutName 1 ++ spare 40))
+    ∷ (shownOffered (completeTrie cutTrie cutName 1 (spare 53)) gives (0 ∷ 1 ∷ 13 ∷ 0 ∷ answerFor cutName 1
+    ++ spare 40))
     ∷ (shownOffered (completeTrie cutTrie (text "abcdef" ++ (0xC2 ∷ [])) 1 (spare 53)) gives (2 ∷ 0 ∷ 0 ∷ 0 ∷ spare 53))
     ∷ (shownOffered (completeTrie cutTrie (text "abcdef" ++ ohm) 1 (spare 53)) gives (0 ∷ 0 ∷ 0 ∷ 0 ∷ spare 53))
     -- 7: one byte short of 53 × k, whatever is offered; 3 before 7; 2 before 3; 1 before all

@@ -162,7 +162,8 @@ module _ (path half d : ℕ) (t : List Entry) (deep : 48 < path + suc d) (light 
 
   kid-light : length (node .under) < 2 ^ 32
   kid-light =
-      let a = group-weight d 0 (path + length (labelOf t)) (halfAfter half (labelOf t)) (eqb (length (labelOf t)) 7) (k .es) (k .below) in
+      let a = group-weight d 0 (path + length (labelOf t)) (halfAfter half (labelOf t)) (eqb (length (labelOf t)) 7)
+      (k .es) (k .below) in
       let b = k .light in
       let c = ap length (k .under) in
       omega arith
@@ -281,7 +282,8 @@ module _ (s : List ℕ) (path half d : ℕ) (deep : 48 < path + suc d) where
           (now .sized) (now .fits)
           (e ∙ ap (λ w. w ++ r) q ∙ append-assoc (nodeBytes x f back size (isLast xs))
           (siblings (x .score - firstScore xs) (length (x .under)) (sizeOf (length (x .under))) xs) r)
-          (λ u m. made u (inr m)) (λ u m. light u (inr m)) ff′ (λ y. kid-field path half d t deep (light t (inl refl)) a) lt
+          (λ u m. made u (inr m)) (λ u m. light u (inr m)) ff′
+          (λ y. kid-field path half d t deep (light t (inl refl)) a) lt
           q
 
 -- Siblings that stand before the check, and what stands under them.
@@ -724,7 +726,8 @@ none-seen (suc n) (suc i) = none-seen n i
 module _
     (s : List ℕ) (d : ℕ) (kids : KidsT s d) (t : List Entry) (ss : List (List Entry)) (f at path half score : ℕ)
     (full : Bool) (left l : ℕ) (r : List ℕ)
-    (of : Siblings path half full (t ∷ ss)) (deep : 48 < path + suc d) (top : score + f ≡ highest t) (low : (path ≡ 0 → ⊥)
+    (of : Siblings path half full (t ∷ ss)) (deep : 48 < path + suc d) (top : score + f ≡ highest t) (low : (path ≡ 0
+    → ⊥)
     → f ≡ 0) (root : path ≡ 0 → score ≡ 0)
     (light : (u : List Entry) → u ∈ (t ∷ ss)
     → weight u < 2 ^ 32) (count : left ≡ l + length (flat (t ∷ ss))) (inside : at ≤ length s)
@@ -780,7 +783,8 @@ module _
         let c = length-drop at s in
         omega arith
 
-    g-runs : Runs s d (beginGroup at e (above path half score full) left) noneSeen f (ownSize o) l (t ∷ ss) (unders gx ++ r) r
+    g-runs : Runs s d (beginGroup at e (above path half score full) left) noneSeen f (ownSize o) l (t ∷ ss) (unders gx
+        ++ r) r
     g-runs =
         record {
           made = of .made;
@@ -817,7 +821,8 @@ module _
         walk-group s k at (above path half score full) left e
         (ends s path half d deep (t ∷ ss) at f (o + ownSize o) (ownSize o) (suc k) true (unders gx
         ++ r) (of .made) light g-fits g-own (omega arith) g-bytes (omega arith))
-        ∙ node-on s d kids t ss (rest-on s d kids ss) (beginGroup at e (above path half score full) left) noneSeen f (ownSize o) l
+        ∙ node-on s d kids t ss (rest-on s d kids ss) (beginGroup at e (above path half score full) left) noneSeen f
+        (ownSize o) l
         (unders gx ++ r) r g-runs g-at k
         (let a = g-some in let b = g-inside in omega arith)
         ∙ ap (λ w. Next w l) (let a = g-length in
@@ -836,9 +841,11 @@ group-on s zero es f at path half score full left l k r h deep top low root ligh
     go [] y z = omega arith
     go (e ∷ fs) y z = let a = z e (inl refl) in omega arith
 group-on s (suc d) es f at path half score full left l k r h deep top low root light count inside bytes fuel =
-    go (scattered es) refl (λ fs at′ path′ half′ score′ full′ left′ l′ k′ r′ h′ deep′ top′ pos′ light′ count′ inside′ bytes′
+    go (scattered es) refl (λ fs at′ path′ half′ score′ full′ left′ l′ k′ r′ h′ deep′ top′ pos′ light′ count′ inside′
+    bytes′
     fuel′.
-    group-on s d fs 0 at′ path′ half′ score′ full′ left′ l′ k′ r′ h′ deep′ (let a : score′ + 0 ≡ score′ = omega arith in a
+    group-on s d fs 0 at′ path′ half′ score′ full′ left′ l′ k′ r′ h′ deep′
+    (let a : score′ + 0 ≡ score′ = omega arith in a
     ∙ top′) (λ z. refl) (λ z. absurd (omega arith)) light′ count′ inside′ bytes′ fuel′)
   where
     same : groupOf (suc d) f es ≡ groupBytes f (nodes d (scattered es))

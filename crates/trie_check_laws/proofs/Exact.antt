@@ -87,7 +87,11 @@ suffixes-valid es h few =
     (λ e m.
     and-intro (isName (e .name)) (isScore (e .score))
     (name-is (e .name)
-    (record { allowed = allowed-half (e .name) ∙ eq-eqb _ _ (h .allowed e m); short = let a = h .short e m in omega arith; some = h .ends refl e m }))
+    (record {
+      allowed = allowed-half (e .name) ∙ eq-eqb _ _ (h .allowed e m);
+      short = let a = h .short e m in omega arith;
+      some = h .ends refl e m;
+    }))
     (score-fits (e .score) (h .fits e m))))
     (h .up)
 
@@ -219,12 +223,14 @@ module _ (buf : List ℕ) (es : List Entry) (h : readTrie buf ≡ some es) where
       let i = inside in
       stands-number 4 buf 1 (length image) (omega arith) (parts .1) (omega arith) ∙ l
 
-  walks : 0 < length es → walkOf buf (turns buf) (inGroup 7 (above 0 noHalf 0 true) (length es)) ≡ Next (7 + length (bodyOf es)) 0
+  walks : 0 < length es → walkOf buf (turns buf) (inGroup 7 (above 0 noHalf 0 true) (length es)) ≡ Next
+      (7 + length (bodyOf es)) 0
   walks s =
       let o = valid-suffixes es v s in
       let w = weight-few es v o in
       let i = inside in
-      group-on buf levels es (highest es) 7 0 noHalf 0 true (length es) 0 (turns buf) (drop (length (bodyOf es)) (drop 7 buf))
+      group-on buf levels es (highest es) 7 0 noHalf 0 true (length es) 0 (turns buf)
+      (drop (length (bodyOf es)) (drop 7 buf))
       o (omega arith) (omega arith)
       (λ z. absurd (z refl)) (λ z. refl) (omega arith) (omega arith) (omega arith)
       (begins-split (bodyOf es) (drop 7 buf) (parts .3)) (omega arith)

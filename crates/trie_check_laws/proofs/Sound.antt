@@ -32,8 +32,8 @@ use Rattle.trie_check_laws.proofs.Heads.{Says, head-says}
 use Rattle.trie_check_laws.proofs.Stand.{FieldsStand, stands-true}
 use Rattle.trie_check_laws.proofs.Written.{GroupWritten, inner-under, leaf-under, written-group, written-inner}
 use Rattle.trie_check_laws.proofs.Written.{written-leaf, written-none}
-use Rattle.trie_check_laws.specs.Walk.{Task, above, afterInner, afterLeaf, afterNode, andThen, beginGroup, beneath}
-use Rattle.trie_check_laws.specs.Walk.{endAfter, groupEnd, halfOf, headOf, inGroup, inNode, inRest, into}
+use Rattle.trie_check_laws.specs.Walk.{Task, above, afterInner, afterLeaf, afterNode, andThen, beginGroup}
+use Rattle.trie_check_laws.specs.Walk.{beneath, endAfter, groupEnd, halfOf, headOf, inGroup, inNode, inRest, into}
 use Rattle.trie_check_laws.specs.Walk.{keyCount, nodeThen, noneSeen, scoreOf, stands, walkOf}
 use Rattle.trie_check_laws.specs.declared.Fields.{Fields}
 use Rattle.trie_check_laws.specs.declared.Head.the-variants as head

@@ -64,7 +64,8 @@ pub record Lone (path half d : ℕ) (t : List Entry) : Type 0 where
   pub one : length t ≡ 1
   pub light : 10 * length (labelOf t) + 9 ≤ weight t
 
-pub kind : (path half d : ℕ) {l : List ℕ} {v : ℕ} {t : List Entry} → Made path half l v t → (Lone path half d t) ⊎ (Kid path half d t)
+pub kind : (path half d : ℕ) {l : List ℕ} {v : ℕ} {t : List Entry} → Made path half l v t
+    → (Lone path half d t) ⊎ (Kid path half d t)
 kind path half d (leaf {l} {v} h) =
     let f = leaf-facts path half l v h in
     inl
@@ -93,7 +94,8 @@ kind path half d (inner {l} {es} h) =
 siblings-weight :
     (path half d : ℕ) (ss : List (List Entry)) (f b z : ℕ) → z ≤ 4
     → ((t : List Entry) → t ∈ ss → Made path half (labelOf t) (highest t) t)
-    → ((path′ half′ : ℕ) (full : Bool) (es : List Entry) → Suffixes path′ half′ full es → length (groupOf d 0 es) ≤ weight es)
+    → ((path′ half′ : ℕ) (full : Bool) (es : List Entry) → Suffixes path′ half′ full es
+    → length (groupOf d 0 es) ≤ weight es)
     → length (siblings f b z (nodes d ss)) + length (unders (nodes d ss)) ≤ weight (flat ss)
 siblings-weight path half d [] f b z l made ih = omega arith
 siblings-weight path half d (t ∷ ss) f b z l made ih = go (kind path half d (made t (inl refl)))
@@ -122,7 +124,8 @@ siblings-weight path half d (t ∷ ss) f b z l made ih = go (kind path half d (m
         let o = weight-append t (flat ss) in
         omega arith
     go (inr k) more =
-        let u = ih (path + length (labelOf t)) (halfAfter half (labelOf t)) (eqb (length (labelOf t)) 7) (k .es) (k .below) in
+        let u = ih (path + length (labelOf t)) (halfAfter half (labelOf t)) (eqb (length (labelOf t)) 7) (k .es)
+        (k .below) in
         let lx = ap length (k .under) in
         by-test (isLeaf x)
         (λ e.

@@ -98,7 +98,7 @@ table =
     ∷ (shown (trieChecks (trieOf 1 (0x08 ∷ []))) gives damaged)
     ∷ (shown (trieChecks (trieOf 1 (0x09 ∷ 0x7F ∷ []))) gives damaged)
     ∷ (shown (trieChecks (longName 49)) gives damaged)
-    -- a label cut inside µ, then the other half of Ω, a letter, and the empty label; half a sign, at the end and in front
+    -- a label cut inside µ, then the other half of Ω, a letter, the empty label; half a sign at the end, in front
     ∷ (shown (trieChecks (changed cutTrie 18 (0xA9 ∷ []))) gives damaged)
     ∷ (shown (trieChecks (changed cutTrie 18 (0x41 ∷ []))) gives damaged)
     ∷ (shown (trieChecks (trieOf 2 (0x1F ∷ 0x09 ∷ text "abcdef" ++ (0xC2 ∷ 0x00 ∷ 0x09 ∷ 0xB5 ∷ [])))) gives damaged)

@@ -170,7 +170,8 @@ module _ (path half : ℕ) (full : Bool) (ss : List (List Entry)) (h : Siblings 
       let i = run-in s (siblings-run s m) in
       (i .0, whither s m (i .0) (i .1), run-key s (siblings-run s m) (i .0) (i .1))
 
-gather-lone : (path half : ℕ) (full : Bool) (ss : List (List Entry)) → Siblings path half full ss → usedUp 0 (gathered ss) ≡ true
+gather-lone : (path half : ℕ) (full : Bool) (ss : List (List Entry)) → Siblings path half full ss
+    → usedUp 0 (gathered ss) ≡ true
     → ⊥
 gather-lone path half full [] h u = let z = h .some in omega arith
 gather-lone path half full (s ∷ []) h u =
@@ -196,7 +197,8 @@ gather-wide path half full (s ∷ t ∷ ss) h f =
     no-prefix (gathered (s ∷ t ∷ ss)) (k .0) (l .0) (k .1) (l .1) (λ q. h .differ .0 t (inl refl) (sym (k .2) ∙ q
     ∙ l .2))
 
-gather-some : (path half : ℕ) (full : Bool) (ss : List (List Entry)) → Siblings path half full ss → 0 < length (gathered ss)
+gather-some : (path half : ℕ) (full : Bool) (ss : List (List Entry)) → Siblings path half full ss
+    → 0 < length (gathered ss)
 gather-some path half full [] h = let z = h .some in absurd (omega arith)
 gather-some path half full (s ∷ ss) h = some (gathered (s ∷ ss)) (gathered-key path half full (s ∷ ss) h s (inl refl))
   where
@@ -211,10 +213,12 @@ gather path half full ss h =
     record {
       some = gather-some path half full ss h;
       up = gathered-up ss (siblings-run path half full ss h) (siblings-up path half full ss h) (h .differ);
-      allowed = λ e m. let q = whence path half full ss h e m in facts path half full ss h (q .0) (q .1) .allowed e (q .2);
+      allowed = λ e m. let q = whence path half full ss h e m in
+          facts path half full ss h (q .0) (q .1) .allowed e (q .2);
       short = λ e m. let q = whence path half full ss h e m in facts path half full ss h (q .0) (q .1) .short e (q .2);
       fits = λ e m. let q = whence path half full ss h e m in facts path half full ss h (q .0) (q .1) .fits e (q .2);
-      ends = λ z e m. let q = whence path half full ss h e m in facts path half full ss h (q .0) (q .1) .ends z e (q .2);
+      ends = λ z e m. let q = whence path half full ss h e m in
+          facts path half full ss h (q .0) (q .1) .ends z e (q .2);
       lone = by-test (usedUp 0 (gathered ss)) (λ t. absurd (gather-lone path half full ss h t)) (λ t. t);
       wide = gather-wide path half full ss h;
     }
@@ -223,7 +227,8 @@ gather path half full ss h =
 abbrev pub scattered : List Entry → List (List Entry)
 scattered es = sortBy setBefore (byFirst es)
 
-made-key : {path half : ℕ} {l : List ℕ} {v : ℕ} {s : List Entry} → Made path half l v s → usedUp 0 s ≡ false → 0 < setKey s
+made-key : {path half : ℕ} {l : List ℕ} {v : ℕ} {s : List Entry} → Made path half l v s → usedUp 0 s ≡ false
+    → 0 < setKey s
 made-key (leaf {l} {v} h) u = key-some l (eqb-false (length l) 0 u)
 made-key {path} {half} (inner {l} {es} h) u = go l es (h .some) (h .below .some)
   where

@@ -2,15 +2,15 @@
 use Prim.Native.Nat.{_+_, _<_, _^_, _≤_, max, suc, ℕ}
 use mathlib.Core.Path.{_∙_, _≡_, ap, refl, sym}
 use mathlib.Core.Logic.{inl, inr}
-use mathlib.Core.Bool.{Bool, _&&_, false, true}
+use mathlib.Core.Bool.{Bool, false, true}
 use mathlib.Core.List.{List, [], _++_, _∷_}
-use lib.Dec.{eqb, leb}
+use lib.Dec.{eqb}
 use lib.ListN.{drop, length, length-append, length-take, take}
 use lib.Seq.{drop-append-seam, take-all, take-append-seam}
 use native.Mathlib.Omega.{arith}
 use borrow.Author.Tests.{eq-eqb, eqb-false, eqb-true, ne-eqb}
 use Rattle.octets.proofs.Lists.{in-map, map-in}
-use Rattle.octets.proofs.Tests.{and-true, by-test, eqb-self}
+use Rattle.octets.proofs.Tests.{by-test, eqb-self}
 use Rattle.octets.specs.Lists.{_∈_}
 use Rattle.octets.specs.Octets.{below, common}
 use Rattle.entries.proofs.BestList.{different-rising}
@@ -21,7 +21,6 @@ use Rattle.trie.proofs.Sets.{OneFirst, highest-remains, label-progress, label-s
 use Rattle.trie.proofs.Sets.{one-first, used-up}
 use Rattle.trie.specs.Reading.{prefixed}
 use Rattle.trie.specs.Trie.{commonPrefix, highest, labelOf, remains, sameFirst, usedUp}
-use Rattle.trie_group_laws.proofs.Keys.{run-in}
 use Rattle.trie.proofs.Trie.{run-some}
 use Rattle.octets.proofs.Order.{below-append}
 
@@ -216,7 +215,8 @@ take-whole l p h q = go p (let a = ap length q in let b = length-take 7 (l
 in-eq : (x : Entry) (s t : List Entry) → s ≡ t → x ∈ t → x ∈ s
 in-eq x s t q m = rw q m
 
-made-eq : (path half : ℕ) (l : List ℕ) (v w : ℕ) (s t : List Entry) → s ≡ t → v ≡ w → Made path half l w t → Made path half l v s
+made-eq : (path half : ℕ) (l : List ℕ) (v w : ℕ) (s t : List Entry) → s ≡ t → v ≡ w → Made path half l w t
+    → Made path half l v s
 made-eq path half l v w s t q r m = rw (q, r) m
 
 pub plain-made : (path half : ℕ) (s : List Entry) → Plain path half s → Made path half (labelOf s) (highest s) s

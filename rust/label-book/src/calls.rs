@@ -295,7 +295,8 @@ pub fn complete_trie(
 }
 
 /// One key, which changes the panel; tells the rows, at most [`PANEL_ROWS`](crate::PANEL_ROWS). The
-/// keys that are no signs are in [`key`](crate::key).
+/// keys besides 20 to 7E are in [`key`](crate::key); a byte 80 or 81 that a terminal sends, as a
+/// part of another sign, is none of them.
 ///
 /// Before the key acts, the highlight goes to the row that has the held name. Where that name is no
 /// longer on a row, or its length is 0, the highlight given in stays; past the last row it is

@@ -1,7 +1,7 @@
 //! The entries in an answer.
 use std::iter::FusedIterator;
 
-/// An entry: a name, in bytes, and its score.
+/// An entry: a name, in bytes, and its score. The names of a book are UTF-8.
 #[derive(Clone, Copy, Debug, PartialEq, Eq)]
 pub struct Entry<'a> {
     /// The name, without a zero at its end.

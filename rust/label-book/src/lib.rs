@@ -7,7 +7,8 @@
 //! buffers. What each call does is said in `docs/CALLS.md`, the formats are in `docs/FORMAT.md`.
 //!
 //! A book, sheet or trie is an image at the front of a buffer; the bytes behind it are neither read
-//! nor changed. A name is 1 to 48 bytes from 20 to 7E. A refusal changes nothing.
+//! nor changed. A name is 1 to 48 bytes of UTF-8 whose signs are 20 to 7E, `µ` (C2 B5) and `Ω`
+//! (CE A9); lengths count bytes. A refusal changes nothing.
 //!
 //! ```
 //! use label_book::{Book, Panel};
@@ -29,6 +30,16 @@
 //! assert_eq!((panel.highlight, panel.held_name()), (2, &b"rc"[..]));
 //! book.press(&mut panel, label_book::key::TAKE)?;
 //! assert_eq!(panel.typed(), b"rc");
+//!
+//! // µ and Ω have two bytes each, keys of their own, and are erased whole.
+//! book.set("10 µF".as_bytes(), 7)?;
+//! panel = Panel::default();
+//! for key in [b'1', b'0', b' ', label_book::key::MICRO] {
+//!     book.press(&mut panel, key)?;
+//! }
+//! assert_eq!((panel.typed(), panel.held_name()), ("10 µ".as_bytes(), "10 µF".as_bytes()));
+//! book.press(&mut panel, label_book::key::ERASE)?;
+//! assert_eq!(panel.typed(), b"10 ");
 //! # Ok::<(), label_book::Refusal>(())
 //! ```
 #![warn(missing_docs)]
@@ -66,7 +77,7 @@ pub const SHEET_MAX: usize = 54_279;
 /// No trie is longer, as `docs/FORMAT.md` argues.
 pub const TRIE_MAX: usize = 70_759;
 
-/// The keys of a panel that are no signs; 20 to 7E append themselves.
+/// The keys of a panel besides 20 to 7E, which append themselves.
 pub mod key {
     /// Only counts the rows again, after an edit of the book; the highlight finds its name.
     pub const RECOUNT: u8 = 0x00;
@@ -74,10 +85,14 @@ pub mod key {
     pub const UP: u8 = 0x01;
     /// One row down.
     pub const DOWN: u8 = 0x02;
-    /// Erases the last byte.
+    /// Erases the last sign: one byte, or both of a µ or Ω.
     pub const ERASE: u8 = 0x08;
     /// Replaces the text by the highlighted name.
     pub const TAKE: u8 = 0x0D;
+    /// Appends µ, the bytes C2 B5.
+    pub const MICRO: u8 = 0x80;
+    /// Appends Ω, the bytes CE A9.
+    pub const OHM: u8 = 0x81;
 }
 
 impl Panel {

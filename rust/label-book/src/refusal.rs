@@ -8,9 +8,9 @@ use std::fmt;
 pub enum Refusal {
     /// A book, sheet, trie or script that is not laid out as such, or is cut off by its buffer.
     NotLaidOut = 1,
-    /// A name or prefix that is not allowed; a panel whose length is over [`NAME_MAX`], or whose
-    /// text has a byte within it that is not allowed; a panel whose held name is neither of length
-    /// 0 nor a name that is allowed.
+    /// A name or prefix that is not allowed, such as one that ends in half a sign; a panel whose
+    /// length is over [`NAME_MAX`], or whose text is not of whole signs; a panel whose held name is
+    /// neither of length 0 nor a name that is allowed.
     ///
     /// [`NAME_MAX`]: crate::NAME_MAX
     NotAllowed = 2,
@@ -27,7 +27,7 @@ pub enum Refusal {
     TooShort = 7,
     /// A key that the panel does not have.
     NoSuchKey = 8,
-    /// A key that appends, where the panel's text is full.
+    /// A key that appends, where its sign of one byte or two does not fit into the panel's text.
     TextFull = 9,
 }
 
@@ -61,8 +61,8 @@ impl fmt::Display for Refusal {
         f.write_str(match self {
             Refusal::NotLaidOut => "not laid out as a book, sheet, trie or script, or cut off",
             Refusal::NotAllowed => {
-                "a name or prefix that is not allowed \
-                 (a name has 1 to 48 bytes, each from 20 to 7E)"
+                "a name or prefix that is not allowed (a name has 1 to 48 bytes, \
+                 each from 20 to 7E or in a whole µ or Ω)"
             }
             Refusal::CountOutOfRange => "the number of names asked for is not 1 to 16",
             Refusal::NotHeld => "the book does not hold that name",

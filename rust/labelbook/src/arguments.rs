@@ -2,7 +2,7 @@
 use crate::failure::Failure;
 use crate::files::{Source, Target};
 use crate::help;
-use crate::lines::number;
+use crate::lines::{number, shown};
 use std::ffi::OsString;
 use std::os::unix::ffi::{OsStrExt, OsStringExt};
 use std::path::PathBuf;
@@ -238,5 +238,5 @@ fn trie(mut given: Given) -> Result<Request, String> {
 
 /// An argument as a message shows it.
 fn quoted(argument: &[u8]) -> String {
-    format!("`{}`", argument.escape_ascii())
+    format!("`{}`", shown(argument))
 }

@@ -20,10 +20,13 @@ A first book:
   labelbook build term.book /dev/null
   labelbook set term.book 12 rl
   labelbook set term.book 9 'rc step'
+  labelbook set term.book 7 '10 µF'
   labelbook top term.book 5 r
 
-Names are 1 to 48 ASCII letters, digits, signs and spaces (bytes 20 to 7E). In a shell, a name with
-spaces stands in quotes, and one that begins with - behind the argument --, which ends the options:
+Names are 1 to 48 bytes long. Letters, digits, signs and spaces of ASCII (20 to 7E) have one byte
+each; µ (C2 B5) and Ω (CE A9) have two, as in UTF-8. Others are refused, also those that look alike:
+the Greek small mu and the ohm sign of Unicode. In a shell, a name with spaces stands in quotes, and
+one that begins with - behind the argument --, which ends the options:
 
   labelbook set term.book 3 -- '-3 dB'
 
@@ -98,6 +101,7 @@ labelbook set FILE SCORE NAME
 Adds NAME to the book in FILE, or gives it the new score if it is there.
 
   labelbook set term.book 9 'rc step'
+  labelbook set term.book 9 '4.7 kΩ'
   labelbook set term.book 3 -- '-3 dB'
 
 Refused: 1, FILE is no book; 2, NAME is not allowed; 5, NAME is new and the book has 1,024 names.

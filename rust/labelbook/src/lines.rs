@@ -54,7 +54,7 @@ pub fn book(source: &Source) -> Result<Book, Failure> {
         let place = format!("{source}: line {number}");
         let (score, name) = entry(&line).map_err(|words| Failure::data(&place, words))?;
         if let Some(earlier) = lines_of.insert(name.to_vec(), number) {
-            let words = format!("the name of line {earlier} again: {}", name.escape_ascii());
+            let words = format!("the name of line {earlier} again: {}", shown(name));
             return Err(Failure::data(&place, words));
         }
         book.set(name, score).map_err(|refusal| Failure::refused(&place, refusal))?;
@@ -78,6 +78,21 @@ fn entry(line: &[u8]) -> Result<(u32, &[u8]), String> {
         .and_then(|(score, rest)| Some((number(score)?, rest.strip_prefix(b" ")?)));
     parts.ok_or_else(|| {
         let range = format!("a number from 0 to {}, one space and a name", u32::MAX);
-        format!("not SCORE NAME, {range}: {}", line.escape_ascii())
+        format!("not SCORE NAME, {range}: {}", shown(line))
     })
+}
+
+/// Bytes as a message shows them: signs that a name may have as they are, all others escaped.
+pub fn shown(bytes: &[u8]) -> String {
+    let mut text = String::new();
+    for part in bytes.utf8_chunks() {
+        for sign in part.valid().chars() {
+            match sign {
+                'µ' | 'Ω' => text.push(sign),
+                _ => text.push_str(&sign.to_string().as_bytes().escape_ascii().to_string()),
+            }
+        }
+        text.push_str(&part.invalid().escape_ascii().to_string());
+    }
+    text
 }

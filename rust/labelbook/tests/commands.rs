@@ -25,6 +25,7 @@ fn main() {
         ("merge into another file", merge_into),
         ("trie", trie),
         ("names", names),
+        ("names with signs", names_with_signs),
         ("scores", scores),
         ("a term", a_term),
         ("random arguments", random_arguments),
@@ -361,6 +362,9 @@ fn names(desk: &Desk) {
     let every: Vec<u8> = (b' '..=b'~').collect();
     let mut allowed: Vec<&[u8]> = vec![b"-", b"--", b"-o", b"--force", b"-h", b" ", b"  x  ", b"a"];
     allowed.extend([long.as_bytes(), &every[..48], &every[47..]]);
+    let (micros, ends) = ("µ".repeat(24), "n".repeat(46) + "Ω");
+    let signs = ["10 µF", "4.7 kΩ", "µ", "Ω", "µΩ", &micros, &ends];
+    allowed.extend(signs.map(str::as_bytes));
     desk.write("a.book", &EMPTY_BOOK);
     let arguments = |front: &[&str], name: &[u8]| -> Vec<OsString> {
         let mut all: Vec<OsString> = front.iter().map(OsString::from).collect();
@@ -379,8 +383,19 @@ fn names(desk: &Desk) {
     }
     assert_eq!(desk.read("a.book"), EMPTY_BOOK);
     let too_long = "n".repeat(49);
-    let refused: [&[u8]; 7] =
-        [b"", b"a\n", b"\x7F", b"\x1F", "10 µF".as_bytes(), b"\xFF", too_long.as_bytes()];
+    let mut refused: Vec<&[u8]> = vec![b"", b"a\n", b"\x7F", b"\x1F", b"\xFF", too_long.as_bytes()];
+    refused.extend([
+        &b"\xC2"[..],
+        b"10 \xC2",
+        b"\xB5F",
+        b"\xC2\xA9",
+        b"\xCE\xB5",
+        b"\x80",
+        b"\x81",
+    ]);
+    // Other signs, the Greek small mu and the ohm sign among them; 49 bytes and 50.
+    let (over, further) = ("n".repeat(47) + "µ", "Ω".repeat(25));
+    refused.extend(["ä", "10 \u{3BC}F", "4.7 k\u{2126}", &over, &further].map(str::as_bytes));
     for name in refused {
         let words = format!("a.book: {NOT_ALLOWED}");
         desk.fails(&arguments(&["set", "a.book", "7"], name), 2, &words);
@@ -389,6 +404,33 @@ fn names(desk: &Desk) {
             desk.fails(&arguments(&["top", "a.book", "1"], name), 2, &words);
         }
     }
+}
+
+/// Names of a laboratory, given and shown as they are, in every command and in messages.
+fn names_with_signs(desk: &Desk) {
+    let lines = "4 10 µA\n5 10 µF\n9 4.7 kΩ\n2 µ\n7 µA\n3 Ω\n";
+    desk.run(&["build", "a.book"]).input(lines).gives(0, "", "");
+    desk.prints(&["list", "a.book"], lines);
+    desk.does(&["trie", "a.book", "a.trie"]);
+    for file in ["a.book", "a.trie"] {
+        desk.prints(&["top", file, "5", "µ"], "7 µA\n2 µ\n");
+        desk.prints(&["top", file, "1", "10 µ"], "5 10 µF\n");
+        desk.prints(&["top", file, "16", "4.7 kΩ"], "9 4.7 kΩ\n");
+        desk.prints(&["top", file, "1", "Ωµ"], "");
+        let half = OsStr::from_bytes(b"10 \xC2");
+        let arguments = [OsStr::new("top"), OsStr::new(file), OsStr::new("5"), half];
+        desk.fails(&arguments, 2, &format!("{file}: {NOT_ALLOWED}"));
+    }
+    desk.write("b.book", book_of(&[(99, "10 µF"), (1, "22 kΩ")]).image());
+    desk.does(&["merge", "a.book", "b.book"]);
+    desk.does(&["set", "a.book", "8", "Ω"]);
+    desk.does(&["withdraw", "a.book", "µ"]);
+    desk.prints(&["list", "a.book"], "4 10 µA\n5 10 µF\n1 22 kΩ\n9 4.7 kΩ\n7 µA\n8 Ω\n");
+    desk.fails(&["withdraw", "a.book", "µ"], 4, &format!("a.book: {NOT_HELD}"));
+    let words = "`10 µF` is too much; a name with spaces stands in quotes";
+    wrong_usage(desk, &["withdraw", "a.book", "µ", "10 µF"], words);
+    let words = "SCORE is a whole number from 0 to 4294967295, not `9 kΩ\\xc3\\xa4`";
+    wrong_usage(desk, &["set", "a.book", "9 kΩä", "x"], words);
 }
 
 fn scores(desk: &Desk) {
@@ -418,13 +460,14 @@ fn a_term(desk: &Desk) {
     desk.write("a.book", &EMPTY_BOOK);
     for _ in 0..400 {
         let name =
-            format!("{}{}", ["ac", "rc", "rc step", "rl "][random.below(4)], random.below(9));
+            format!("{}{}", ["ac", "rc µ", "rc step", "Ωl "][random.below(4)], random.below(9));
         let score = random.below(6) as u32;
         match random.below(5) {
             0 if held.remove(&name).is_some() => desk.does(&["withdraw", "a.book", &name]),
             0 => desk.fails(&["withdraw", "a.book", &name], 4, &format!("a.book: {NOT_HELD}")),
             1 => {
-                let (prefix, count) = (&name[..random.below(4)], 1 + random.below(16));
+                let prefix: String = name.chars().take(random.below(4)).collect();
+                let (prefix, count) = (&prefix[..], 1 + random.below(16));
                 let mut best: Vec<(u32, &String)> =
                     held.iter().filter(|e| e.0.starts_with(prefix)).map(|e| (*e.1, e.0)).collect();
                 best.sort_by_key(|entry| (std::cmp::Reverse(entry.0), entry.1));

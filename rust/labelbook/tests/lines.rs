@@ -17,6 +17,7 @@ fn main() {
         ("lines that end in CR LF", carriage_returns),
         ("a name twice", a_name_twice),
         ("names not allowed", names_not_allowed),
+        ("halves of signs", halves_of_signs),
         ("too many names", too_many_names),
         ("no lines", no_lines),
         ("endless lines", endless_lines),
@@ -55,10 +56,17 @@ fn build(desk: &Desk) {
     assert_eq!(desk.read("notes"), desk.read("a.book"));
 }
 
-/// A name of up to `most` bytes, each one that is allowed.
+/// A name of up to `most` signs, each one that is allowed; at most 48 bytes.
 fn name(random: &mut Random, most: usize) -> Vec<u8> {
     let length = random.between(1, most);
-    (0..length).map(|_| random.between(0x20, 0x7E) as u8).collect()
+    let mut name = String::new();
+    while name.chars().count() < length && name.len() < 47 {
+        name.push(match random.below(8) {
+            0 => random.pick(&['µ', 'Ω']),
+            _ => random.between(0x20, 0x7E) as u8 as char,
+        });
+    }
+    name.into_bytes()
 }
 
 /// Names that are long and alike, long and different, short, and with spaces at every end.
@@ -76,6 +84,8 @@ fn sample_books() -> Vec<Vec<(u32, Vec<u8>)>> {
         books.push(entries.into_iter().map(|(name, score)| (score, name)).collect());
     }
     books.push(vec![(0, b" ".to_vec()), (1, b"  ".to_vec()), (2, b" a ".to_vec())]);
+    let signs = ["10 µF", "4.7 kΩ", "µ", "Ω"].map(|name| (3, name.into()));
+    books.push(signs.into());
     books
 }
 
@@ -138,6 +148,8 @@ fn wrong_lines(desk: &Desk) {
         ("00000000005 ac", "00000000005 ac"),
         ("\u{FEFF}5 ac", "\\xef\\xbb\\xbf5 ac"),
         ("\x005 ac", "\\x005 ac"),
+        ("µF\t5 ä", "µF\\t5 \\xc3\\xa4"),
+        ("kΩ 5", "kΩ 5"),
     ] {
         let words = format!("line 2: not SCORE NAME, {range}: {shown}");
         wrong(desk, format!("1 first\n{line}\n3 third\n"), 65, &words);
@@ -173,6 +185,7 @@ fn carriage_returns(desk: &Desk) {
 fn a_name_twice(desk: &Desk) {
     wrong(desk, "5 ac\n5 ac\n", 65, "line 2: the name of line 1 again: ac");
     wrong(desk, "5 ac\n9 rc\n3 z\n7 rc", 65, "line 4: the name of line 2 again: rc");
+    wrong(desk, "5 ac\n9 4.7 kΩ\n7 4.7 kΩ", 65, "line 3: the name of line 2 again: 4.7 kΩ");
     let mut entries = long_names(1024);
     entries.push((1, entries[99].1.clone()));
     let words = format!("line 1025: the name of line 100 again: {}", entries[99].1);
@@ -182,11 +195,24 @@ fn a_name_twice(desk: &Desk) {
 fn names_not_allowed(desk: &Desk) {
     let long = "n".repeat(49);
     let endless = "n".repeat(200_000);
-    for name in ["", "\t", "a\tb", "\x7F", "4.7 kΩ", "a\0", &long, &endless] {
+    let sign_too_long = "n".repeat(47) + "µ";
+    let signs = ["ä", "4.7 k\u{2126}", "10 \u{3BC}F", "µ\u{B4}", &sign_too_long];
+    for name in ["", "\t", "a\tb", "\x7F", "a\0", &long, &endless].iter().chain(&signs) {
         let words = format!("line 2: {NOT_ALLOWED}");
         wrong(desk, format!("1 first\n0 {name}\n3 third\n"), 2, &words);
         wrong(desk, format!("1 first\n4294967295 {name}"), 2, &words);
     }
+}
+
+/// Halves of µ and Ω, alone and with the half of another sign.
+fn halves_of_signs(desk: &Desk) {
+    for name in [&b"\xC2"[..], b"10 \xC2", b"\xB5F", b"\xCE\xB5", b"\xC2\xA9", b"\xC2\xC2\xB5"] {
+        let lines = [b"1 first\n2 ", name, b"\n3 third\n"].concat();
+        wrong(desk, lines, 2, &format!("line 2: {NOT_ALLOWED}"));
+    }
+    let wanted = "line 1: not SCORE NAME, a number from 0 to 4294967295, one space and a name: \
+                  \\xc2 Ω\\xb5";
+    wrong(desk, b"\xC2 \xCE\xA9\xB5\n", 65, wanted);
 }
 
 fn too_many_names(desk: &Desk) {
@@ -239,13 +265,14 @@ fn endless_lines(desk: &Desk) {
 /// The program `labels` takes such a line behind the word `set`, and prints entries as `list` does.
 fn labels(desk: &Desk) {
     let program = concat!(env!("CARGO_MANIFEST_DIR"), "/../../target/bin/labels");
-    let input: String = LINES.lines().map(|line| format!("set {line}\n")).collect();
+    let lines = format!("{LINES}7 10 µF\n3 4.7 kΩ\n");
+    let input: String = lines.lines().map(|line| format!("set {line}\n")).collect();
     desk.write("input", format!("{input}top 16 \n").as_bytes());
     let run = Command::new(program).stdin(File::open(desk.path("input")).unwrap()).output();
     let printed = run.unwrap_or_else(|error| panic!("`rt check labels`: {error}")).stdout;
     let printed = String::from_utf8(printed).unwrap();
     let is_entry = |line: &&str| !line.starts_with("ok ") && !line.starts_with("looks ");
     let best: Vec<&str> = printed.lines().filter(is_entry).collect();
-    desk.write("a.book", &BOOK);
+    desk.run(&["build", "a.book"]).input(lines).gives(0, "", "");
     desk.prints(&["top", "a.book", "16"], format!("{}\n", best.join("\n")));
 }

@@ -7,7 +7,7 @@ pub use panel::press;
 pub use trie::{complete_trie, write_trie};
 
 use crate::reference::calls::{Offered, Written};
-use crate::reference::{is_name, is_prefix, LONGEST_NAME, MOST_ENTRIES, MOST_OFFERED};
+use crate::reference::{LONGEST_NAME, MOST_ENTRIES, MOST_OFFERED};
 use std::cmp::Ordering;
 
 /// A book that was checked.
@@ -69,8 +69,32 @@ impl Name {
     }
 }
 
-fn allowed(bytes: &[u8]) -> bool {
-    bytes.iter().all(|b| (0x20..=0x7E).contains(b))
+/// µ and Ω are the two signs of two bytes each; each first byte has one second byte.
+const MICRO: [u8; 2] = [0xC2, 0xB5];
+const OHM: [u8; 2] = [0xCE, 0xA9];
+
+/// Whether bytes are whole signs that are allowed.
+fn allowed(mut bytes: &[u8]) -> bool {
+    while let Some(at) = bytes.iter().position(|byte| !(0x20..=0x7E).contains(byte)) {
+        if !bytes[at..].starts_with(&MICRO) && !bytes[at..].starts_with(&OHM) {
+            return false;
+        }
+        bytes = &bytes[at + 2..];
+    }
+    true
+}
+
+/// Whether an allowed text, cut behind this byte, is cut inside a sign.
+fn is_first_half(byte: u8) -> bool {
+    byte == MICRO[0] || byte == OHM[0]
+}
+
+fn is_prefix(bytes: &[u8]) -> bool {
+    bytes.len() <= LONGEST_NAME && allowed(bytes)
+}
+
+fn is_name(bytes: &[u8]) -> bool {
+    !bytes.is_empty() && is_prefix(bytes)
 }
 
 /// The book at the front of a buffer, checked in one pass over its records and one over its scores.
@@ -96,6 +120,10 @@ fn check(buffer: &[u8]) -> Option<Book<'_>> {
         let rest = image.get(at..at + added)?;
         at += added;
         if added == 0 || kept > name.len || kept + added > LONGEST_NAME || !allowed(rest) {
+            return None;
+        }
+        // Two names that share the first half of a sign share all of it.
+        if kept > 0 && is_first_half(name.bytes[kept - 1]) {
             return None;
         }
         let rises = if i % 8 == 0 {

@@ -1,6 +1,6 @@
 //! The panel in plain safe Rust.
-use super::{check, each_ranked, Book, Name};
-use crate::reference::{is_prefix, LONGEST_NAME};
+use super::{check, each_ranked, is_first_half, is_prefix, Book, Name, MICRO, OHM};
+use crate::reference::LONGEST_NAME;
 use label_book::Panel;
 
 const SHOWN: usize = 5;
@@ -45,6 +45,23 @@ impl<'a> Rows<'a> {
     }
 }
 
+/// Appends a sign.
+fn append(typed: &mut Name, sign: &[u8]) -> Result<(), u8> {
+    if typed.len + sign.len() > LONGEST_NAME {
+        return Err(9);
+    }
+    typed.put(typed.len, sign);
+    Ok(())
+}
+
+/// Erases the last sign of a text that has one.
+fn erase(typed: &mut Name) {
+    typed.len -= 1;
+    if typed.len > 0 && is_first_half(typed.bytes[typed.len - 1]) {
+        typed.len -= 1;
+    }
+}
+
 /// The text, its rows and the highlighted one after a key. A changed text has its first row
 /// highlighted; all other keys go by the rows before. Inlined for the same reason as `best_in` is
 /// not.
@@ -59,9 +76,10 @@ fn act<'a>(
     let mut typed = Name::new();
     typed.put(0, text);
     match key {
-        0x20..=0x7E if typed.len == LONGEST_NAME => return Err(9),
-        0x20..=0x7E => typed.put(typed.len, &[key]),
-        0x08 if typed.len > 0 => typed.len -= 1,
+        0x20..=0x7E => append(&mut typed, &[key])?,
+        0x80 => append(&mut typed, &MICRO)?,
+        0x81 => append(&mut typed, &OHM)?,
+        0x08 if typed.len > 0 => erase(&mut typed),
         0x00 | 0x01 | 0x02 | 0x08 | 0x0D => {
             let rows = Rows::new(book, text, SHOWN);
             let may_be_offered = !held.is_empty() && held.starts_with(text);

@@ -22,6 +22,10 @@ pub const MOST_ENTRIES: usize = 1024;
 pub const LONGEST_NAME: usize = 48;
 pub const MOST_OFFERED: usize = 16;
 
+/// The two signs that have two bytes each: C2 B5 and CE A9.
+pub const MICRO: char = '\u{B5}';
+pub const OHM: char = '\u{3A9}';
+
 /// Refusals, by number.
 pub const IMAGE: u8 = 1;
 pub const NAME: u8 = 2;
@@ -33,16 +37,19 @@ pub const TOO_SHORT: u8 = 7;
 pub const KEY: u8 = 8;
 pub const TEXT_FULL: u8 = 9;
 
-fn is_allowed(bytes: &[u8]) -> bool {
-    bytes.iter().all(|b| (0x20..=0x7E).contains(b))
+/// The text that bytes are, if they are UTF-8 and each of its signs is allowed: 20 to 7E, and µ and
+/// Ω (02, request c).
+pub fn text(bytes: &[u8]) -> Option<&str> {
+    let text = std::str::from_utf8(bytes).ok()?;
+    text.chars().all(|sign| matches!(sign, ' '..='~' | MICRO | OHM)).then_some(text)
 }
 
-/// 0 to 48 bytes, each 20 to 7E.
+/// 0 to 48 bytes of such signs.
 pub fn is_prefix(bytes: &[u8]) -> bool {
-    bytes.len() <= LONGEST_NAME && is_allowed(bytes)
+    bytes.len() <= LONGEST_NAME && text(bytes).is_some()
 }
 
-/// 1 to 48 such bytes.
+/// The same, 1 to 48 bytes.
 pub fn is_name(bytes: &[u8]) -> bool {
     !bytes.is_empty() && is_prefix(bytes)
 }

@@ -1,4 +1,5 @@
-//! The panel's typing state, with the highlight on its name (02, request b).
+//! The panel's typing state, with the highlight on its name (02, request b) and keys for µ and Ω
+//! (request c).
 use super::calls::{allow, rows};
 use super::*;
 use label_book::Panel;
@@ -25,23 +26,35 @@ fn array(bytes: &[u8]) -> [u8; LONGEST_NAME] {
     all.try_into().unwrap()
 }
 
+/// The sign that a key appends.
+fn sign(key: u8) -> Option<char> {
+    match key {
+        0x20..=0x7E => Some(key as char),
+        0x80 => Some(MICRO),
+        0x81 => Some(OHM),
+        _ => None,
+    }
+}
+
 /// What a key does to the text and the highlighted one of its rows, or the refusal.
 fn act(
     key: u8,
-    mut text: Vec<u8>,
+    mut text: String,
     highlight: usize,
     shown: &[Vec<u8>],
-) -> Result<(Vec<u8>, usize), u8> {
+) -> Result<(String, usize), u8> {
+    if let Some(sign) = sign(key) {
+        text.push(sign);
+        return if text.len() <= LONGEST_NAME { Ok((text, 0)) } else { Err(TEXT_FULL) };
+    }
     match key {
-        0x20..=0x7E if text.len() == LONGEST_NAME => Err(TEXT_FULL),
-        0x20..=0x7E => {
-            text.push(key);
-            Ok((text, 0))
-        }
         0x08 if text.pop().is_some() => Ok((text, 0)),
         0x01 => Ok((text, highlight.saturating_sub(1))),
         0x02 => Ok((text, lowered(highlight + 1, shown.len()))),
-        0x0D if !shown.is_empty() => Ok((shown[highlight].clone(), 0)),
+        0x0D if !shown.is_empty() => {
+            let name = String::from_utf8(shown[highlight].clone());
+            Ok((name.expect("a name is UTF-8"), 0))
+        }
         0x00 | 0x08 | 0x0D => Ok((text, highlight)),
         _ => Err(KEY),
     }
@@ -50,17 +63,16 @@ fn act(
 /// One key: the rows, or the refusal.
 pub fn press(book: &[u8], panel: &mut Panel, key: u8) -> Result<usize, u8> {
     let entries = book::read(book).ok_or(IMAGE)?;
-    let text = panel.text.get(..panel.len).ok_or(NAME)?.to_vec();
-    allow(is_prefix(&text), NAME)?;
+    let text = panel.text.get(..panel.len).and_then(text).ok_or(NAME)?.to_string();
     let held = panel.held.get(..panel.held_len).ok_or(NAME)?;
     allow(held.is_empty() || is_name(held), NAME)?;
-    let shown = rows(&entries, &text, SHOWN);
+    let shown = rows(&entries, text.as_bytes(), SHOWN);
     let (text, highlight) = act(key, text, row_of(held, &shown, panel.highlight), &shown)?;
-    let shown = rows(&entries, &text, SHOWN);
+    let shown = rows(&entries, text.as_bytes(), SHOWN);
     let highlight = lowered(highlight, shown.len());
     let held = shown.get(highlight).cloned().unwrap_or_default();
     *panel = Panel {
-        text: array(&text),
+        text: array(text.as_bytes()),
         len: text.len(),
         highlight,
         rows: shown.len(),

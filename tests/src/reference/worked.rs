@@ -1,4 +1,6 @@
-//! The cases that the document works out.
+//! The cases that the documents work out.
+mod signs;
+
 use super::calls::*;
 use super::panel::press;
 use super::script::{Call, Kind};

@@ -87,15 +87,30 @@ fn kinds_and_lengths(compare: &mut Compare, random: &mut Random, calls: &[Call])
     }
 }
 
-/// Names of every length and with a last byte of every kind, and scores at the ends, in sets and
+/// What a name ends in: bytes that are allowed or not, signs of two bytes, halves of them.
+const ENDS: [&[u8]; 12] = [
+    b"x",
+    b" ",
+    b"~",
+    b"\x1F",
+    b"\x7F",
+    b"\x80",
+    b"\xFF",
+    b"\xC2",
+    b"\xB5",
+    b"\xC2\xB5",
+    b"\xCE\xA9",
+    b"\xC2\xA9",
+];
+
+/// Names of every length and with an end of every kind, and scores at the ends, in sets and
 /// withdrawals.
 pub fn hostile_calls(compare: &mut Compare, random: &mut Random) {
     for length in [0, 1, 2, 47, 48, 49, 50, 255, 256, 257, 300, 65_535] {
-        for last in [b'x', 0x20, 0x7E, 0x1F, 0x7F, 0x80, 0xFF, 0x00] {
+        for end in ENDS {
             let mut name = vec![b'x'; length];
-            if let Some(byte) = name.last_mut() {
-                *byte = last;
-            }
+            let place = length.saturating_sub(end.len());
+            name[place..].copy_from_slice(&end[..length - place]);
             for score in [0, 1, u32::MAX - 1, u32::MAX] {
                 let call = |kind, name: &[u8]| Call { kind, score, name: name.to_vec() };
                 let (set, withdraw) = (call(Kind::Set, &name), call(Kind::Withdraw, &name));
@@ -142,7 +157,7 @@ pub fn noise(compare: &mut Compare, random: &mut Random, rounds: usize) {
         let mut script = random.bytes(length);
         if !random.chance(10) {
             for byte in &mut script {
-                *byte = random.pick(&[0, 0, 0, 0, 1, 1, 2, 3, 7, 0x61, 0x61, 0x62, *byte]);
+                *byte = random.pick(&[0, 0, 0, 0, 1, 1, 2, 3, 7, 0x61, 0x61, 0xC2, 0xB5, *byte]);
             }
         }
         on_buffers(compare, random, &script);

@@ -71,7 +71,7 @@ impl Both {
         package.case(found == raw::find(&self.held, name), "find in a book");
         let mut panel = Panel { highlight: random.below(6), ..Panel::default() };
         let mut raw_panel = panel.clone();
-        let key = random.pick(&[0, 2, 0x0D, b'a', b'x', 0xFF]);
+        let key = random.pick(&[0, 2, 0x0D, b'a', b'x', 0x80, 0x81, 0xFF]);
         let pressed = told(self.book.press(&mut panel, key));
         let expected = raw::press(&self.held, &mut raw_panel, key);
         package.case((pressed, panel) == (expected, raw_panel), "a key on a book");

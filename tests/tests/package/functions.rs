@@ -115,7 +115,7 @@ fn keys(package: &mut Package, random: &mut Random, book: &[u8], held: &Entries)
     if random.chance(2) {
         panel.text[text.len()..].fill(b'x');
     }
-    let key = random.pick(&[0, 1, 2, 8, 0x0D, 3, b'a', b'a', 0x7F]);
+    let key = random.pick(&[0, 1, 2, 8, 0x0D, 3, b'a', b'a', 0x7F, 0x80, 0x81]);
     let mut raw_panel = panel.clone();
     let answer = package::press(book, &mut panel, key);
     package.same("press", answer, raw::press(book, &mut raw_panel, key));

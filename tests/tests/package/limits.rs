@@ -8,7 +8,7 @@ use label_book::{PANEL_ROWS, SHEET_MAX, TRIE_MAX};
 use label_book_tests::reference::{sheet, Entries};
 
 /// The longest trie that is known (docs/FORMAT.md).
-const LONG_TRIE: usize = 66_441;
+const LONG_TRIE: usize = 66_444;
 
 pub fn all(package: &mut Package) {
     let full = full_book();
@@ -24,15 +24,17 @@ pub fn all(package: &mut Package) {
 /// few bytes and need many nodes, some groups are longer than 255 bytes, and all siblings are far
 /// apart in score.
 fn long_names() -> Entries {
-    // 95 first bytes, each with so many second ones, and two third ones behind each of these.
-    let seconds = [vec![3; 89], vec![38; 5], vec![55]].concat();
+    // 95 first bytes, each with so many second ones, and two third ones behind each of these; µ and
+    // Ω, each with two bytes behind it.
+    let seconds = [vec![3; 89], vec![38; 5], vec![53]].concat();
     let starts = (0..).zip(seconds).flat_map(|(first, most)| {
         (0..most).flat_map(move |second| [0, 1].map(|third| [first, second, third]))
     });
-    let names = starts.map(|start: [u8; 3]| start.map(|n| b' ' + n)).enumerate();
-    let scored = names.map(|(i, start)| {
-        let score = u32::MAX - (i << 16) as u32;
-        ([&start[..], &[b'x'; NAME_MAX - 3]].concat(), score)
+    let starts = starts.map(|start: [u8; 3]| start.map(|n| b' ' + n).to_vec());
+    let names = starts.chain(["µ ", "µ!", "Ω ", "Ω!"].map(Vec::from)).enumerate();
+    let scored = names.map(|(i, mut name)| {
+        name.resize(NAME_MAX, b'x');
+        (name, u32::MAX - (i << 16) as u32)
     });
     scored.collect()
 }
@@ -57,6 +59,15 @@ fn names(package: &mut Package) {
     let longer = book.set(&[b'x'; NAME_MAX + 1], 1);
     package.case(longer == Err(Refusal::NotAllowed), "a name that is too long");
     package.case(book.set(b"", 1) == Err(Refusal::NotAllowed), "a name of no bytes");
+    let with_sign = |letters: usize| "x".repeat(letters) + "Ω";
+    let fits = Book::new().set(with_sign(NAME_MAX - 2).as_bytes(), 1);
+    package.case(fits.is_ok(), "the longest name that ends in a sign");
+    for name in
+        [with_sign(NAME_MAX - 1).as_bytes(), &with_sign(NAME_MAX - 1).as_bytes()[..NAME_MAX]]
+    {
+        let longer = book.set(name, 1);
+        package.case(longer == Err(Refusal::NotAllowed), "a sign, or half of it, past the limit");
+    }
     let written = Ok(Written { entries: 1, bytes: ENTRY_MAX });
     package.case(name_at(book.image(), 0, &mut dst) == written, "the longest entry");
     let short = name_at(book.image(), 0, &mut dst[1..]);

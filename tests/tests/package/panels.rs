@@ -7,6 +7,36 @@ pub fn all(package: &mut Package) {
     held_while_edited(package).expect("edits that no book refuses");
     held_of_any_kind(package);
     held_and_refused(package);
+    signs(package);
+}
+
+/// µ and Ω by their keys, erased whole; half of one is refused.
+fn signs(package: &mut Package) {
+    let mut book = Book::new();
+    for (name, score) in [("10 µF", 5), ("4.7 kΩ", 9), ("µA", 7)] {
+        book.set(name.as_bytes(), score).expect("a name and room for it");
+    }
+    let panel = &mut Panel::default();
+    for (key, left, typed) in [
+        (key::MICRO, (1, 0), "µ"),
+        (key::OHM, (0, 0), "µΩ"),
+        (key::ERASE, (1, 0), "µ"),
+        (key::TAKE, (1, 0), "µA"),
+        (key::ERASE, (1, 0), "µ"),
+        (key::ERASE, (3, 0), ""),
+        (key::TAKE, (1, 0), "4.7 kΩ"),
+        (key::ERASE, (1, 0), "4.7 k"),
+        (key::OHM, (1, 0), "4.7 kΩ"),
+    ] {
+        pressed(package, &book, panel, key, left);
+        package.case(panel.typed() == typed.as_bytes(), "what is typed");
+    }
+    for (len, refusal) in [(47, Refusal::TextFull), (48, Refusal::TextFull)] {
+        refused(package, panel_with(&vec![b'x'; len], b""), key::MICRO, refusal);
+        refused(package, panel_with(&vec![b'x'; len], b""), key::OHM, refusal);
+    }
+    refused(package, panel_with(b"10 \xC2", b""), key::ERASE, Refusal::NotAllowed);
+    refused(package, panel_with(b"10 ", b""), 0x82, Refusal::NoSuchKey);
 }
 
 /// The book of document 01's entries E.
@@ -95,7 +125,7 @@ fn refused(package: &mut Package, mut panel: Panel, key: u8, refusal: Refusal) {
 fn held_and_refused(package: &mut Package) {
     refused(package, panel_with(b"r", b"rc"), 0x7F, Refusal::NoSuchKey);
     refused(package, panel_with(&[b'x'; NAME_MAX], b"rc"), b'x', Refusal::TextFull);
-    for held in [&b"\x1F"[..], b"\x7F", b"rc\x1F", b"rc\x7F", b"\xFFrc"] {
+    for held in [&b"\x1F"[..], b"\x7F", b"rc\x1F", b"rc\x7F", b"\xFFrc", b"rc\xC2", b"\xB5rc"] {
         for (text, key) in [(&b"r"[..], key::RECOUNT), (b"r", 0x7F), (&[b'x'; NAME_MAX], b'x')] {
             refused(package, panel_with(text, held), key, Refusal::NotAllowed);
         }

@@ -102,8 +102,14 @@ fn chain(byte: u8) -> impl Iterator<Item = Vec<u8>> {
     (1..=NAME_MAX).map(move |length| vec![byte; length])
 }
 
+/// The same of µ behind some letters, so that labels of 7 bytes are cut inside it.
+fn chain_of_signs(letters: usize) -> impl Iterator<Item = Vec<u8>> {
+    let lengths = 1..=(NAME_MAX - letters) / 2;
+    lengths.map(move |count| [vec![b'a'; letters], "µ".repeat(count).into_bytes()].concat())
+}
+
 /// Books whose groups of names stand below each other as deep as can be.
-fn nested_books() -> [Entries; 4] {
+fn nested_books() -> [Entries; 6] {
     let branches = (b' '..=b'~').flat_map(chain).take(ENTRIES_MAX);
     // The start of one chain, and many that leave it late.
     let leaving = (0..ENTRIES_MAX - NAME_MAX).map(|i| {
@@ -112,10 +118,18 @@ fn nested_books() -> [Entries; 4] {
     });
     // Each label 7 bytes, so that groups of one node stand below each other.
     let sevens = (1..=NAME_MAX.div_ceil(7)).map(|i| vec![b'a'; (7 * i).min(NAME_MAX)]);
+    // As many nodes in each group as can be: 95 bytes, both signs, the empty one.
+    let ends = (b' '..=b'~').map(|byte| vec![byte]).chain(["µ", "Ω"].map(Vec::from));
+    let groups = (0..10).flat_map(|letters| {
+        let start = vec![b'a'; letters];
+        ends.clone().map(move |end| [&start[..], &end].concat())
+    });
     [
         scored(chain(b'a'), |_| 7),
         scored(branches, |i| i as u32),
         scored(chain(b'a').chain(leaving), |i| (i % 5) as u32),
+        scored((0..7).flat_map(chain_of_signs), |i| (i % 3) as u32),
+        scored(groups, |i| (i % 98) as u32),
         scored(sevens, |_| 7),
     ]
 }
@@ -294,7 +308,7 @@ fn panels(measure: &mut Measure) {
 
 /// Keys of all kinds on a panel, with rows that there are and are not.
 fn keys(measure: &mut Measure, book: &[u8], panel: &Panel) {
-    let keys = [key::RECOUNT, key::UP, key::DOWN, key::ERASE, key::TAKE, b'a', b'~', 0x03, 0xFF];
+    let keys = [key::RECOUNT, key::UP, key::DOWN, key::ERASE, key::TAKE, b'a', key::MICRO, 0x03];
     for (highlight, key) in [0, 2, 4, 6].iter().flat_map(|&row| keys.map(|key| (row, key))) {
         measure.press(book, &mut Panel { highlight, ..panel.clone() }, key);
     }

@@ -4,13 +4,13 @@
 /// A place on the screen: its sign, and whether it is in reverse.
 #[derive(Clone, Copy, PartialEq)]
 struct Cell {
-    sign: u8,
+    sign: char,
     reverse: bool,
 }
 
-const BLANK: Cell = Cell { sign: b' ', reverse: false };
+const BLANK: Cell = Cell { sign: ' ', reverse: false };
 /// What stands where nobody has drawn yet.
-const DIRT: Cell = Cell { sign: b'#', reverse: true };
+const DIRT: Cell = Cell { sign: '#', reverse: true };
 
 /// The cells of a screen, and where the next sign goes, both from 0. A column as large as the
 /// width says that the line is full: the next sign goes to the next line.
@@ -33,7 +33,7 @@ pub struct Screen {
     pub opened: usize,
     /// How often a line has left the screen at its top.
     pub scrolled: usize,
-    /// The bytes of a sequence that has not ended.
+    /// The bytes of a sequence that has not ended, or of a sign.
     begun: Vec<u8>,
 }
 
@@ -77,7 +77,7 @@ impl Screen {
     /// A line without the blanks at its end; "" where the screen has no such line.
     pub fn line(&self, number: usize) -> String {
         let Some(cells) = self.page.cells.get(number - 1) else { return String::new() };
-        let signs: String = cells.iter().map(|cell| cell.sign as char).collect();
+        let signs: String = cells.iter().map(|cell| cell.sign).collect();
         signs.trim_end().to_string()
     }
 
@@ -102,6 +102,15 @@ impl Screen {
     }
 
     fn byte(&mut self, byte: u8) {
+        if matches!(self.begun[..], [0xC2 | 0xCE]) {
+            let bytes = [std::mem::take(&mut self.begun)[0], byte];
+            match &bytes {
+                b"\xC2\xB5" => self.sign('µ'),
+                b"\xCE\xA9" => self.sign('Ω'),
+                _ => panic!("bytes {bytes:02X?} were written to the screen"),
+            }
+            return;
+        }
         if !self.begun.is_empty() {
             self.begun.push(byte);
             if self.begun.len() > 2 && (0x40..=0x7E).contains(&byte) {
@@ -111,10 +120,10 @@ impl Screen {
             return;
         }
         match byte {
-            0x1B => self.begun.push(byte),
+            0x1B | 0xC2 | 0xCE => self.begun.push(byte),
             b'\r' => self.page.column = 0,
             b'\n' => self.next_line(),
-            0x20..=0x7E => self.sign(byte),
+            0x20..=0x7E => self.sign(byte as char),
             _ => panic!("byte {byte:02X} was written to the screen"),
         }
     }
@@ -129,7 +138,7 @@ impl Screen {
         self.scrolled += 1;
     }
 
-    fn sign(&mut self, sign: u8) {
+    fn sign(&mut self, sign: char) {
         if self.page.column == self.columns {
             self.page.column = 0;
             self.next_line();

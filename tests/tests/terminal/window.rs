@@ -19,10 +19,10 @@ pub const COLUMNS: usize = 80;
 const FILE: &str = "lesson.book";
 const PANEL: &str = "../terminal lesson.book; echo \"left with $?\"; read line";
 
-/// Keys that the panel does not have, each of one byte. One of them is sent behind every script of
-/// keys; once its refusal shows, the keys before it have been pressed.
-const FIRST_MARK: u8 = 0x80;
-const LAST_MARK: u8 = 0xFE;
+/// Keys that the panel does not have, each of one byte, which begins no sign. One of them is sent
+/// behind every script of keys; once its refusal shows, the keys before it have been pressed.
+const FIRST_MARK: u8 = 0x82;
+const LAST_MARK: u8 = 0xBF;
 
 /// Bits of a terminal's settings and one of its keys, by which it is made an unusual terminal.
 const ANY_STARTS_OUTPUT: u32 = 0o4000;
@@ -159,7 +159,10 @@ impl Window {
     pub fn resize_and_wait(&mut self, lines: usize, columns: usize, shown: &Shown) {
         self.screen.resize(lines, columns);
         self.pty.resize(lines, columns);
-        let cut = |line: &String| line[..line.len().min(columns)].trim_end().to_string();
+        let cut = |line: &String| {
+            let signs: String = line.chars().take(columns).collect();
+            signs.trim_end().to_string()
+        };
         let mut wanted: Vec<String> = shown.lines().iter().map(cut).collect();
         wanted.truncate(lines);
         let all =
@@ -179,7 +182,7 @@ impl Window {
         if self.screen.reversed() != shown.reversed() {
             self.fail(&format!("in reverse are lines {:?}", self.screen.reversed()));
         }
-        let column = "Set-up: ".len() + shown.text.len() + 1;
+        let column = "Set-up: ".len() + shown.text.chars().count() + 1;
         if self.screen.cursor_at() != (3, column) {
             self.fail(&format!("the cursor is at {:?}", self.screen.cursor_at()));
         }

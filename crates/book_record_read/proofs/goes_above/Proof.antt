@@ -4,7 +4,6 @@ use mathlib.Core.Bool.{not}
 use lib.Dec.{eqb}
 use borrow.Author.Needs.{needs}
 use borrow.Author.Tests.{eq-eqb, le-leb, le-ltb, lt-leb, lt-ltb, ne-eqb}
-use Rattle.octets.proofs.Tests.{and-false}
 use Rattle.book_record_read.specs.RecordParts.{goesAbove}
 use Rattle.book_record_read.proofs.goes_above.Statement.{statement}
 use Rattle.book_record_read.proofs.goes_above.Tie as tie

@@ -1,8 +1,8 @@
 -- `entries_check::half_step` meets its contract: each return is a case of `halfStep`.
 -- No loop. Assumes nothing.
 use mathlib.Core.Path.{_∙_, _≡_, sym}
-use mathlib.Core.Bool.{false, true}
-use borrow.Author.Tests.{eq-eqb, ne-eqb, not-false}
+use mathlib.Core.Bool.{false}
+use borrow.Author.Tests.{eq-eqb, ne-eqb}
 use Rattle.entries.specs.Names.{isPlain}
 use Rattle.entries_check.proofs.Signs.{step-other}
 use Rattle.entries_check.proofs.half_step.Statement.{statement}

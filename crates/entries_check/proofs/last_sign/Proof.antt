@@ -1,7 +1,6 @@
 -- `entries_check::last_sign` meets its contract. No loop. Assumes nothing.
 use mathlib.Core.Path.{_∙_, sym}
 use native.Mathlib.Omega.{arith}
-use borrow.Author.Needs.{needs}
 use Rattle.entries_check.proofs.Signs.{last-short}
 use Rattle.entries_check.proofs.last_sign.Statement.{statement}
 use Rattle.entries_check.proofs.last_sign.Tie as tie

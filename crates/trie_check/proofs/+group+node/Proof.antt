@@ -19,8 +19,8 @@ use Rattle.trie_check_fields.proofs.Heads.{Read, read-node}
 use Rattle.trie_check_laws.specs.Walk.{beginGroup, stands}
 use Rattle.trie_check.proofs.Walking.{GroupGoing, ahead-of, end-of, falls, going-ahead, going-bad, going-last}
 use Rattle.trie_check.proofs.Walking.{going-less, going-on, going-start, group-bad, node-bad, node-cut}
-use Rattle.trie_check.proofs.Walking.{node-leaf, node-more, onward-to, path-short, rest-cut, rest-out, rest-twice}
-use Rattle.trie_check.proofs.Walking.{some-left}
+use Rattle.trie_check.proofs.Walking.{node-leaf, node-more, onward-to, path-short, rest-cut, rest-out}
+use Rattle.trie_check.proofs.Walking.{rest-twice, some-left}
 use Rattle.trie_check.proofs.group.Reads as group
 use Rattle.trie_check.proofs.group.Kinds as group-kinds
 use Rattle.trie_check.proofs.+group+node.Lts-group as group-lts
