@@ -10,11 +10,12 @@ use limits::NO_HALF;
 use limits::OHM_HALF;
 use limits::OHM_LEAD;
 use limits::OHM_TAIL;
-ghost use Prim.Native.Nat.{_<_};
+ghost use Prim.Native.Nat.{_<_, _≤_};
 ghost use mathlib.Core.Path.{_≡_};
 ghost use lib.ListN.{drop, length};
-ghost use Rattle.entries.specs.Names.{allowedBytes, isName, isPair, isPlain, isPrefix, lastSign};
-ghost use Rattle.entries_laws.specs.Signs.{halfAfter, halfStep};
+ghost use lib.Dec.{eqb};
+ghost use Rattle.entries.specs.Names.{isName, isPair, isPlain, isPrefix, lastSign};
+ghost use Rattle.entries_laws.specs.Signs.{halfAfter, halfStep, noHalf};
 ghost use Rattle.entries_check.specs.Signs.{firstSign};
 
 // Whether a byte is a sign by itself: 20 to 7E.
@@ -58,19 +59,39 @@ fn sign_at(w: &[u8], i: usize) -> usize
     0
 }
 
-// Whether a text is allowed, read sign by sign.
-fn allowed_bytes(w: &[u8]) -> bool
-    ensures { λ r. ⌜ r ≡ allowedBytes (now (w .entry)) ⌝ }
+// The half of a pair that is open at the end of a text, where no sign stands at an index: the first half that the text
+// ends in; no text goes on with anything else.
+fn cut_at(w: &[u8], i: usize) -> usize
+    requires { ⌜ (i < length (now w)) × (firstSign (drop i (now w)) ≡ 0) ⌝ }
+    ensures { λ r. ⌜ r ≡ halfAfter noHalf (drop i (now (w .entry))) ⌝ }
 {
-    let mut i = 0;
+    if 1 < w.len() - i {
+        return BROKEN_HALF;
+    }
+    let x = w[i];
+    if x == MICRO_LEAD {
+        return MICRO_HALF;
+    }
+    if x == OHM_LEAD {
+        return OHM_HALF;
+    }
+    BROKEN_HALF
+}
+
+// The half of a pair that is open behind the signs from an index on.
+fn half_from(w: &[u8], from: usize) -> usize
+    requires { ⌜ from ≤ length (now w) ⌝ }
+    ensures { λ r. ⌜ r ≡ halfAfter noHalf (drop from (now (w .entry))) ⌝ }
+{
+    let mut i = from;
     while i < w.len() {
         let n = sign_at(w, i);
         if n == 0 {
-            return false;
+            return cut_at(w, i);
         }
         i += n;
     }
-    true
+    NO_HALF
 }
 
 // Whether w is an allowed prefix: 0 to 48 such bytes.
@@ -80,7 +101,7 @@ pub fn is_prefix(w: &[u8]) -> bool
     if LONGEST_NAME < w.len() {
         return false;
     }
-    allowed_bytes(w)
+    half_from(w, 0) == NO_HALF
 }
 
 // Whether w is an allowed name: 1 to 48 such bytes.
@@ -107,46 +128,32 @@ pub fn last_sign(w: &[u8]) -> usize
     1
 }
 
-// The half of a pair that is open behind one byte more.
-fn half_step(half: usize, b: u8) -> usize
-    ensures { λ r. ⌜ r ≡ halfStep half b ⌝ }
+// Whether the next byte is the other half of the one that is open.
+fn closes(half: usize, next: u8) -> bool
+    requires { ⌜ (half ≡ noHalf → ⊥) ⌝ }
+    ensures { λ r. ⌜ r ≡ eqb (halfStep half next) noHalf ⌝ }
 {
-    if half == NO_HALF {
-        if is_plain(b) {
-            return NO_HALF;
-        }
-        if b == MICRO_LEAD {
-            return MICRO_HALF;
-        }
-        if b == OHM_LEAD {
-            return OHM_HALF;
-        }
-        return BROKEN_HALF;
-    }
     if half == MICRO_HALF {
-        if b == MICRO_TAIL {
-            return NO_HALF;
-        }
-        return BROKEN_HALF;
+        return next == MICRO_TAIL;
     }
     if half != OHM_HALF {
-        return BROKEN_HALF;
+        return false;
     }
-    if b == OHM_TAIL {
-        return NO_HALF;
-    }
-    BROKEN_HALF
+    next == OHM_TAIL
 }
 
 // The half of a pair that is open behind a part of a text, where `half` was open in front of it.
 pub fn half_after(half: usize, w: &[u8]) -> usize
     ensures { λ r. ⌜ r ≡ halfAfter half (now (w .entry)) ⌝ }
 {
-    let mut behind = half;
-    let mut i = 0;
-    while i < w.len() {
-        behind = half_step(behind, w[i]);
-        i += 1;
+    if half == NO_HALF {
+        return half_from(w, 0);
     }
-    behind
+    if w.len() == 0 {
+        return half;
+    }
+    if !closes(half, w[0]) {
+        return BROKEN_HALF;
+    }
+    half_from(w, 1)
 }

@@ -15,7 +15,8 @@ use Rattle.entries_laws.specs.Signs.{noHalf}
 use Rattle.trie.specs.Trie.{longestLabel}
 use Rattle.trie_check_laws.specs.Walk.{above, afterInner, afterNode, andThen, beginGroup, behindGroup, behindLeaf}
 use Rattle.trie_check_laws.specs.Walk.{beneath, endAfter, groupEnd, halfOf, headOf, inGroup, inNode, inRest, into}
-use Rattle.trie_check_laws.specs.Walk.{keyCount, nodeOn, nodeThen, noneSeen, reachedBy, scoreOf, stands, walkOf}
+use Rattle.trie_check_laws.specs.Walk.{markCount, markPlace, nodeOn, nodeThen, noneSeen, reachedBy, scoreOf}
+use Rattle.trie_check_laws.specs.Walk.{stands, walkOf}
 use Rattle.trie_check_laws.proofs.Sound.{end-past, no-end}
 use Rattle.trie_check_laws.proofs.Stand.{FieldsStand, stands-true}
 use Rattle.trie_check_fields.specs.Known.{EndIs, EndKnown}
@@ -134,16 +135,17 @@ module _ (s : List ℕ) (p : Among) (seen : List ℕ) (n : Fields) (r : Read s (
   rest-out t (suc k) lt = sym (ap (λ x. nodeThen x s p seen (walkOf s k)) (r .head) ∙ rw t)
 
   module _ (ok : stands p n ≡ true) where
-    pub rest-twice : (getD seen (n .key) 0 ≡ 0 → ⊥) → RestIs s p seen Bad
+    pub rest-twice : (getD seen (markPlace (n .key)) 0 ≡ 0 → ⊥) → RestIs s p seen Bad
     unfolding walkOf
     rest-twice g zero lt = absurd (omega arith)
     rest-twice g (suc k) lt = sym (ap (λ x. nodeThen x s p seen (walkOf s k)) (r .head)
-        ∙ rw (ok, ne-eqb (getD seen (n .key) 0) 0 g))
+        ∙ rw (ok, ne-eqb (getD seen (markPlace (n .key)) 0) 0 g))
 
-    module _ (new : getD seen (n .key) 0 ≡ 0) (before : p .at < p .next) (within : p .next ≤ length s) {w : BehindNode}
+    module _ (new : getD seen (markPlace (n .key)) 0 ≡ 0) (before : p .at < p .next) (within : p .next ≤ length s)
+        {w : BehindNode}
         (i : NodeIs s p n w) where
       abbrev marked : List ℕ
-      marked = set seen (n .key) 1
+      marked = set seen (markPlace (n .key)) 1
 
       by-place : (k : ℕ) → nodeOn (eqb (n .size) 0) s p seen n (walkOf s k) ≡ then
           (reachedBy s p n (walkOf s k (beneath s p n))) (λ q. walkOf s k (inRest q marked (n .last)))
@@ -157,7 +159,7 @@ module _ (s : List ℕ) (p : Among) (seen : List ℕ) (n : Fields) (r : Read s (
       unfolding walkOf
       step k lt =
           ap (λ x. nodeThen x s p seen (walkOf s k)) (r .head)
-          ∙ rw (ok, eq-eqb (getD seen (n .key) 0) 0 new) (by-place k)
+          ∙ rw (ok, eq-eqb (getD seen (markPlace (n .key)) 0) 0 new) (by-place k)
           ∙ ap (λ x. then x (λ q. walkOf s k (inRest q marked (n .last)))) (sym (i k lt))
 
       rest-bad : w ≡ reached.Bad → RestIs s p seen Bad
@@ -223,7 +225,7 @@ group-bad s at a left i q (suc k) lt =
 -- whole group.
 pub record GroupGoing (s : List ℕ) (at : ℕ) (a : Above) (left e : ℕ) (p : Among) (seen : List ℕ) : Type 0
   where
-    pub array : length seen ≡ keyCount
+    pub array : length seen ≡ markCount
     pub onto : (r : WalkEnd) → RestIs s p seen r → GroupIs s at a left r
     pub stops : Stops s (p .at) e
     pub past : at < e
@@ -239,7 +241,7 @@ going-start s at a left e {w} i q known {p} b =
     let m = end-of q known in
     subst (λ x. GroupGoing s at a left e x noneSeen) (sym b)
     (record {
-      array = length-replicate {A = ℕ} keyCount 0;
+      array = length-replicate {A = ℕ} markCount 0;
       onto = onto;
       stops = (suc (length s), ends (suc (length s)) (omega arith));
       past = m .0;
@@ -265,7 +267,8 @@ module _ {s : List ℕ} {at : ℕ} {a : Above} {left e : ℕ} {p : Among} {seen 
   going-before y = let b = end-past s y (g .stops .0) (p .at) e (g .stops .1) in omega (arith, b .0, g .on)
 
   module _
-      (b : Bytes s) {n : Fields} (r : Read s (p .at) n) (ok : stands p n ≡ true) (new : getD seen (n .key) 0 ≡ 0)
+      (b : Bytes s) {n : Fields} (r : Read s (p .at) n) (ok : stands p n ≡ true)
+      (new : getD seen (markPlace (n .key)) 0 ≡ 0)
       {w : BehindNode}
       (i : NodeIs s p n w) (o : NodeKnown w (p .next) (length s))
     where
@@ -280,11 +283,11 @@ module _ {s : List ℕ} {at : ℕ} {a : Above} {left e : ℕ} {p : Among} {seen 
         pub going-ahead : GroupKnown (Next (q .next) (q .left)) at (length s)
         going-ahead = let c = onward-of h o in (omega (arith, g .past, g .on, c .0), c .1)
 
-        pub going-on : n .last ≡ false → GroupGoing s at a left e q (set seen (n .key) 1)
+        pub going-on : n .last ≡ false → GroupGoing s at a left e q (set seen (markPlace (n .key)) 1)
         going-on t =
             let c = onward-of h o in
             record {
-              array = length-set seen (n .key) 1 ∙ g .array;
+              array = length-set seen (markPlace (n .key)) 1 ∙ g .array;
               onto = λ d j. g .onto d (rest-more s p seen n r ok new (going-before b) (g .within) i h t (c .0) j);
               stops = subst (λ x. Stops s x e) (sym (next-at s p seen n r ok new (going-before b) (g .within) i h))
                   (stops-on s (p .at) e n (g .stops) r t);

@@ -7,6 +7,7 @@ use limits::FRAME_LENGTH;
 use limits::LONGEST_LABEL;
 use limits::NO_HALF;
 use limits::TRIE_VERSION;
+use trie_check_rules::MARK_COUNT;
 ghost use mathlib.Core.Path.{_≡_};
 ghost use mathlib.Core.Bool.{true};
 ghost use Prim.Native.Nat.{_≤_};
@@ -15,9 +16,6 @@ ghost use Rattle.frame_code.specs.Image.{imageAs};
 ghost use Rattle.trie.specs.Reading.{readTrie};
 ghost use Rattle.trie_check_laws.specs.Walk.{stands};
 ghost use Rattle.trie_check.specs.Known.{GroupIs, GroupKnown, NodeIs, NodeKnown};
-
-// The keys of labels, 0 for the empty one, else one more than any byte: `keyCount`.
-const KEYS: usize = 257;
 
 // A node that stands in its place, with all that stands below it: the place behind it. Its label may end inside a pair,
 // if the labels below go on with the pair's other half.
@@ -66,7 +64,7 @@ fn node(
     ))
 }
 
-// The group at an offset, with all its descendants. `seen` has a mark for each key of the siblings before.
+// The group at an offset, with all its descendants. `seen` has the marks of the keys of the siblings before.
 fn group(buf: &[u8], at: usize, a: trie_check_laws::Above, left: usize) -> trie_check_laws::WalkEnd
     ensures is { λ r. ⌜ GroupIs (now (buf .entry)) at a left r ⌝ }
     ensures known { λ r. ⌜ GroupKnown r at (length (now (buf .entry))) ⌝ }
@@ -75,7 +73,7 @@ fn group(buf: &[u8], at: usize, a: trie_check_laws::Above, left: usize) -> trie_
         return trie_check_laws::WalkEnd::Bad;
     };
     let mut p = trie_check_rules::begin_at(at, next, a, left);
-    let mut seen = [0u8; KEYS];
+    let mut seen = [0u8; MARK_COUNT];
     loop {
         let trie_check_laws::Head::Node(n) = trie_check_fields::head_at(buf, p.at) else {
             return trie_check_laws::WalkEnd::Bad;
@@ -83,11 +81,11 @@ fn group(buf: &[u8], at: usize, a: trie_check_laws::Above, left: usize) -> trie_
         if !trie_check_rules::fits_here(p, n) {
             return trie_check_laws::WalkEnd::Bad;
         }
-        let key = n.key;
-        if seen[key] != 0 {
+        let place = trie_check_rules::mark_place(n.key);
+        if seen[place] != 0 {
             return trie_check_laws::WalkEnd::Bad;
         }
-        seen[key] = 1;
+        seen[place] = 1;
         let trie_check_laws::BehindNode::At(q) = node(buf, p, n) else {
             return trie_check_laws::WalkEnd::Bad;
         };

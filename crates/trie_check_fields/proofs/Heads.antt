@@ -13,7 +13,7 @@ use Rattle.octets.proofs.Numbers.{Bytes}
 use Rattle.trie.specs.Reading.{childSize, labelLength, lastMark, scoreSize}
 use Rattle.trie.specs.Trie.{sizeOf}
 use Rattle.trie_laws.specs.Keys.{key}
-use Rattle.trie_check_laws.specs.Walk.{bodyOf, childIn, fieldIn, headOf, keyCount, labelIn}
+use Rattle.trie_check_laws.specs.Walk.{bodyOf, childIn, fieldIn, headOf, labelIn}
 use Rattle.trie.proofs.Header.{child-most, label-most, score-most}
 use Rattle.trie_header.proofs.Fields.{number-part}
 use Rattle.trie_check_laws.proofs.Heads.{head-says}
@@ -130,18 +130,17 @@ pub head-known : (s : List ℕ) (at : ℕ) → Bytes s → (w : Head) → w ≡ 
 head-known s at b head.Cut e = tt
 head-known s at b (head.Node n) e =
     let r = head-says s at b n (sym e) in
-    (r .past, r .within, r .keyed, r .held)
+    (r .past, r .within, r .held)
 
 -- a node that was read, as the callers have it
 pub record Read (s : List ℕ) (at : ℕ) (n : Fields) : Type 0 where
   pub head : headOf s at ≡ head.Node n
   pub past : at < n .end
   pub within : n .end ≤ length s
-  pub key : n .key < keyCount
   pub held : n .len ≤ n .end
 
 pub read-node : {s : List ℕ} {at : ℕ} {n : Fields} {w : Head} → w ≡ headOf s at → HeadKnown w at (length s)
     → w ≡ head.Node n → Read s at n
 read-node {s} {at} {n} {w} e k q =
     let m : HeadKnown (head.Node n) at (length s) = subst (λ v. HeadKnown v at (length s)) q k in
-    record { head = sym e ∙ q; past = m .0; within = m .1; key = m .2; held = m .3 }
+    record { head = sym e ∙ q; past = m .0; within = m .1; held = m .2 }

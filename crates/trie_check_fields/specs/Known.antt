@@ -7,14 +7,14 @@ use lib.ListN.{length}
 use Rattle.frame_code.specs.Image.{endedAs}
 use Rattle.frame_code.specs.declared.Ended.the-variants as ended
 use Rattle.frame_code.specs.declared.Ended.{Ended}
-use Rattle.trie_check_laws.specs.Walk.{groupEnd, keyCount}
+use Rattle.trie_check_laws.specs.Walk.{groupEnd}
 use Rattle.trie_check_laws.specs.declared.Head.the-variants as head
 use Rattle.trie_check_laws.specs.declared.Head.{Head}
 
--- a node ends behind its begin and holds its label, and its key is one of those of labels
+-- a node ends behind its begin and holds its label
 abbrev pub HeadKnown : Head → ℕ → ℕ → Type 0
 HeadKnown head.Cut at n = Unit {0}
-HeadKnown (head.Node f) at n = (at < f .end) × (f .end ≤ n) × (f .key < keyCount) × (f .len ≤ f .end)
+HeadKnown (head.Node f) at n = (at < f .end) × (f .end ≤ n) × (f .len ≤ f .end)
 
 -- where the group at a position ends, with all the turns that suffice
 abbrev pub EndIs : List ℕ → ℕ → Ended → Type 0

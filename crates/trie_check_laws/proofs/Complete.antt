@@ -9,7 +9,7 @@ use lib.Dec.{eqb, ltb}
 use lib.ListN.{drop, getD, length, length-append, length-drop, length-replicate, length-set, replicate, set}
 use lib.Seq.{drop-at, drop-drop, getD-set-other}
 use native.Mathlib.Omega.{arith}
-use borrow.Author.Tests.{eq-eqb, eqb-false, eqb-true, ltb-true, ne-eqb}
+use borrow.Author.Tests.{eq-eqb, eqb-false, eqb-true, lt-ltb, ltb-true, ne-eqb}
 use Rattle.octets.proofs.Tests.{by-test}
 use Rattle.octets.specs.Lists.{_∈_, if_then_else_}
 use Rattle.octets.proofs.Lists.{some-in}
@@ -27,15 +27,16 @@ use Rattle.trie_group_laws.proofs.Groups.{scattered-top, set-before}
 use Rattle.trie_group_laws.proofs.Keys.{keysDiffer}
 use Rattle.trie_group_laws.proofs.Made.{Made, Suffixes, made-facts}
 use Rattle.trie_group_laws.proofs.Sort.{chain, chain-tail}
-use Rattle.trie_laws.specs.Keys.{key, setBefore, setKey}
+use Rattle.trie_laws.specs.Keys.{KeyIn, key, keysBehind, setBefore, setKey}
+use Rattle.trie_laws.proofs.Behind.{set-key-behind}
 use Rattle.trie_check_laws.proofs.Heads.{fieldsFor, node-behind, node-label-at, node-read, node-within}
 use Rattle.trie_check_laws.proofs.Sound.{isNil, last-nodes}
 use Rattle.trie_check_laws.proofs.Stand.{FieldsStand, true-stands}
 use Rattle.trie_check_laws.proofs.Weight.{Kid, Lone, group-weight, kind, scattered-weight, weight, weight-part}
 use Rattle.trie_check_laws.proofs.Written.{siblings-any}
 use Rattle.trie_check_laws.specs.Walk.{above, afterInner, afterLeaf, afterNode, andThen, beginGroup, beneath}
-use Rattle.trie_check_laws.specs.Walk.{groupEnd, halfOf, headOf, inGroup, inNode, inRest, into, keyCount}
-use Rattle.trie_check_laws.specs.Walk.{labelAt, noneSeen, scoreOf, walkOf}
+use Rattle.trie_check_laws.specs.Walk.{groupEnd, halfOf, headOf, inGroup, inNode, inRest, into, labelAt}
+use Rattle.trie_check_laws.specs.Walk.{markCount, markPlace, noneSeen, scoreOf, walkOf}
 use Rattle.trie_check_laws.specs.declared.Fields.{Fields}
 use Rattle.trie_check_laws.specs.declared.Head.the-variants as head
 use Rattle.trie_check_laws.specs.declared.Above.{Above}
@@ -46,13 +47,13 @@ use Rattle.trie_laws.proofs.Keys.{label-key}
 -- one step of the walk
 walk-leaf :
     (s : List ℕ) (k : ℕ) (p : Among) (seen : List ℕ) (n : Fields) → headOf s (p .at) ≡ head.Node n → FieldsStand p n
-    → getD seen (n .key) 0 ≡ 0 → n .size ≡ 0 → halfOf s p n ≡ noHalf
-    → walkOf s (suc k) (inNode p seen) ≡ walkOf s k (inRest (afterLeaf p n) (set seen (n .key) 1) (n .last))
+    → getD seen (markPlace (n .key)) 0 ≡ 0 → n .size ≡ 0 → halfOf s p n ≡ noHalf
+    → walkOf s (suc k) (inNode p seen) ≡ walkOf s k (inRest (afterLeaf p n) (set seen (markPlace (n .key)) 1) (n .last))
 unfolding walkOf
 walk-leaf s k p seen n h st fr z w = rw (
   h,
   true-stands p n st,
-  eq-eqb (getD seen (n .key) 0) 0 fr,
+  eq-eqb (getD seen (markPlace (n .key)) 0) 0 fr,
   eq-eqb (n .size) 0 z,
   eq-eqb (halfOf s p n) noHalf w,
 )
@@ -60,17 +61,18 @@ walk-leaf s k p seen n h st fr z w = rw (
 walk-inner :
     (s : List ℕ) (k m lf : ℕ) (p : Among) (seen : List ℕ) (n : Fields) → headOf s (p .at) ≡ head.Node n
     → FieldsStand p n
-    → getD seen (n .key) 0 ≡ 0 → (n .size ≡ 0 → ⊥)
+    → getD seen (markPlace (n .key)) 0 ≡ 0 → (n .size ≡ 0 → ⊥)
     → walkOf s k (beneath s p n) ≡ Next m lf
-    → walkOf s (suc k) (inNode p seen) ≡ walkOf s k (inRest (afterInner p n m lf) (set seen (n .key) 1) (n .last))
+    → walkOf s (suc k) (inNode p seen) ≡ walkOf s k
+    (inRest (afterInner p n m lf) (set seen (markPlace (n .key)) 1) (n .last))
 unfolding walkOf
 walk-inner s k m lf p seen n h st fr z g = rw (
   h,
   true-stands p n st,
-  eq-eqb (getD seen (n .key) 0) 0 fr,
+  eq-eqb (getD seen (markPlace (n .key)) 0) 0 fr,
   ne-eqb (n .size) 0 z,
 ) (ap (λ w. andThen w
-    (λ q left. walkOf s k (inRest (afterInner p n q left) (set seen (n .key) 1) (n .last)))) g)
+    (λ q left. walkOf s k (inRest (afterInner p n q left) (set seen (markPlace (n .key)) 1) (n .last)))) g)
 
 walk-last : (s : List ℕ) (k : ℕ) (p : Among) (seen : List ℕ) (last : Bool) → last ≡ true
     → walkOf s (suc k) (inRest p seen last) ≡ Next (p .next) (p .left)
@@ -137,6 +139,39 @@ size-none = record { back = refl; small = omega arith }
 
 highest-fits : (path half : ℕ) (t : List Entry) → Made path half (labelOf t) (highest t) t → highest t < 2 ^ 32
 highest-fits path half t m = highest-below (2 ^ 32) t (omega arith) (made-facts m .fits)
+
+-- Keys that can follow a half have different places for their marks: from a place the key is known again.
+abbrev keyAt : ℕ → ℕ
+keyAt q = if eqb q 3 then suc 0xC2 else if eqb q 15 then suc 0xCE else q
+
+key-again : (k : ℕ) → KeyIn k (keysBehind noHalf) → keyAt (markPlace k) ≡ k
+key-again k (inl m) = let q : k ≡ 0 = omega (arith, m .1) in rw q
+key-again k (inr (inl m)) =
+    rw (
+      lt-ltb k markCount (omega (arith, m .1)),
+      ne-eqb k 3 (λ z. omega (arith, m .0)),
+      ne-eqb k 15 (λ z. omega (arith, m .0)),
+    )
+key-again k (inr (inr (inl m))) = let q : k ≡ suc 0xC2 = omega (arith, m .0, m .1) in rw q
+key-again k (inr (inr (inr (inl m)))) = let q : k ≡ suc 0xCE = omega (arith, m .0, m .1) in rw q
+key-again k (inr (inr (inr (inr m)))) = absurd m
+
+same-key : (h k l : ℕ) → KeyIn k (keysBehind h) → KeyIn l (keysBehind h) → markPlace k ≡ markPlace l → k ≡ l
+same-key zero k l a b z = sym (key-again k a) ∙ ap keyAt z ∙ key-again l b
+same-key (suc zero) k l (inl a) (inl b) z = omega (arith, a .0, a .1, b .0, b .1)
+same-key (suc zero) k l (inr a) b z = absurd a
+same-key (suc zero) k l (inl a) (inr b) z = absurd b
+same-key (suc (suc h)) k l (inl a) (inl b) z = omega (arith, a .0, a .1, b .0, b .1)
+same-key (suc (suc h)) k l (inr a) b z = absurd a
+same-key (suc (suc h)) k l (inl a) (inr b) z = absurd b
+
+places-differ : {path : ℕ} (half : ℕ) (s t : List Entry) → Made path half (labelOf s) (highest s) s
+    → Made path half (labelOf t) (highest t) t → markPlace (setKey s) ≡ markPlace (setKey t) → setKey s ≡ setKey t
+places-differ half s t a b z =
+    let f = made-facts a in
+    let g = made-facts b in
+    same-key half (setKey s) (setKey t) (set-key-behind half s (f .run) (f .allowed))
+    (set-key-behind half t (g .run) (g .allowed)) z
 
 -- a group below is of some bytes, and of fewer than 2 ^ 32
 module _ (path half d : ℕ) (t : List Entry) (deep : 48 < path + suc d) (light : weight t < 2 ^ 32)
@@ -293,8 +328,8 @@ record Runs (s : List ℕ) (d : ℕ) (p : Among) (seen : List ℕ) (f size l : �
   light : (t : List Entry) → t ∈ ss → weight t < 2 ^ 32
   order : chain setBefore ss
   differ : keysDiffer ss
-  fresh : (t : List Entry) → t ∈ ss → getD seen (setKey t) 0 ≡ 0
-  array : length seen ≡ keyCount
+  fresh : (t : List Entry) → t ∈ ss → getD seen (markPlace (setKey t)) 0 ≡ 0
+  array : length seen ≡ markCount
   fits : f < 2 ^ 32
   field : anyInner (nodes d ss) ≡ true → ChildField (p .own) (p .back) size
   count : p .left ≡ l + length (flat ss)
@@ -394,12 +429,14 @@ module _ (s : List ℕ) (d : ℕ) (kids : KidsT s d) (t : List Entry) (ss : List
           size = sz;
         }
 
-    n-fresh : getD seen (n .key) 0 ≡ 0
+    n-fresh : getD seen (markPlace (n .key)) 0 ≡ 0
     n-fresh = rw t-key (run .fresh t (inl refl))
 
-    rest-fresh : (u : List Entry) → u ∈ ss → getD (set seen (n .key) 1) (setKey u) 0 ≡ 0
+    rest-fresh : (u : List Entry) → u ∈ ss → getD (set seen (markPlace (n .key)) 1) (markPlace (setKey u)) 0 ≡ 0
     rest-fresh u m =
-        getD-set-other seen (n .key) (setKey u) 1 0 (λ z. run .differ .0 u m (sym t-key ∙ sym z)) ∙ run .fresh u (inr m)
+        getD-set-other seen (markPlace (n .key)) (markPlace (setKey u)) 1 0
+        (λ z. run .differ .0 u m (sym (places-differ (p .half) u t (run .made u (inr m)) mt (z ∙ ap markPlace t-key))))
+        ∙ run .fresh u (inr m)
 
     rest-at : (nx bk lf : ℕ) (ow : Bool) (u : List Entry) (us : List (List Entry)) → ss ≡ u ∷ us
         → At (afterNode p n nx bk ow lf) u us f′
@@ -498,7 +535,7 @@ module _ (s : List ℕ) (d : ℕ) (kids : KidsT s d) (t : List Entry) (ss : List
     lf-under : unders (x ∷ xs) ≡ unders xs
     lf-under = ap (λ w. w ++ unders xs) (a .under)
 
-    lf-runs : Runs s d (afterLeaf p lf-n) (set seen (lf-n .key) 1) f′ size l ss r q
+    lf-runs : Runs s d (afterLeaf p lf-n) (set seen (markPlace (lf-n .key)) 1) f′ size l ss r q
     lf-runs =
         record {
           made = λ u m. run .made u (inr m);
@@ -506,7 +543,7 @@ module _ (s : List ℕ) (d : ℕ) (kids : KidsT s d) (t : List Entry) (ss : List
           order = chain-tail setBefore t ss (run .order);
           differ = run .differ .1;
           fresh = rest-fresh 0 0 0 lf-lab (a .within) lf-empty lf-left lf-child lf-size;
-          array = length-set seen (lf-n .key) 1 ∙ run .array;
+          array = length-set seen (markPlace (lf-n .key)) 1 ∙ run .array;
           fits = f′-fits;
           field = λ y. run .field (rw lf-leaf y);
           count = let b = lf-count in omega arith;
@@ -530,9 +567,9 @@ module _ (s : List ℕ) (d : ℕ) (kids : KidsT s d) (t : List Entry) (ss : List
     leaf-on (suc (suc k)) h =
         walk-leaf s (suc k) p seen lf-n lf-read lf-stands
         (n-fresh 0 0 0 lf-lab (a .within) lf-empty lf-left lf-child lf-size) refl lf-whole
-        ∙ ap (λ b. walkOf s (suc k) (inRest (afterLeaf p lf-n) (set seen (lf-n .key) 1) b))
+        ∙ ap (λ b. walkOf s (suc k) (inRest (afterLeaf p lf-n) (set seen (markPlace (lf-n .key)) 1) b))
         (last-nodes (groupOf d 0) ss)
-        ∙ ih (afterLeaf p lf-n) (set seen (lf-n .key) 1) f′ size l r q k lf-runs refl
+        ∙ ih (afterLeaf p lf-n) (set seen (markPlace (lf-n .key)) 1) f′ size l r q k lf-runs refl
         (rest-at 0 0 0 lf-lab (a .within) lf-empty lf-left lf-child lf-size (p .next) (p .back) (p .left - 1)
         (p .own))
         (let b = lf-within in omega arith)
@@ -640,7 +677,7 @@ module _ (s : List ℕ) (d : ℕ) (kids : KidsT s d) (t : List Entry) (ss : List
         ∙ ap (drop (length (groupOf d 0 (a .es)))) in-there
         ∙ drop-at (groupOf d 0 (a .es)) (unders xs ++ q) (length (groupOf d 0 (a .es))) refl
 
-    in-runs : Runs s d (afterInner p in-n m lf) (set seen (in-n .key) 1) f′ (sizeOf (m - p .next)) l ss r q
+    in-runs : Runs s d (afterInner p in-n m lf) (set seen (markPlace (in-n .key)) 1) f′ (sizeOf (m - p .next)) l ss r q
     in-runs =
         record {
           made = λ v y. run .made v (inr y);
@@ -648,7 +685,7 @@ module _ (s : List ℕ) (d : ℕ) (kids : KidsT s d) (t : List Entry) (ss : List
           order = chain-tail setBefore t ss (run .order);
           differ = run .differ .1;
           fresh = rest-fresh (p .back) size 0 in-lab in-within in-empty in-left in-child in-size;
-          array = length-set seen (in-n .key) 1 ∙ run .array;
+          array = length-set seen (markPlace (in-n .key)) 1 ∙ run .array;
           fits = f′-fits;
           field = λ y. subst (λ (w : ℕ). ChildField false w (sizeOf w)) in-back
               (kid-field (p .path) (p .half) d t (run .deep) (run .light t (inl refl)) a);
@@ -691,9 +728,10 @@ module _ (s : List ℕ) (d : ℕ) (kids : KidsT s d) (t : List Entry) (ss : List
         walk-inner s (suc k) m lf p seen in-n in-read in-stands
         (n-fresh (p .back) size 0 in-lab in-within in-empty in-left in-child in-size) (in-field .some)
         (in-group (suc k) (let b = in-before in let c = run .next in omega arith))
-        ∙ ap (λ b. walkOf s (suc k) (inRest (afterInner p in-n m lf) (set seen (in-n .key) 1) b))
+        ∙ ap (λ b. walkOf s (suc k) (inRest (afterInner p in-n m lf) (set seen (markPlace (in-n .key)) 1) b))
         (last-nodes (groupOf d 0) ss)
-        ∙ ih (afterInner p in-n m lf) (set seen (in-n .key) 1) f′ (sizeOf (m - p .next)) l r q k in-runs refl
+        ∙ ih (afterInner p in-n m lf) (set seen (markPlace (in-n .key)) 1) f′ (sizeOf (m - p .next)) l r q k in-runs
+        refl
         (rest-at (p .back) size 0 in-lab in-within in-empty in-left in-child in-size m (m - p .next) lf false)
         (let b = in-inside in omega arith)
         ∙ ap (λ w. Next w l)
@@ -791,8 +829,8 @@ module _
           light = light;
           order = of .order;
           differ = of .differ;
-          fresh = λ u m. none-seen keyCount (setKey u);
-          array = length-replicate {A = ℕ} keyCount 0;
+          fresh = λ u m. none-seen markCount (markPlace (setKey u));
+          array = length-replicate {A = ℕ} markCount 0;
           fits = g-fits;
           field = λ y. subst (λ (w : ℕ). ChildField true w (ownSize o)) (g-back y) (g-own y);
           count = count;

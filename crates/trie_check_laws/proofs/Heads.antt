@@ -9,7 +9,7 @@ use lib.Seq.{drop-at, drop-cons, drop-drop, take-at}
 use native.Mathlib.Omega.{arith}
 use borrow.Author.Tests.{eq-eqb, eqb-false, eqb-true, le-leb, le-ltb, leb-false, lt-leb, ltb-false}
 use Rattle.octets.proofs.Coding.{fromBe-be, length-be}
-use Rattle.octets.proofs.Numbers.{Bytes, bytes-drop, bytes-take, number-below, number-stands}
+use Rattle.octets.proofs.Numbers.{Bytes, bytes-drop, number-below, number-stands}
 use Rattle.octets.proofs.Order.{front-of}
 use Rattle.octets.proofs.Tests.{by-test}
 use Rattle.octets.specs.Octets.{be, fromBe, numberAt}
@@ -19,7 +19,7 @@ use Rattle.trie.proofs.Trie.{node-split}
 use Rattle.trie.specs.Reading.{childSize, labelLength, lastMark, scoreSize}
 use Rattle.trie.specs.Trie.{Node, headerByte, nodeBytes, sizeOf}
 use Rattle.trie_laws.specs.Keys.{key}
-use Rattle.trie_check_laws.specs.Walk.{bodyOf, childIn, fieldIn, headFields, headOf, keyCount, labelAt, labelIn}
+use Rattle.trie_check_laws.specs.Walk.{bodyOf, childIn, fieldIn, headFields, headOf, labelAt, labelIn}
 use Rattle.trie_check_laws.specs.declared.Fields.{Fields}
 use Rattle.trie_check_laws.specs.declared.Head.the-variants as head
 
@@ -69,7 +69,6 @@ pub record Says (s : List ℕ) (at : ℕ) (n : Fields) : Type 0 where
   pub short : length label < 8
   pub isKey : key label ≡ n .key
   pub isAt : labelAt s n ≡ label
-  pub keyed : n .key < keyCount
   pub fits : n .field < 2 ^ 32
   pub size : Size (n .size)
   pub none : n .size ≡ 0 → n .child ≡ 0
@@ -101,11 +100,6 @@ label-at s at a b n =
     let q : at + 1 + (a + b + n) - n ≡ suc at + a + b = omega arith in
     ap (λ k. take n (drop k s)) q
     ∙ ap (take n) (sym (drop-drop b (suc at + a) s) ∙ ap (drop b) (sym (drop-drop a (suc at) s)))
-
--- its key is one of those of labels
-key-small : (l : List ℕ) → Bytes l → key l < keyCount
-key-small [] b = omega arith
-key-small (x ∷ l) b = omega (arith, b 0)
 
 -- a node put together again from the parts that were read
 joined :
@@ -149,8 +143,6 @@ module _ (s : List ℕ) (at : ℕ) (small : Bytes s) where
         short = omega arith;
         isKey = refl;
         isAt = label-at s at (scoreSize h) (childSize h) (labelLength h);
-        keyed = key-small (labelIn h t) (bytes-take (labelLength h) (drop (childSize h) (drop (scoreSize h) t))
-            (bytes-drop (childSize h) (drop (scoreSize h) t) (bytes-drop (scoreSize h) t st)));
         fits = field-fits (scoreSize h) t st (omega arith) (sc .most);
         size = cc′ .size;
         none = λ q. no-field (childSize h) (drop (scoreSize h) t) q;

@@ -5,11 +5,11 @@ use mathlib.Core.Logic.{inl, inr}
 use mathlib.Core.Bool.{Bool, _&&_, false, false≢true, true}
 use mathlib.Core.List.{List, [], _++_, _∷_, map}
 use mathlib.Core.Option.{Option, none, some}
-use lib.Dec.{eqb}
+use lib.Dec.{eqb, ltb}
 use lib.ListN.{drop, getD, length, length-append, length-replicate, length-set, set}
 use lib.Seq.{getD-set-other, getD-set-same}
 use native.Mathlib.Omega.{arith}
-use borrow.Author.Tests.{eqb-false, eqb-true, lt-ltb}
+use borrow.Author.Tests.{eqb-false, eqb-true, lt-ltb, ltb-true}
 use Rattle.octets.proofs.Numbers.{Bytes}
 use Rattle.octets.proofs.Tests.{and-true, by-test}
 use Rattle.octets.specs.Lists.{_∈_, if_then_else_}
@@ -34,7 +34,7 @@ use Rattle.trie_check_laws.proofs.Written.{GroupWritten, inner-under, l
 use Rattle.trie_check_laws.proofs.Written.{written-leaf, written-none}
 use Rattle.trie_check_laws.specs.Walk.{Task, above, afterInner, afterLeaf, afterNode, andThen, beginGroup}
 use Rattle.trie_check_laws.specs.Walk.{beneath, endAfter, groupEnd, halfOf, headOf, inGroup, inNode, inRest, into}
-use Rattle.trie_check_laws.specs.Walk.{keyCount, nodeThen, noneSeen, scoreOf, stands, walkOf}
+use Rattle.trie_check_laws.specs.Walk.{markCount, markPlace, nodeThen, noneSeen, scoreOf, stands, walkOf}
 use Rattle.trie_check_laws.specs.declared.Fields.{Fields}
 use Rattle.trie_check_laws.specs.declared.Head.the-variants as head
 use Rattle.trie_check_laws.specs.declared.Head.{Head}
@@ -50,7 +50,7 @@ isNil (t ∷ ts) = false
 
 -- a place where the check can stand
 pub record AmongReady (s : List ℕ) (p : Among) (seen : List ℕ) : Type 0 where
-  pub array : length seen ≡ keyCount
+  pub array : length seen ≡ markCount
   pub next : p .next ≤ length s
   pub score : p .score < 2 ^ 32
   pub root : p .first ≡ true → p .path ≡ 0 → p .score ≡ 0
@@ -76,7 +76,7 @@ pub record NodesAre (s : List ℕ) (p : Among) (seen : List ℕ) (q l : ℕ) : T
   pub size : ℕ
   pub made : (t : List Entry) → t ∈ (one ∷ ss) → Made (p .path) (p .half) (labelOf t) (highest t) t
   pub differ : keysDiffer (one ∷ ss)
-  pub fresh : (t : List Entry) → t ∈ (one ∷ ss) → getD seen (setKey t) 0 ≡ 0
+  pub fresh : (t : List Entry) → t ∈ (one ∷ ss) → getD seen (markPlace (setKey t)) 0 ≡ 0
   pub order : chain setBefore (one ∷ ss)
   pub top : p .first ≡ true → highest one ≡ p .score + f
   pub low : p .first ≡ true → (p .path ≡ 0 → ⊥) → f ≡ 0
@@ -101,7 +101,7 @@ pub record RestAre (s : List ℕ) (p : Among) (seen : List ℕ) (last : Bool) (q
   pub lastIs : last ≡ isNil ss
   pub made : (t : List Entry) → t ∈ ss → Made (p .path) (p .half) (labelOf t) (highest t) t
   pub differ : keysDiffer ss
-  pub fresh : (t : List Entry) → t ∈ ss → getD seen (setKey t) 0 ≡ 0
+  pub fresh : (t : List Entry) → t ∈ ss → getD seen (markPlace (setKey t)) 0 ≡ 0
   pub order : chain setBefore ss
   pub falls : (t : List Entry) (ts : List (List Entry)) → ss ≡ t ∷ ts → highest t + f ≡ p .score
   pub ties : (t : List Entry) (ts : List (List Entry)) → ss ≡ t ∷ ts → f ≡ 0 → p .key < setKey t
@@ -205,17 +205,24 @@ end-more : (s : List ℕ) (at m e : ℕ) (n : Fields) → headOf s at ≡ head.N
 unfolding groupEnd
 end-more s at m e n h t r = rw (h, t) r
 
+-- marks have places
+pub place-small : (k : ℕ) → markPlace k < markCount
+place-small k =
+    by-test (ltb k markCount)
+    (λ t. let q = ltb-true k markCount t in rw t (omega arith))
+    (λ t. rw t (omega arith))
+
 -- one node and what follows it
 module _
     (s : List ℕ) (small : Bytes s) (p : Among) (seen : List ℕ) (n : Fields) (rd : AmongReady s p seen)
     (hd : headOf s (p .at) ≡ head.Node n) (st : FieldsStand p n)
-    (fr : getD seen (n .key) 0 ≡ 0)
+    (fr : getD seen (markPlace (n .key)) 0 ≡ 0)
   where
     sy : Says s (p .at) n
     sy = head-says s (p .at) small n hd
 
-    key-bound : n .key < length seen
-    key-bound = let a = sy .keyed in let c = rd .array in omega arith
+    place-bound : markPlace (n .key) < length seen
+    place-bound = rw (rd .array) (place-small (n .key))
 
     score-first : p .first ≡ true → scoreOf p n ≡ p .score + n .field
     score-first t =
@@ -233,33 +240,36 @@ module _
         (λ t. rw t (omega arith))
 
     next-ready : (nx bk lf : ℕ) (ow : Bool) → nx ≤ length s
-        → AmongReady s (afterNode p n nx bk ow lf) (set seen (n .key) 1)
+        → AmongReady s (afterNode p n nx bk ow lf) (set seen (markPlace (n .key)) 1)
     next-ready nx bk lf ow h =
         record {
-          array = length-set seen (n .key) 1 ∙ rd .array;
+          array = length-set seen (markPlace (n .key)) 1 ∙ rd .array;
           next = h;
           score = score-bound;
           root = λ t. absurd (false≢true t);
         }
 
     module _
-        (q l nx bk lf : ℕ) (ow : Bool) (r : RestAre s (afterNode p n nx bk ow lf) (set seen (n .key) 1) (n .last) q l)
+        (q l nx bk lf : ℕ) (ow : Bool) (r : RestAre s (afterNode p n nx bk ow lf) (set seen (markPlace (n .key)) 1)
+        (n .last) q l)
         (one : List Entry)
         (made : Made (p .path) (p .half) (labelOf one) (highest one) one) (keyIs : setKey one ≡ n .key)
         (top : highest one ≡ scoreOf p n)
       where
-        differs : (t : List Entry) → t ∈ r .ss → (setKey one ≡ setKey t → ⊥)
-        differs t m z =
+        apart : (t : List Entry) → t ∈ r .ss → (markPlace (setKey t) ≡ markPlace (n .key) → ⊥)
+        apart t m z =
             let a = r .fresh t m in
-            let b = getD-set-same seen (n .key) 1 0 key-bound in
-            let c : setKey t ≡ n .key = sym z ∙ keyIs in
-            let d : getD (set seen (n .key) 1) (setKey t) 0 ≡ 1 = rw c b in
+            let b = getD-set-same seen (markPlace (n .key)) 1 0 place-bound in
+            let d : getD (set seen (markPlace (n .key)) 1) (markPlace (setKey t)) 0 ≡ 1 = rw z b in
             omega arith
 
-        fresh : (t : List Entry) → t ∈ (one ∷ r .ss) → getD seen (setKey t) 0 ≡ 0
+        differs : (t : List Entry) → t ∈ r .ss → (setKey one ≡ setKey t → ⊥)
+        differs t m z = apart t m (ap markPlace (sym z ∙ keyIs))
+
+        fresh : (t : List Entry) → t ∈ (one ∷ r .ss) → getD seen (markPlace (setKey t)) 0 ≡ 0
         fresh t (inl z) = rw (z, keyIs) fr
-        fresh t (inr m) = sym (getD-set-other seen (n .key) (setKey t) 1 0 (λ z. differs t m (keyIs ∙ sym z)))
-            ∙ r .fresh t m
+        fresh t (inr m) =
+            sym (getD-set-other seen (markPlace (n .key)) (markPlace (setKey t)) 1 0 (apart t m)) ∙ r .fresh t m
 
         makes : (t : List Entry) → t ∈ (one ∷ r .ss) → Made (p .path) (p .half) (labelOf t) (highest t) t
         makes t (inl z) = rw z made
@@ -352,7 +362,7 @@ module _
         ∙ (λ i. nodeBytes (nodeOf b one) (n .field) (ch i) (sz i) ((la ∙ sym (last-nodes b ss)) i) ++ drop (n .end) s)
 
     leaf-step : (q l : ℕ) → n .size ≡ 0 → halfOf s p n ≡ noHalf
-        → RestAre s (afterLeaf p n) (set seen (n .key) 1) (n .last) q l → NodesAre s p seen q l
+        → RestAre s (afterLeaf p n) (set seen (markPlace (n .key)) 1) (n .last) q l → NodesAre s p seen q l
     leaf-step q l z w r =
         let v = scoreOf p n in
         let one = entry (sy .label) (scoreOf p n) ∷ [] in
@@ -397,7 +407,7 @@ module _
       inner-top : highest (prefixed (sy .label) (g .es)) ≡ scoreOf p n
       inner-top = highest-more (sy .label) (g .es) ∙ sym (g .top) ∙ (let a = field-zero in omega arith)
 
-      inner-step : (q l : ℕ) → RestAre s (afterInner p n m lf) (set seen (n .key) 1) (n .last) q l
+      inner-step : (q l : ℕ) → RestAre s (afterInner p n m lf) (set seen (markPlace (n .key)) 1) (n .last) q l
           → NodesAre s p seen q l
       inner-step q l r =
           let one = prefixed (sy .label) (g .es) in
@@ -536,7 +546,7 @@ module _ (s : List ℕ) (small : Bytes s) (k : ℕ) (ih : (t : Task) (q l : ℕ)
       let g = end-past s small (suc k) at e h in
       group-step s (suc k) at e a left q l h
       (ih (inNode (beginGroup at e a left) noneSeen) q l r
-      (record { array = length-replicate {A = ℕ} keyCount 0; next = g .1; score = b; root = λ t. c }))
+      (record { array = length-replicate {A = ℕ} markCount 0; next = g .1; score = b; root = λ t. c }))
 
   sound-rest : (p : Among) (seen : List ℕ) (last : Bool) (q l : ℕ)
       → (if last then Next (p .next) (p .left) else walkOf s k (inNode p seen)) ≡ Next q l
@@ -553,9 +563,10 @@ module _ (s : List ℕ) (small : Bytes s) (k : ℕ) (ih : (t : Task) (q l : ℕ)
   sound-inner :
       (p : Among) (seen : List ℕ) (n : Fields) (q l : ℕ) → AmongReady s p seen → headOf s (p .at) ≡ head.Node n
       → FieldsStand p n
-      → getD seen (n .key) 0 ≡ 0 → (n .size ≡ 0 → ⊥)
+      → getD seen (markPlace (n .key)) 0 ≡ 0 → (n .size ≡ 0 → ⊥)
       → (w : WalkEnd) → walkOf s k (beneath s p n) ≡ w
-      → andThen w (λ m lf. walkOf s k (inRest (afterInner p n m lf) (set seen (n .key) 1) (n .last))) ≡ Next q l
+      → andThen w (λ m lf. walkOf s k (inRest (afterInner p n m lf) (set seen (markPlace (n .key)) 1) (n .last))) ≡
+      Next q l
       → NodesAre s p seen q l
   sound-inner p seen n q l rd hd st fr ne Bad e h = absurd (bad-next h)
   sound-inner p seen n q l rd hd st fr ne (Next m lf) e h =
@@ -565,25 +576,25 @@ module _ (s : List ℕ) (small : Bytes s) (k : ℕ) (ih : (t : Task) (q l : ℕ)
       (λ z. absurd (ne (st .empty (omega arith) .1)))
       in
       inner-step s small p seen n rd hd st fr ne m lf g q l
-      (ih (inRest (afterInner p n m lf) (set seen (n .key) 1) (n .last)) q l h
+      (ih (inRest (afterInner p n m lf) (set seen (markPlace (n .key)) 1) (n .last)) q l h
       (next-ready s small p seen n rd hd st fr m (m - p .next) lf false (g .within)) refl (sy .within))
 
   sound-node : (p : Among) (seen : List ℕ) (q l : ℕ) (w : Head) → headOf s (p .at) ≡ w
       → nodeThen w s p seen (walkOf s k) ≡ Next q l → SoundT s (inNode p seen) q l
   sound-node p seen q l head.Cut e h rd = absurd (bad-next h)
   sound-node p seen q l (head.Node n) e h rd =
-      by-test (stands p n && eqb (getD seen (n .key) 0) 0)
+      by-test (stands p n && eqb (getD seen (markPlace (n .key)) 0) 0)
       (λ t.
-      let a = and-true (stands p n) (eqb (getD seen (n .key) 0) 0) t in
+      let a = and-true (stands p n) (eqb (getD seen (markPlace (n .key)) 0) 0) t in
       let st = stands-true p n (a .0) in
-      let fr = eqb-true (getD seen (n .key) 0) 0 (a .1) in
+      let fr = eqb-true (getD seen (markPlace (n .key)) 0) 0 (a .1) in
       let sy = head-says s (p .at) small n e in
       by-test (eqb (n .size) 0)
       (λ z.
       by-test (eqb (halfOf s p n) noHalf)
       (λ w.
       leaf-step s small p seen n rd e st fr q l (eqb-true (n .size) 0 z) (eqb-true (halfOf s p n) noHalf w)
-      (ih (inRest (afterLeaf p n) (set seen (n .key) 1) (n .last)) q l (rw (t, z, w) at h)
+      (ih (inRest (afterLeaf p n) (set seen (markPlace (n .key)) 1) (n .last)) q l (rw (t, z, w) at h)
       (next-ready s small p seen n rd e st fr (p .next) (p .back) (p .left - 1) (p .own) (rd .next)) refl
       (sy .within)))
       (λ w. absurd (bad-next (rw (t, z, w) at h))))

@@ -1,6 +1,6 @@
 -- The check of a trie as a definition: a walk over the positions of one buffer, down the tree (document 01, "Trie
 -- image").
-use Prim.Native.Nat.{_*_, _+_, _-_, suc, zero, ℕ}
+use Prim.Native.Nat.{_%_, _*_, _+_, _-_, suc, zero, ℕ}
 use mathlib.Core.Bool.{Bool, _&&_, _||_, false, not, true}
 use mathlib.Core.List.{List}
 use mathlib.Core.Option.{Option, none, some}
@@ -177,24 +177,29 @@ abbrev pub beneath : List ℕ → Among → Fields → Task
 beneath s p n =
     inGroup (p .next) (above (p .path + n .len) (halfOf s p n) (scoreOf p n) (eqb (n .len) longestLabel)) (p .left)
 
+-- Where the mark of a key stands: in its own place, or for a byte past 7E in that of a control byte, which no name has.
+-- The first halves of µ and Ω have different ones.
+abbrev pub markCount : ℕ
+markCount = 128
+
+abbrev pub markPlace : ℕ → ℕ
+markPlace k = if ltb k markCount then k else k % 32
+
 -- a leaf ends a name, so no half is open there
 abbrev pub nodeOn : Bool → List ℕ → Among → List ℕ → Fields → (Task → WalkEnd) → WalkEnd
 nodeOn true s p seen n f =
-    if eqb (halfOf s p n) noHalf then f (inRest (afterLeaf p n) (set seen (n .key) 1) (n .last)) else Bad
+    if eqb (halfOf s p n) noHalf then f (inRest (afterLeaf p n) (set seen (markPlace (n .key)) 1) (n .last)) else Bad
 nodeOn false s p seen n f =
-    andThen (f (beneath s p n)) (λ q left. f (inRest (afterInner p n q left) (set seen (n .key) 1) (n .last)))
+    andThen (f (beneath s p n))
+    (λ q left. f (inRest (afterInner p n q left) (set seen (markPlace (n .key)) 1) (n .last)))
 
 abbrev pub nodeThen : Head → List ℕ → Among → List ℕ → (Task → WalkEnd) → WalkEnd
 nodeThen Cut s p seen f = Bad
 nodeThen (Node n) s p seen f =
-    if stands p n && eqb (getD seen (n .key) 0) 0 then nodeOn (eqb (n .size) 0) s p seen n f else Bad
-
--- the keys of labels: 0 for the empty one, else one more than the first byte
-abbrev pub keyCount : ℕ
-keyCount = 257
+    if stands p n && eqb (getD seen (markPlace (n .key)) 0) 0 then nodeOn (eqb (n .size) 0) s p seen n f else Bad
 
 abbrev pub noneSeen : List ℕ
-noneSeen = replicate keyCount 0
+noneSeen = replicate markCount 0
 
 unfoldable pub walkOf : List ℕ → ℕ → Task → WalkEnd
 walkOf s zero t = Bad

@@ -2,9 +2,22 @@
 use limits::LONGEST_NAME;
 ghost use mathlib.Core.Path.{_≡_};
 ghost use mathlib.Core.Bool.{false};
-ghost use Prim.Native.Nat.{_-_, _≤_};
-ghost use Rattle.trie_check_laws.specs.Walk.{afterNode, beginGroup, childStands, labelStands, lonely, scoreOf};
-ghost use Rattle.trie_check_laws.specs.Walk.{scoreStands, stands};
+ghost use Prim.Native.Nat.{_-_, _<_, _≤_};
+ghost use Rattle.trie_check_laws.specs.Walk.{afterNode, beginGroup, childStands, labelStands, lonely, markCount};
+ghost use Rattle.trie_check_laws.specs.Walk.{markPlace, scoreOf, scoreStands, stands};
+
+// The places for the marks of keys: `markCount`.
+pub const MARK_COUNT: usize = 128;
+
+// Where the mark of a key stands: a byte past 7E takes the place of one that no name has.
+pub fn mark_place(key: usize) -> usize
+    ensures { λ r. ⌜ (r ≡ markPlace key) × (r < markCount) ⌝ }
+{
+    if key < MARK_COUNT {
+        return key;
+    }
+    key % 32
+}
 
 // Whether a first sibling may be the last: it has a label, and stands under one of 7 bytes or at the top.
 fn is_lonely(p: trie_check_laws::Among, n: trie_check_laws::Fields) -> bool

@@ -20,8 +20,8 @@ use Rattle.trie.specs.Trie.{byFirst, commonPrefix, highest, labelOf, sameFirst}
 use Rattle.trie_laws.proofs.Keys.{Ordered, first-head, join-apart, join-same, key-below, label-key}
 use Rattle.trie.proofs.Sets.{OneFirst}
 use Rattle.trie_write_runs.specs.Runs.{mostRuns}
-use Rattle.trie_write_rows.specs.Rows.{Chain, KeyIn, higher, keysBehind, keysFrom}
-use Rattle.trie_laws.specs.Keys.{setBefore, setKey}
+use Rattle.trie_write_rows.specs.Rows.{Chain, higher, keysFrom}
+use Rattle.trie_laws.specs.Keys.{KeyIn, keysBehind, setBefore, setKey}
 
 -- a chain of suffixes in front of others that begin otherwise is a set of its own
 abbrev pub lastEntry : Entry → List Entry → Entry

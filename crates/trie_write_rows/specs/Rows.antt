@@ -1,7 +1,6 @@
 -- Ranges of rows of a table: their sets of suffixes, and the runs that stand for the sets.
-use Prim.Native.Nat.{_+_, _-_, _<_, _≤_, max, suc, zero, ℕ}
+use Prim.Native.Nat.{_+_, _-_, _<_, _≤_, max, suc, ℕ}
 use mathlib.Core.Path.{_≡_}
-use mathlib.Core.Logic.{_⊎_}
 use mathlib.Core.Bool.{Bool, false, true}
 use mathlib.Core.List.{List, [], _∷_, map}
 use lib.Dec.{ltb}
@@ -49,18 +48,7 @@ pub record Shared (es : List Entry) (d lo hi : ℕ) : Type 0 where
 abbrev pub Named : List Entry → Type 0
 Named es = all (λ e. allowedBytes (e .name)) es ≡ true
 
--- The keys that sets can have behind half h, as ranges from the first to the last: between signs that of the empty
--- suffix, those of 20 to 7E, of C2 and of CE; inside a pair that of its other half.
-abbrev pub keysBehind : ℕ → List (ℕ × ℕ)
-keysBehind zero = (0, 0) ∷ (suc 0x20, suc 0x7E) ∷ (suc 0xC2, suc 0xC2) ∷ (suc 0xCE, suc 0xCE) ∷ []
-keysBehind (suc zero) = (suc 0xB5, suc 0xB5) ∷ []
-keysBehind (suc (suc h)) = (suc 0xA9, suc 0xA9) ∷ []
-
-abbrev pub KeyIn : ℕ → List (ℕ × ℕ) → Type 0
-KeyIn k [] = ⊥
-KeyIn k (r ∷ rs) = ((r .0 ≤ k) × (k ≤ r .1)) ⊎ KeyIn k rs
-
--- how many of them there are from k on
+-- how many keys from k on there are in ranges of them
 abbrev pub keysFrom : ℕ → List (ℕ × ℕ) → ℕ
 keysFrom k [] = 0
 keysFrom k (r ∷ rs) = (suc (r .1) - max (r .0) k) + keysFrom k rs

@@ -1,60 +1,65 @@
--- `entries_check::half_after` meets its contract. The loop's invariant: from the half open behind the first `i` bytes,
--- the others lead to the half open behind all. The measure is what is left of the length. Assumes nothing.
-use Prim.Native.Nat.{_+_, _-_, _≤_}
-use mathlib.Core.Path.{_∙_, _≡_, ap, refl, sym}
-use lib.ListN.{drop, length}
+-- `entries_check::half_after` meets its contract: the half that is open is closed first. No loop. Assumes nothing.
+use mathlib.Core.Path.{_∙_, sym}
 use native.Mathlib.Omega.{arith}
-use Rattle.entries_laws.specs.Signs.{halfAfter}
-use Rattle.entries_check.proofs.Signs.{half-end, half-next}
+use borrow.Author.Tests.{not-false, not-true}
+use Rattle.entries_check.proofs.Signs.{part-broken, part-closed, part-none}
 use Rattle.entries_check.proofs.half_after.Statement.{statement}
 use Rattle.entries_check.proofs.half_after.Tie as tie
 
-abbrev Inv-loop : tie.InvT-loop
-Inv-loop half w behind₀ i₀ behind i = (i ≤ length w) × (halfAfter behind (drop i w) ≡ halfAfter half w)
+-- places that the proofs below look back to
+abbrev else2 : tie.After-closes → tie.Else2
+else2 c = c .before .before
 
-abbrev μ-loop : tie.MeasureT-loop
-μ-loop half w behind₀ i₀ behind i = length w - i
+abbrev start : tie.Else2 → tie.Start
+start c = c .before .before .before
 
-loop-holds : tie.Need-loop-holds Inv-loop μ-loop
-loop-holds c = (omega arith, refl)
+half-from-requires : tie.Need-half-from-requires
+half-from-requires c κs = omega arith
 
-shared-slice-read-half-step : tie.Need-shared-slice-read-half-step Inv-loop μ-loop
-shared-slice-read-half-step c = omega arith
+returns : tie.Need-returns
+returns c = rw (c .before .if1 .taken) (c .half-from .ensures)
 
-half-step-requires : tie.Need-half-step-requires Inv-loop μ-loop
-half-step-requires c κs = tt
+returns-2 : tie.Need-returns-2
+returns-2 c =
+    let e = c .before in
+    let a = e .before .before .args in
+    sym (part-none (a .half) (a .w .now) (e .if1 .left) (c .if2 .taken))
 
-add-i : tie.Need-add-i Inv-loop μ-loop
-add-i c = omega arith
+shared-slice-read-closes : tie.Need-shared-slice-read-closes
+shared-slice-read-closes c = omega arith
 
-loop-less : tie.Need-loop-less Inv-loop μ-loop
-loop-less c = omega arith
+closes-requires : tie.Need-closes-requires
+closes-requires c κs = c .before .before .if1 .left
 
-loop-again : tie.Need-loop-again Inv-loop μ-loop
-loop-again c =
-    let l = c .before .before .before in
-    let w = l .before .before .args .w .now in (
-      omega arith,
-      ap (λ h. halfAfter h (drop (l .loop .i + 1) w)) (c .half-step .ensures)
-          ∙ sym (half-next w (l .loop .i) (l .loop .behind) (omega arith))
-          ∙ l .loop .inv .1,
-    )
+returns-3 : tie.Need-returns-3
+returns-3 c =
+    let m = c .before in
+    let e = else2 m in
+    let a = start e .args in
+    sym (part-broken (a .half) (a .w .now) (e .before .if1 .left) (e .if2 .left)
+    (sym (m .closes .ensures) ∙ not-true (m .closes .result) (c .if3 .taken)))
 
-returns : tie.Need-returns Inv-loop μ-loop
-returns c =
-    let l = c .before in
-    sym (half-end (l .before .before .args .w .now) (l .loop .i) (l .loop .behind) (omega arith)) ∙ l .loop .inv .1
+half-from-requires-2 : tie.Need-half-from-requires-2
+half-from-requires-2 c κs = omega arith
+
+returns-4 : tie.Need-returns-4
+returns-4 c =
+    let m = c .before .before in
+    let e = else2 m in
+    let a = start e .args in
+    c .half-from2 .ensures
+    ∙ sym (part-closed (a .half) (a .w .now) (e .before .if1 .left) (e .if2 .left)
+    (sym (m .closes .ensures) ∙ not-false (m .closes .result) (c .before .if3 .left)))
 
 pub half-after-spec : {M : Type 1} → statement M
 half-after-spec =
     tie.close
     (tie.spec
-    Inv-loop
-    μ-loop
-    loop-holds
-    shared-slice-read-half-step
-    half-step-requires
-    add-i
-    loop-less
-    loop-again
-    returns)
+    half-from-requires
+    returns
+    returns-2
+    shared-slice-read-closes
+    closes-requires
+    returns-3
+    half-from-requires-2
+    returns-4)

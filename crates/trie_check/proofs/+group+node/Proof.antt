@@ -7,7 +7,7 @@ use Prim.Native.Nat.{_*_, _+_, _-_, _<_, ℕ}
 use mathlib.Core.Path.{_∙_, _≡_, subst, sym}
 use mathlib.Core.Bool.{false, true}
 use mathlib.Core.List.{List}
-use lib.ListN.{length}
+use lib.ListN.{getD, length, set}
 use native.Mathlib.Nat.{le-of-lt}
 use native.Mathlib.Omega.{arith}
 use borrow.Author.Needs.{needs}
@@ -16,7 +16,7 @@ use borrow.Fn.Kinds.{In}
 use borrow.Fn.PlainCycle.{Measures, and, falls as lower, is}
 use Rattle.octets.proofs.Numbers.{Bytes}
 use Rattle.trie_check_fields.proofs.Heads.{Read, read-node}
-use Rattle.trie_check_laws.specs.Walk.{beginGroup, stands}
+use Rattle.trie_check_laws.specs.Walk.{beginGroup, markPlace, stands}
 use Rattle.trie_check.proofs.Walking.{GroupGoing, ahead-of, end-of, falls, going-ahead, going-bad, going-last}
 use Rattle.trie_check.proofs.Walking.{going-less, going-on, going-start, group-bad, node-bad, node-cut}
 use Rattle.trie_check.proofs.Walking.{node-leaf, node-more, onward-to, path-short, rest-cut, rest-out}
@@ -33,6 +33,7 @@ use Rattle.trie_check_fields.proofs.head_at.Reads as head-at-reads
 use Rattle.trie_check_rules.proofs.after_node.Reads as after-node-reads
 use Rattle.trie_check_rules.proofs.begin_at.Reads as begin-at-reads
 use Rattle.trie_check_rules.proofs.fits_here.Reads as fits-here-reads
+use Rattle.trie_check_rules.proofs.mark_place.Reads as mark-place-reads
 use Rattle.trie_check_rules.proofs.new_score.Reads as new-score-reads
 use Rattle.trie_check.proofs.+group+node.{statement}
 use Rattle.trie_check.proofs.+group+node.Tie.{close}
@@ -76,6 +77,8 @@ module _ (t : ℕ) where
     head-at-reads.Learnt,
     fits-here-reads.Asked,
     fits-here-reads.Learnt,
+    mark-place-reads.Asked,
+    mark-place-reads.Learnt,
     node-below t,
     node.Post,
   )
@@ -181,31 +184,46 @@ module _ (t : ℕ) where
       → stands (loop (e .before .before) .loop .p) (e .before .before .before .n .given .0 .0) ≡ true
   fits e = sym (e .before .fits-here .ensures) ∙ not-false (e .before .fits-here .result) (e .if1 .left)
 
+  group-mark-place-requires : group-lts.Need-mark-place-requires gc (group-at t) group.Post group-Inv-loop group-μ-loop
+  group-mark-place-requires c κs = search needs
+
   group-array-read-if2 : group-lts.Need-array-read-if2 gc (group-at t) group.Post group-Inv-loop group-μ-loop
-  group-array-read-if2 c = read (c .before .before) .key
+  group-array-read-if2 c = c .mark-place .ensures .1
 
   group-returns-4 : group-lts.Need-returns-4 gc (group-at t) group.Post group-Inv-loop group-μ-loop
   group-returns-4 c =
-      let e = c .before in
+      let m = c .before in
+      let e = m .before in
       let k = e .before .before in
       let l = loop k in (
         going l .onto Bad (rest-twice (buf l) (l .loop .p) (l .loop .seen) (k .before .n .given .0 .0) (read k)
-            (fits e) (c .if2 .taken)),
+            (fits e)
+            (λ z. c .if2 .taken (subst (λ q. getD (l .loop .seen) q 0 ≡ 0) (sym (m .mark-place .ensures .0)) z))),
         tt,
       )
 
   group-array-write-seen : group-lts.Need-array-write-seen gc (group-at t) group.Post group-Inv-loop group-μ-loop
-  group-array-write-seen c = read (c .before .before .before) .key
+  group-array-write-seen c = c .before .mark-place .ensures .1
+
+  -- no sibling before has its key
+  abbrev Fresh : Type 0
+  Fresh = group-lts.Else2 gc (group-at t) group.Post group-Inv-loop group-μ-loop
+
+  abbrev known : Fresh → Known
+  known e = e .before .before .before .before
+
+  new : (e : Fresh) → getD (loop (known e) .loop .seen) (markPlace (known e .before .n .given .0 .0 .key)) 0 ≡ 0
+  new e = subst (λ q. getD (loop (known e) .loop .seen) q 0 ≡ 0) (e .before .mark-place .ensures .0) (e .if2 .left)
 
   group-node-requires : group-lts.Need-node-requires gc (group-at t) group.Post group-Inv-loop group-μ-loop
   group-node-requires c κs =
-      let k = c .before .before .before in
+      let k = known c in
       let l = loop k in
       let g = going l in
       let z = start l .before in (
         subst (λ (j : ℕ). 2 * (length (z .args .buf .now) - l .loop .p .next) + 1 < j) (z .pre .0)
             (omega (arith, g .past, g .on, g .within)),
-        (g .within, fits (c .before), read k .held, read k .within),
+        (g .within, fits (c .before .before), read k .held, read k .within),
       )
 
   group-enum-known-q : group-lts.Need-enum-known-q gc (group-at t) group.Post group-Inv-loop group-μ-loop
@@ -218,9 +236,9 @@ module _ (t : ℕ) where
   group-returns-5 c =
       let d = c .before .before in
       let e = d .before in
-      let k = e .before .before .before in
+      let k = known e in
       let l = loop k in (
-        going-bad (going l) (bytes l) (read k) (fits (e .before)) (e .if2 .left) (d .node .ensures .0)
+        going-bad (going l) (bytes l) (read k) (fits (e .before .before)) (new e) (d .node .ensures .0)
             (d .node .ensures .1) (c .enum-told3 .given .1),
         tt,
       )
@@ -234,12 +252,12 @@ module _ (t : ℕ) where
   group-returns-6 c =
       let d = below (c .before) in
       let e = d .before in
-      let k = e .before .before .before in
+      let k = known e in
       let l = loop k in
       let h = c .before .before .q .given .1 in (
-        going-last (going l) (bytes l) (read k) (fits (e .before)) (e .if2 .left) (d .node .ensures .0)
+        going-last (going l) (bytes l) (read k) (fits (e .before .before)) (new e) (d .node .ensures .0)
             (d .node .ensures .1) h (c .if3 .taken),
-        going-ahead (going l) (bytes l) (read k) (fits (e .before)) (e .if2 .left) (d .node .ensures .0)
+        going-ahead (going l) (bytes l) (read k) (fits (e .before .before)) (new e) (d .node .ensures .0)
             (d .node .ensures .1) h,
       )
 
@@ -247,22 +265,25 @@ module _ (t : ℕ) where
   group-loop-less c =
       let d = below (c .before) in
       let e = d .before in
-      let k = e .before .before .before in
+      let k = known e in
       let l = loop k in
       let h = c .before .before .q .given .1 in
-      going-less (going l) (bytes l) (read k) (fits (e .before)) (e .if2 .left) (d .node .ensures .0)
+      going-less (going l) (bytes l) (read k) (fits (e .before .before)) (new e) (d .node .ensures .0)
       (d .node .ensures .1) h
 
   group-loop-again : group-lts.Need-loop-again gc (group-at t) group.Post group-Inv-loop group-μ-loop
   group-loop-again c =
       let d = below (c .before) in
       let e = d .before in
-      let k = e .before .before .before in
+      let k = known e in
       let l = loop k in
       let h = c .before .before .q .given .1 in
+      let z = start l .before .args in
       λ a begun.
-      going-on (l .loop .inv a begun) (bytes l) (read k) (fits (e .before)) (e .if2 .left) (d .node .ensures .0)
-      (d .node .ensures .1) h (c .if3 .left)
+      subst (λ i. GroupGoing (buf l) (z .at) a (z .left) (l .before .before .before .next .given .0 .0)
+      (c .before .before .q .given .0 .0) (set (l .loop .seen) i 1)) (sym (e .before .mark-place .ensures .0))
+      (going-on (l .loop .inv a begun) (bytes l) (read k) (fits (e .before .before)) (new e) (d .node .ensures .0)
+      (d .node .ensures .1) h (c .if3 .left))
 
 -- The node, where its measure is t.
 module _ (t : ℕ) where
@@ -407,6 +428,7 @@ pub +group+node-spec : {M : Type 1} → statement M
     (group-returns-2 t)
     (group-fits-here-requires t)
     (group-returns-3 t)
+    (group-mark-place-requires t)
     (group-array-read-if2 t)
     (group-returns-4 t)
     (group-array-write-seen t)
