@@ -1,6 +1,6 @@
 -- The sign at an index of a text, the loop over the signs, and a part of a text behind an open half.
 use Prim.Native.Nat.{_+_, _-_, _<_, _≤_, suc, zero, ℕ}
-use mathlib.Core.Path.{_∙_, _≡_, ap, refl, subst, sym}
+use mathlib.Core.Path.{_∙_, _≡_, ap, refl, sym}
 use mathlib.Core.Bool.{false, false≢true, true}
 use mathlib.Core.List.{List, [], _∷_}
 use lib.ListN.{drop, drop-of-length-le, getD, length, length-drop}
@@ -15,24 +15,15 @@ use Rattle.entries.specs.Names.{isPair, isPlain, lastSign}
 use Rattle.entries_laws.proofs.Prefixes.{same-first}
 use Rattle.entries_laws.proofs.Signs.{half-broken, lead-not-pair, micro-pair, ohm-pair}
 use Rattle.entries_laws.specs.Signs.{brokenHalf, halfAfter, halfStep, microHalf, noHalf, ohmHalf}
-use Rattle.entries_check.specs.Signs.{firstSign}
+use Rattle.entries_check.specs.Signs.{NoSign, pairFirst}
 
--- which sign stands at an index
-first-one : (a : ℕ) (w : List ℕ) → isPlain a ≡ true → firstSign (a ∷ w) ≡ 1
-first-one a [] t = rw t
-first-one a (b ∷ w) t = rw t
-
+-- whether a pair stands at an index
 module _ (w : List ℕ) (i : ℕ) (h : i < length w) where
-  pub sign-plain : isPlain (getD w i 0) ≡ true → firstSign (drop i w) ≡ 1
-  sign-plain t = rw (drop-next w i h) (first-one (getD w i 0) (drop (i + 1) w) t)
+  pub pair-cut : length w - i < 2 → pairFirst (drop i w) ≡ false
+  pair-cut l = let e : drop (i + 1) w ≡ [] = drop-of-length-le w {i = i + 1} (omega arith) in rw (drop-next w i h, e)
 
-  pub sign-cut : isPlain (getD w i 0) ≡ false → length w - i < 2 → firstSign (drop i w) ≡ 0
-  sign-cut t l = let e : drop (i + 1) w ≡ [] = drop-of-length-le w {i = i + 1} (omega arith) in
-      rw (drop-next w i h, e, t)
-
-  pub sign-two : isPlain (getD w i 0) ≡ false → 2 ≤ length w - i
-      → firstSign (drop i w) ≡ (if isPair (getD w i 0) (getD w (i + 1) 0) then 2 else 0)
-  sign-two t l = rw (drop-next w i h, drop-next w (i + 1) (omega arith), t)
+  pub pair-here : 2 ≤ length w - i → pairFirst (drop i w) ≡ isPair (getD w i 0) (getD w (i + 1) 0)
+  pair-here l = rw (drop-next w i h, drop-next w (i + 1) (omega arith))
 
 -- the step over a first half, and over the byte behind it
 lead-step : (a b : ℕ) → isPlain a ≡ false
@@ -42,58 +33,50 @@ lead-step a b t =
     (λ s. rw (t, micro-pair a b s, s))
     (λ s. by-test (eqb a 0xCE) (λ u. rw (t, ohm-pair a b s u, s, u)) (λ u. rw (t, lead-not-pair a b s u, s, u)))
 
--- a text goes on behind its first sign
-sign-on : (w : List ℕ) → (firstSign w ≡ 0 → ⊥)
-    → (halfAfter noHalf w ≡ halfAfter noHalf (drop (firstSign w) w)) × (firstSign w ≤ length w)
-sign-on [] n = absurd (n refl)
-sign-on (a ∷ []) n = by-test (isPlain a) (λ t. rw t (refl, omega arith)) (λ t. absurd (n (rw t)))
-sign-on (a ∷ b ∷ w) n =
-    by-test (isPlain a)
-    (λ t. rw t (refl, omega arith))
-    (λ t.
-    by-test (isPair a b)
-    (λ p.
-    let v = a ∷ b ∷ w in
+-- a text goes on behind its first sign; without one nothing goes on but a text that ends
+pair-on : (w : List ℕ) → isPlain (getD w 0 0) ≡ false → pairFirst w ≡ true
+    → (halfAfter noHalf w ≡ halfAfter noHalf (drop 2 w)) × (2 ≤ length w)
+pair-on [] t p = absurd (false≢true p)
+pair-on (a ∷ []) t p = absurd (false≢true p)
+pair-on (a ∷ b ∷ w) t p =
     let q : halfStep (halfStep noHalf a) b ≡ noHalf = lead-step a b t ∙ rw p in
-    let two : firstSign (a ∷ b ∷ w) ≡ 2 = rw (t, p) in
-    subst (λ (k : ℕ). (halfAfter noHalf v ≡ halfAfter noHalf (drop k v)) × (k ≤ length v)) (sym two)
-    (ap (λ h. halfAfter h w) q, omega arith))
-    (λ p. absurd (n (rw (t, p)))))
+    (ap (λ h. halfAfter h w) q, omega arith)
 
--- without one nothing goes on but a text that ends
-pub sign-off : (w : List ℕ) → 1 < length w → firstSign w ≡ 0 → halfAfter noHalf w ≡ brokenHalf
-sign-off [] l e = absurd (omega arith)
-sign-off (a ∷ []) l e = absurd (omega arith)
-sign-off (a ∷ b ∷ w) l e =
-    by-test (isPlain a)
-    (λ t. absurd (let z : 1 ≡ 0 = rw t at e in omega arith))
-    (λ t.
-    by-test (isPair a b)
-    (λ p. absurd (let z : 2 ≡ 0 = rw (t, p) at e in omega arith))
-    (λ p.
-    let q : halfStep (halfStep noHalf a) b ≡ brokenHalf = lead-step a b t ∙ rw p in
-    ap (λ h. halfAfter h w) q ∙ half-broken w))
+pair-off : (w : List ℕ) → NoSign w → 1 < length w → halfAfter noHalf w ≡ brokenHalf
+pair-off [] n l = absurd (omega arith)
+pair-off (a ∷ []) n l = absurd (omega arith)
+pair-off (a ∷ b ∷ w) n l =
+    let q : halfStep (halfStep noHalf a) b ≡ brokenHalf = lead-step a b (n .0) ∙ rw (n .1) in
+    ap (λ h. halfAfter h w) q ∙ half-broken w
 
-module _ (w : List ℕ) (i : ℕ) (h : i < length w) (e : firstSign (drop i w) ≡ 0) where
-  pub cut-broken : 1 < length w - i → halfAfter noHalf (drop i w) ≡ brokenHalf
-  cut-broken l = sign-off (drop i w) (omega (arith, length-drop i w)) e
+module _ (w : List ℕ) (i : ℕ) (h : i < length w) where
+  here : getD (drop i w) 0 0 ≡ getD w i 0
+  here = ap (λ u. getD u 0 0) (drop-next w i h)
 
-  pub cut-lead : length w - i ≤ 1 → halfAfter noHalf (drop i w) ≡ (if eqb (getD w i 0) 0xC2 then microHalf else
-      if eqb (getD w i 0) 0xCE then ohmHalf else brokenHalf)
-  cut-lead l =
-      let z : drop (i + 1) w ≡ [] = drop-of-length-le w {i = i + 1} (omega arith) in
-      let d : drop i w ≡ getD w i 0 ∷ [] = drop-next w i h ∙ ap (λ u. getD w i 0 ∷ u) z in
-      by-test (isPlain (getD w i 0))
-      (λ t. absurd (let y : 1 ≡ 0 = rw (d, t) at e in omega arith))
-      (λ t. rw (d, t))
+  pub no-sign : isPlain (getD w i 0) ≡ false → pairFirst (drop i w) ≡ false → NoSign (drop i w)
+  no-sign t p = (ap isPlain here ∙ t, p)
 
-module _ (w : List ℕ) (i : ℕ) (h : i < length w) {n : ℕ} (e : n ≡ firstSign (drop i w)) where
-  pub signs-next : (n ≡ 0 → ⊥)
-      → (halfAfter noHalf (drop i w) ≡ halfAfter noHalf (drop (i + n) w)) × (i + n ≤ length w)
-  signs-next c =
-      let s = sign-on (drop i w) (λ z. c (e ∙ z)) in
-      let l = length-drop i w in
-      rw (e, ← drop-drop (firstSign (drop i w)) i w) (s .0, omega (arith, s .1))
+  pub plain-next : isPlain (getD w i 0) ≡ true
+      → halfAfter noHalf (drop i w) ≡ halfAfter noHalf (drop (i + 1) w)
+  plain-next t =
+      let q : halfStep noHalf (getD w i 0) ≡ noHalf = rw t in
+      ap (halfAfter noHalf) (drop-next w i h) ∙ ap (λ g. halfAfter g (drop (i + 1) w)) q
+
+  pub pair-next : isPlain (getD w i 0) ≡ false → pairFirst (drop i w) ≡ true
+      → (halfAfter noHalf (drop i w) ≡ halfAfter noHalf (drop (i + 2) w)) × (i + 2 ≤ length w)
+  pair-next t p =
+      let s = pair-on (drop i w) (ap isPlain here ∙ t) p in
+      rw (← drop-drop 2 i w) (s .0, omega (arith, s .1, length-drop i w))
+
+  module _ (n : NoSign (drop i w)) where
+    pub cut-broken : 1 < length w - i → halfAfter noHalf (drop i w) ≡ brokenHalf
+    cut-broken l = pair-off (drop i w) n (omega (arith, length-drop i w))
+
+    pub cut-lead : length w - i ≤ 1 → halfAfter noHalf (drop i w) ≡ (if eqb (getD w i 0) 0xC2 then microHalf else
+        if eqb (getD w i 0) 0xCE then ohmHalf else brokenHalf)
+    cut-lead l =
+        let z : drop (i + 1) w ≡ [] = drop-of-length-le w {i = i + 1} (omega arith) in
+        rw (drop-next w i h, z, sym (ap isPlain here) ∙ n .0)
 
 pub signs-end : (w : List ℕ) (i : ℕ) → length w ≤ i → halfAfter noHalf (drop i w) ≡ noHalf
 signs-end w i h = rw (drop-of-length-le w h)

@@ -16,7 +16,7 @@ ghost use lib.ListN.{drop, length};
 ghost use lib.Dec.{eqb};
 ghost use Rattle.entries.specs.Names.{isName, isPair, isPlain, isPrefix, lastSign};
 ghost use Rattle.entries_laws.specs.Signs.{halfAfter, halfStep, noHalf};
-ghost use Rattle.entries_check.specs.Signs.{firstSign};
+ghost use Rattle.entries_check.specs.Signs.{NoSign, pairFirst};
 
 // Whether a byte is a sign by itself: 20 to 7E.
 pub fn is_plain(b: u8) -> bool
@@ -41,28 +41,21 @@ fn is_pair(a: u8, b: u8) -> bool
     b == OHM_TAIL
 }
 
-// The bytes of the sign at an index: 1 or 2, 0 where none stands there.
-fn sign_at(w: &[u8], i: usize) -> usize
+// Whether a sign of two bytes stands at an index.
+fn pair_at(w: &[u8], i: usize) -> bool
     requires { ⌜ i < length (now w) ⌝ }
-    ensures { λ r. ⌜ r ≡ firstSign (drop i (now (w .entry))) ⌝ }
+    ensures { λ r. ⌜ r ≡ pairFirst (drop i (now (w .entry))) ⌝ }
 {
-    let x = w[i];
-    if is_plain(x) {
-        return 1;
-    }
     if w.len() - i < 2 {
-        return 0; // the text ends in half a sign, or in no sign's byte
+        return false; // the text ends here, in half a sign or in no sign's byte
     }
-    if is_pair(x, w[i + 1]) {
-        return 2;
-    }
-    0
+    is_pair(w[i], w[i + 1])
 }
 
 // The half of a pair that is open at the end of a text, where no sign stands at an index: the first half that the text
 // ends in; no text goes on with anything else.
 fn cut_at(w: &[u8], i: usize) -> usize
-    requires { ⌜ (i < length (now w)) × (firstSign (drop i (now w)) ≡ 0) ⌝ }
+    requires { ⌜ (i < length (now w)) × NoSign (drop i (now w)) ⌝ }
     ensures { λ r. ⌜ r ≡ halfAfter noHalf (drop i (now (w .entry))) ⌝ }
 {
     if 1 < w.len() - i {
@@ -85,11 +78,14 @@ fn half_from(w: &[u8], from: usize) -> usize
 {
     let mut i = from;
     while i < w.len() {
-        let n = sign_at(w, i);
-        if n == 0 {
+        if is_plain(w[i]) {
+            i += 1;
+            continue;
+        }
+        if !pair_at(w, i) {
             return cut_at(w, i);
         }
-        i += n;
+        i += 2;
     }
     NO_HALF
 }

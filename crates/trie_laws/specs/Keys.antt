@@ -17,8 +17,8 @@ abbrev pub setKey : List Entry → ℕ
 setKey [] = 0
 setKey (e ∷ es) = key (e .name)
 
--- The keys that suffixes can have behind an open half (`halfAfter`), as ranges, first to last: between signs that of the
--- empty suffix, those of 20 to 7E, of C2 and of CE; inside a pair that of its other half.
+-- The keys that suffixes can have behind an open half (`halfAfter`), as ranges: between signs that of the empty suffix,
+-- those of 20 to 7E, of C2 and of CE; inside a pair that of its other half.
 abbrev pub keysBehind : ℕ → List (ℕ × ℕ)
 keysBehind zero = (0, 0) ∷ (suc 0x20, suc 0x7E) ∷ (suc 0xC2, suc 0xC2) ∷ (suc 0xCE, suc 0xCE) ∷ []
 keysBehind (suc zero) = (suc 0xB5, suc 0xB5) ∷ []
