@@ -16,7 +16,7 @@ ghost use lib.ListN.{drop, length};
 ghost use lib.Dec.{eqb};
 ghost use Rattle.entries.specs.Names.{isName, isPair, isPlain, isPrefix, lastSign};
 ghost use Rattle.entries_laws.specs.Signs.{halfAfter, halfStep, noHalf};
-ghost use Rattle.entries_check.specs.Signs.{NoSign, pairFirst};
+ghost use Rattle.entries_check.specs.Signs.{NoSign, PastPlain, pairFirst};
 
 // Whether a byte is a sign by itself: 20 to 7E.
 pub fn is_plain(b: u8) -> bool
@@ -71,21 +71,32 @@ fn cut_at(w: &[u8], i: usize) -> usize
     BROKEN_HALF
 }
 
+// The first index from one on at which no sign of one byte stands, or the end.
+fn past_plain(w: &[u8], from: usize) -> usize
+    requires { ⌜ from ≤ length (now w) ⌝ }
+    ensures { λ r. ⌜ PastPlain (now (w .entry)) from r ⌝ }
+{
+    let mut i = from;
+    while i < w.len() {
+        if !is_plain(w[i]) {
+            return i;
+        }
+        i += 1;
+    }
+    i
+}
+
 // The half of a pair that is open behind the signs from an index on.
 fn half_from(w: &[u8], from: usize) -> usize
     requires { ⌜ from ≤ length (now w) ⌝ }
     ensures { λ r. ⌜ r ≡ halfAfter noHalf (drop from (now (w .entry))) ⌝ }
 {
-    let mut i = from;
+    let mut i = past_plain(w, from);
     while i < w.len() {
-        if is_plain(w[i]) {
-            i += 1;
-            continue;
-        }
         if !pair_at(w, i) {
             return cut_at(w, i);
         }
-        i += 2;
+        i = past_plain(w, i + 2);
     }
     NO_HALF
 }
