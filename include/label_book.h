@@ -124,11 +124,11 @@
  *   label_book_prefix_range       384
  *   label_book_head               320
  *   label_book_build              320
- *   label_book_list               448
+ *   label_book_list               512
  *   label_book_complete         20096
  *   label_book_write_trie      170816
- *   label_book_complete_trie    38528
- *   label_book_press             3584
+ *   label_book_complete_trie    33024
+ *   label_book_press             3648
  *   label_book_run               1280
  *
  *
