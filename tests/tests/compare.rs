@@ -410,8 +410,8 @@ fn round(compare: &mut Compare, seed: u64) {
     worked_run(compare);
     panels::worked(compare);
     signs::worked(compare);
-    sizes(compare, &mut random, 30);
-    every_place(compare, &mut random, 5);
+    sizes(compare, &mut random, 40);
+    every_place(compare, &mut random, 6);
     damage(compare, &mut random, 600);
     noise(compare, &mut random, 40_000);
     for buffer in 0..12 {
@@ -421,17 +421,18 @@ fn round(compare: &mut Compare, seed: u64) {
         let (buffer, names) = (random.between(7, 900), random.pick(&NAMES));
         histories::history(compare, &mut random, buffer, 150, names);
     }
-    for names in [Names::Units, Names::Any] {
+    for names in [Names::Mixed, Names::Units, Names::Any] {
         histories::history(compare, &mut random, 57_344, 1800, names);
     }
-    for (length, names) in [(57_344, Names::Mixed), (57_344, Names::Units), (20_000, Names::Any)] {
+    let books = [Names::Mixed, Names::Units, Names::Any].map(|names| (57_344, names));
+    for (length, names) in books.into_iter().chain([(20_000, Names::Any)]) {
         histories::long_history(compare, &mut random, length, 20_000, names);
     }
     for (length, names) in [7, 18, 25, 130, 300, 900, 3000]
         .into_iter()
         .flat_map(|length| NAMES.map(|names| (length, names)))
     {
-        histories::long_history(compare, &mut random, length, 8000, names);
+        histories::long_history(compare, &mut random, length, 10_000, names);
     }
     scripts::hostile_scripts(compare, &mut random, 40);
     scripts::hostile_calls(compare, &mut random);

@@ -67,6 +67,13 @@ cutTrie =
     0x31 ∷ 0x00 ∷ 0x00 ∷ 0x00 ∷ 0x13 ∷ 0x00 ∷ 0x01 ∷ 0x5F ∷ 0x01 ∷ 0x0A ∷ 0x61 ∷ 0x62 ∷ 0x63 ∷ 0x64 ∷ 0x65 ∷ 0x66
     ∷ 0xC2 ∷ 0x09 ∷ 0xB5 ∷ []
 
+-- 46 letters x and Ω, 48 bytes; 47 and half of it, which is no name
+abbrev pub fullName : List ℕ
+fullName = replicate 46 0x78 ++ ohm
+
+abbrev pub halfName : List ℕ
+halfName = replicate 47 0x78 ++ (0xCE ∷ [])
+
 -- n bytes that no call wrote: a destination, or what stands behind an image
 abbrev pub spare : ℕ → List ℕ
 spare n = replicate n 0xEE

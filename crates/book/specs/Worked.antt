@@ -13,8 +13,8 @@ use Rattle.book.specs.Records.{recordLength, recordName, recordOf}
 use Rattle.book.specs.Book.{bookImage, entriesIn, imageIn, offset, offsets, peak, peaks, readBook, readIn}
 use Rattle.book.specs.Book.{recordsAt, scores}
 use Rattle.frame.specs.Frame.{countOf, framed, readAs}
-use Rattle.book.specs.Shown.{E, P1, P3, changed, crowd, letters, listed, seventeen, seventeenBook, shownRead}
-use Rattle.book.specs.Shown.{signed, signedBook, spare, µF}
+use Rattle.book.specs.Shown.{E, P1, P3, changed, crowd, fullName, halfName, letters, listed, seventeen}
+use Rattle.book.specs.Shown.{seventeenBook, shownRead, signed, signedBook, spare, µF}
 
 -- 18 names: d and f tie for the best of block 0, and r is the best of block 1
 abbrev eighteen : List Entry
@@ -94,9 +94,8 @@ readings =
     ∷ (shownRead (readBook (changed signedBook 46 (0xB5 ∷ []))) gives [])
     ∷ (shownRead (readBook (changed signedBook 42 (0xC2 ∷ []))) gives [])
     -- 46 letters and a sign, 47 and a half
-    ∷ (shownRead (readBook (bookImage (entry (replicate 46 0x78 ++ ohm) 1 ∷ [])))
-    gives listed (entry (replicate 46 0x78 ++ ohm) 1 ∷ []))
-    ∷ (shownRead (readBook (bookImage (entry (replicate 47 0x78 ++ (0xCE ∷ [])) 1 ∷ []))) gives [])
+    ∷ (shownRead (readBook (bookImage (entry fullName 1 ∷ []))) gives listed (entry fullName 1 ∷ []))
+    ∷ (shownRead (readBook (bookImage (entry halfName 1 ∷ []))) gives [])
     -- behind µ: µF and Ω; common bytes that end inside µ, with a rest that is a name by itself, and with the other half
     ∷ (shownRead (readBook (twoNames micro (2 ∷ 1 ∷ text "F"))) gives listed (entry micro 0 ∷ entry µF 0 ∷ []))
     ∷ (shownRead (readBook (twoNames micro (0 ∷ 2 ∷ ohm))) gives listed (entry micro 0 ∷ entry ohm 0 ∷ []))

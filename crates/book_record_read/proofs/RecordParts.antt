@@ -1,16 +1,16 @@
 -- The tests of a record's parts are those of a record of a book, whichever positions are heads.
 use Prim.Native.Nat.{_+_, _-_, _<_, _≤_, suc, zero, ℕ}
 use mathlib.Core.Path.{_∙_, _≡_, ap, refl, sym}
-use mathlib.Core.Bool.{Bool, _&&_, and-assoc, and-false, false, true}
+use mathlib.Core.Bool.{Bool, _&&_, and-assoc, and-false, and-true as and-whole, false, true}
 use mathlib.Core.List.{List, [], _++_, _∷_}
 use lib.Dec.{eqb, eqb·suc-zero, leb, ltb}
 use lib.ListN.{drop, drop-of-length-le, getD, length, length-append, length-drop, length-take, take}
 use lib.Seq.{length-take-le}
 use native.Mathlib.Omega.{arith}
-use borrow.Author.Tests.{eqb-false, eqb-true, le-leb, le-ltb, leb-false, leb-true, lt-leb, ne-eqb}
+use borrow.Author.Tests.{eqb-true, le-leb, le-ltb, leb-false, leb-true, lt-leb}
 use Rattle.octets.specs.Octets.{begins, below, common}
 use Rattle.octets_code.proofs.Loops.{drop-next}
-use Rattle.octets.proofs.Tests.{and-true, by-test, eqb-self}
+use Rattle.octets.proofs.Tests.{and-true, by-test, eqb-self, eqb-swap}
 use Rattle.entries.specs.Names.{allowedBytes, isName, isPrefix, longestName}
 use Rattle.entries.proofs.Valid.{name-length}
 use Rattle.entries_laws.specs.Signs.{brokenHalf, halfAfter, halfStep, isTail, noHalf}
@@ -67,14 +67,7 @@ above-kept k prev (y ∷ v) o =
     (λ t.
     let l = leb-false (length prev) k t in
     rw (t, le-leb 1 (suc (length v)) (omega arith), o l, drop-next prev k l)
-    (above-first (getD prev k 0) y (drop (k + 1) prev) v ∙ sym (and-true-right (ltb (getD prev k 0) y))))
-  where
-    and-true-right : (b : Bool) → (b && true) ≡ b
-    and-true-right true = refl
-    and-true-right false = refl
-
-eqb-swap : (a b : ℕ) → eqb a b ≡ false → eqb b a ≡ false
-eqb-swap a b t = ne-eqb b a (λ z. eqb-false a b t (sym z))
+    (above-first (getD prev k 0) y (drop (k + 1) prev) v ∙ sym (and-whole (ltb (getD prev k 0) y))))
 
 and-swap : (a b c : Bool) → (a && (b && c)) ≡ (b && (a && c))
 and-swap true b c = refl

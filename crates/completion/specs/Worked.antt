@@ -7,15 +7,15 @@ use Rattle.octets.specs.Octets.{be, fromBe}
 use Rattle.octets.specs.Table.{Row, _gives_, failing}
 use Rattle.octets.specs.Text.{text}
 use Rattle.entries.specs.Completion.{completion, rangeStart}
-use Rattle.entries.specs.Entries.{Entry, valid}
+use Rattle.entries.specs.Entries.{Entry, entry, valid}
 use Rattle.entries.specs.Names.{allowedBytes, isName, isPrefix, isScore, micro}
 use Rattle.book.specs.Records.{recordLength, recordName, recordOf}
 use Rattle.answer.specs.Answers.{entriesBytes, entryBytes, writing}
 use Rattle.book.specs.Book.{bookImage, entriesIn, imageIn, offset, offsets, peak, peaks, readBook, readIn, recordsAt}
 use Rattle.book.specs.Book.{scores}
 use Rattle.frame.specs.Frame.{countOf, framed, readAs}
-use Rattle.book.specs.Shown.{E, P1, P3, answerEntry, answerFor, changed, kΩ, letters, shownOffered, signedBook, spare}
-use Rattle.book.specs.Shown.{µA, µF}
+use Rattle.book.specs.Shown.{E, P1, P3, answerEntry, answerFor, changed, fullName, kΩ, letters, shownOffered}
+use Rattle.book.specs.Shown.{signedBook, spare, µA, µF}
 use Rattle.completion.specs.Complete.{completeBook}
 use Rattle.completion.specs.Machine.{machine, offering, openRange, others, parts}
 
@@ -76,6 +76,8 @@ completing =
     ∷ (shownOffered (completeBook signedBook kΩ 1 (spare 53) 1) gives (0 ∷ 1 ∷ 12 ∷ 1 ∷ answerFor kΩ 7 ++ spare 41))
     ∷ (shownOffered (completeBook signedBook [] 2 (spare 106) 2)
     gives (0 ∷ 2 ∷ 20 ∷ 3 ∷ answerFor µF 9 ++ answerFor kΩ 7 ++ spare 86))
+    ∷ (shownOffered (completeBook (bookImage (entry fullName 1 ∷ [])) fullName 1 (spare 53) 1)
+    gives (0 ∷ 1 ∷ 53 ∷ 1 ∷ answerFor fullName 1))
     -- none offered
     ∷ (shownOffered (completeBook P1 [] 2 (spare 106) 2) gives (0 ∷ 0 ∷ 0 ∷ 0 ∷ spare 106))
     ∷ (shownOffered (completeBook P3 (replicate 48 0x72) 1 (spare 53) 1) gives (0 ∷ 0 ∷ 0 ∷ 0 ∷ spare 53))

@@ -14,7 +14,7 @@ use Rattle.answer.specs.Answers.{writing, writingImage}
 use Rattle.book.specs.Book.{bookImage, entriesIn, imageIn, offset, offsets, peak, peaks, readBook, readIn, recordsAt}
 use Rattle.book.specs.Book.{scores}
 use Rattle.frame.specs.Frame.{countOf, framed, readAs}
-use Rattle.book.specs.Shown.{P1, P3, P4, changed, kΩ, shownWritten, signedBook, spare, µA, µF}
+use Rattle.book.specs.Shown.{P1, P3, P4, changed, fullName, halfName, kΩ, shownWritten, signedBook, spare, µA, µF}
 use Rattle.edit.specs.Edits.{emptyBook, setEntry, withdrawEntry}
 
 -- the book of ac 5, and of ac 5, rl 12
@@ -99,6 +99,8 @@ withdrawing =
     -- a name with a sign; half a sign
     ∷ (shownWritten (withdrawEntry signedBook µF (spare 40)) gives (0 ∷ 3 ∷ 40 ∷ bookImage withoutµF))
     ∷ (shownWritten (withdrawEntry signedBook (0xC2 ∷ []) (spare 60)) gives (2 ∷ 0 ∷ 0 ∷ spare 60))
+    ∷ (shownWritten (withdrawEntry (bookImage (entry fullName 1 ∷ [])) fullName (spare 7)) gives (0 ∷ 0 ∷ 7 ∷ P1))
+    ∷ (shownWritten (withdrawEntry signedBook halfName (spare 60)) gives (2 ∷ 0 ∷ 0 ∷ spare 60))
     -- not in the book: 4 before 7; not allowed: 2 before 4; no book before all
     ∷ (shownWritten (withdrawEntry P3 (text "zz") (spare 60)) gives (4 ∷ 0 ∷ 0 ∷ spare 60))
     ∷ (shownWritten (withdrawEntry P3 (text "r") []) gives (4 ∷ 0 ∷ 0 ∷ []))

@@ -6,7 +6,7 @@ use lib.ListN.{replicate}
 use Rattle.octets.specs.Lists.{if_then_else_}
 use Rattle.octets.specs.Table.{Row, _gives_, failing}
 use Rattle.octets.specs.Text.{text}
-use Rattle.entries.specs.Names.{allowedBytes, isName, isPrefix, lastSign, micro, ohm}
+use Rattle.entries.specs.Names.{allowedBytes, isName, isPrefix, isSign, lastSign, micro, ohm}
 
 -- whether a text is a name, and whether it is a prefix
 abbrev kinds : List ℕ → List ℕ
@@ -78,8 +78,20 @@ lasts =
     ∷ (lastSign (micro ++ text "F") ∷ lastSign (micro ++ ohm) ∷ [] gives (1 ∷ 2 ∷ []))
     ∷ []
 
+-- one sign: of no bytes, of one, of two, of three
+abbrev single : List ℕ → ℕ
+single w = if isSign w then 1 else 0
+
+abbrev ones : List Row
+ones =
+    (single [] ∷ [] gives (0 ∷ []))
+    ∷ (single (text "a") ∷ single (0x7F ∷ []) ∷ single (0xC2 ∷ []) ∷ [] gives (1 ∷ 0 ∷ 0 ∷ []))
+    ∷ (single micro ∷ single ohm ∷ single (text "ab") ∷ single (0xC2 ∷ 0xA9 ∷ []) ∷ [] gives (1 ∷ 1 ∷ 0 ∷ 0 ∷ []))
+    ∷ (single (text "abc") ∷ single (micro ++ text "F") ∷ [] gives (0 ∷ 0 ∷ []))
+    ∷ []
+
 abbrev table : List Row
-table = plain ++ signs ++ lasts
+table = plain ++ signs ++ lasts ++ ones
 
 worked : failing 0 table ≡ []
 unfolding allowedBytes isPrefix isName

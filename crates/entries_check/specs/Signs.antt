@@ -1,4 +1,4 @@
--- The sign that a text begins with.
+-- The sign that a text begins with, and the signs of one byte from an index on.
 use Prim.Native.Nat.{_<_, _≤_, ℕ}
 use mathlib.Core.Path.{_≡_}
 use mathlib.Core.Bool.{Bool, false}

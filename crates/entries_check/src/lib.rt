@@ -1,7 +1,7 @@
 // Names and prefixes: which signs, and how many bytes of them, are allowed.
 use limits::BROKEN_HALF;
-use limits::FIRST_ALLOWED;
-use limits::LAST_ALLOWED;
+use limits::FIRST_PLAIN;
+use limits::LAST_PLAIN;
 use limits::LONGEST_NAME;
 use limits::MICRO_HALF;
 use limits::MICRO_LEAD;
@@ -22,10 +22,10 @@ ghost use Rattle.entries_check.specs.Signs.{NoSign, PastPlain, pairFirst
 pub fn is_plain(b: u8) -> bool
     ensures { λ r. ⌜ r ≡ isPlain b ⌝ }
 {
-    if b < FIRST_ALLOWED {
+    if b < FIRST_PLAIN {
         return false;
     }
-    b <= LAST_ALLOWED
+    b <= LAST_PLAIN
 }
 
 // Whether two bytes are a sign together, µ or Ω.
@@ -52,8 +52,8 @@ fn pair_at(w: &[u8], i: usize) -> bool
     is_pair(w[i], w[i + 1])
 }
 
-// The half of a pair that is open at the end of a text, where no sign stands at an index: the first half that the text
-// ends in; no text goes on with anything else.
+// The half of a pair that is open behind a text from an index on at which no sign stands: if the text ends there in the
+// first half of a pair, that half; else no text goes on.
 fn cut_at(w: &[u8], i: usize) -> usize
     requires { ⌜ (i < length (now w)) × NoSign (drop i (now w)) ⌝ }
     ensures { λ r. ⌜ r ≡ halfAfter noHalf (drop i (now (w .entry))) ⌝ }

@@ -1,7 +1,7 @@
 -- Texts sign by sign: allowed exactly if no half is open behind the last byte, whichever way the text is cut in two.
 use Prim.Native.Nat.{_+_, _-_, suc, zero, ℕ}
 use mathlib.Core.Path.{_∙_, _≡_, ap, refl, sym}
-use mathlib.Core.Bool.{Bool, _&&_, _||_, false, true}
+use mathlib.Core.Bool.{Bool, _&&_, and-true, false, or-false, true}
 use mathlib.Core.List.{List, [], _++_, _∷_}
 use lib.Dec.{eqb}
 use lib.ListN.{drop, take, take-append-drop}
@@ -33,18 +33,12 @@ pub lead-not-pair : (a b : ℕ) → eqb a 0xC2 ≡ false → eqb a 0xCE ≡ fals
 lead-not-pair a b s t = rw (s, t)
 
 pub micro-pair : (a b : ℕ) → eqb a 0xC2 ≡ true → isPair a b ≡ eqb b 0xB5
-micro-pair a b t = let q = eqb-true a 0xC2 t in rw (t, ne-eqb a 0xCE (λ z. omega arith)) (alone (eqb b 0xB5))
-  where
-    alone : (c : Bool) → ((c && true) || false) ≡ c
-    alone true = refl
-    alone false = refl
+micro-pair a b t =
+    let q = eqb-true a 0xC2 t in
+    rw (t, ne-eqb a 0xCE (λ z. omega arith), and-true (eqb b 0xB5)) (or-false (eqb b 0xB5))
 
 pub ohm-pair : (a b : ℕ) → eqb a 0xC2 ≡ false → eqb a 0xCE ≡ true → isPair a b ≡ eqb b 0xA9
-ohm-pair a b s t = rw (s, t) (alone (eqb b 0xA9))
-  where
-    alone : (c : Bool) → (c && true) ≡ c
-    alone true = refl
-    alone false = refl
+ohm-pair a b s t = rw (s, t) (and-true (eqb b 0xA9))
 
 -- what follows the first half of a pair
 after-lead : (c x : ℕ) (w : List ℕ) (v : Bool) → v ≡ eqb (halfAfter noHalf w) noHalf

@@ -15,7 +15,8 @@ use Rattle.answer.specs.Answers.{Answer, WrittenCounts, writing, writingImage}
 use Rattle.book.specs.Book.{bookImage, entriesIn, imageIn, offset, offsets, peak, peaks, readBook, readIn, recordsAt}
 use Rattle.book.specs.Book.{scores}
 use Rattle.frame.specs.Frame.{countOf, framed, readAs}
-use Rattle.book.specs.Shown.{E, P1, P3, changed, crowd, kΩ, listed, shownWritten, signedBook, spare, µA, µF}
+use Rattle.book.specs.Shown.{E, P1, P3, changed, crowd, fullName, halfName, kΩ, listed, shownWritten, signedBook}
+use Rattle.book.specs.Shown.{spare, µA, µF}
 use Rattle.edit.specs.Edits.{emptyBook, setEntry, withdrawEntry}
 use Rattle.ledger.specs.History.{answers, buffersAfter, callStep, started}
 use Rattle.ledger.specs.Ledger.{Edit, held, ledgerAnswer, ledgerAnswers, ledgerStep, setName, withdrawName}
@@ -99,6 +100,9 @@ signs =
     (concatMap shownAnswer (answers signHistory (started (spare 47) (spare 47))) gives signAnswers)
     ∷ (concatMap shownAnswer (ledgerAnswers 47 signHistory []) gives signAnswers)
     ∷ (buffersAfter signHistory (started (spare 47) (spare 47)) .book gives signedBook)
+    ∷ (shownAnswer (ledgerAnswer 64 (setName fullName 1) []) gives (0 ∷ 1 ∷ 64 ∷ []))
+    ∷ (shownAnswer (ledgerAnswer 64 (setName halfName 1) []) gives (2 ∷ 0 ∷ 0 ∷ []))
+    ∷ (shownAnswer (ledgerAnswer 64 (withdrawName halfName) []) gives (2 ∷ 0 ∷ 0 ∷ []))
     ∷ []
 
 abbrev limits : List Row

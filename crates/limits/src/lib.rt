@@ -4,9 +4,9 @@
 // The most bytes of a name or a prefix: `longestName`.
 pub const LONGEST_NAME: usize = 48;
 // The first and the last byte that is a sign by itself: `isPlain`.
-pub const FIRST_ALLOWED: u8 = 0x20;
+pub const FIRST_PLAIN: u8 = 0x20;
 
-pub const LAST_ALLOWED: u8 = 0x7E;
+pub const LAST_PLAIN: u8 = 0x7E;
 // The two bytes of µ and those of Ω: `isPair`.
 pub const MICRO_LEAD: u8 = 0xC2;
 

@@ -15,8 +15,8 @@ use Rattle.book.specs.Book.{bookImage, entriesIn, imageIn, offset, offsets, pea
 use Rattle.book.specs.Book.{scores}
 use Rattle.frame.specs.Frame.{countOf, framed, readAs}
 use Rattle.lookup.specs.Lookups.{checkBook, find, foundIn, headLength, headName, nameAt, nameOf, prefixRange}
-use Rattle.book.specs.Shown.{P1, P3, P4, answerEntry, answerFor, changed, kΩ, seventeenBook, shownFound, shownLength}
-use Rattle.book.specs.Shown.{shownSpan, shownWritten, signedBook, spare, µF}
+use Rattle.book.specs.Shown.{P1, P3, P4, answerEntry, answerFor, changed, fullName, halfName, kΩ, seventeenBook}
+use Rattle.book.specs.Shown.{shownFound, shownLength, shownSpan, shownWritten, signedBook, spare, µF}
 
 abbrev finding : List Row
 finding =
@@ -66,6 +66,8 @@ naming =
     ∷ (shownWritten (nameAt signedBook 0 (spare 12)) gives (0 ∷ 1 ∷ 12 ∷ answerFor kΩ 7))
     ∷ (shownWritten (nameOf signedBook ohm (spare 8)) gives (0 ∷ 1 ∷ 7 ∷ answerFor ohm 2 ++ spare 1))
     ∷ (shownWritten (nameOf signedBook (0xC2 ∷ []) (spare 8)) gives (2 ∷ 0 ∷ 0 ∷ spare 8))
+    ∷ (shownWritten (nameOf signedBook fullName (spare 60)) gives (4 ∷ 0 ∷ 0 ∷ spare 60))
+    ∷ (shownWritten (nameOf signedBook halfName (spare 60)) gives (2 ∷ 0 ∷ 0 ∷ spare 60))
     ∷ []
 
 abbrev ranges : List Row
@@ -89,6 +91,8 @@ ranges =
     ∷ (shownSpan (prefixRange signedBook micro) gives (0 ∷ 1 ∷ 2 ∷ []))
     ∷ (shownSpan (prefixRange signedBook ohm) gives (0 ∷ 3 ∷ 1 ∷ []))
     ∷ (shownSpan (prefixRange signedBook (text "4.7 k")) gives (0 ∷ 0 ∷ 1 ∷ []))
+    ∷ (shownSpan (prefixRange signedBook fullName) gives (0 ∷ 0 ∷ 0 ∷ []))
+    ∷ (shownSpan (prefixRange signedBook halfName) gives (2 ∷ 0 ∷ 0 ∷ []))
     ∷ (shownSpan (prefixRange signedBook (0xC2 ∷ [])) gives (2 ∷ 0 ∷ 0 ∷ []))
     ∷ (shownSpan (prefixRange signedBook (text "4.7 k" ++ (0xCE ∷ []))) gives (2 ∷ 0 ∷ 0 ∷ []))
     ∷ []

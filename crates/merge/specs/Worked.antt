@@ -13,7 +13,8 @@ use Rattle.answer.specs.Answers.{writing, writingImage}
 use Rattle.book.specs.Book.{bookImage, entriesIn, imageIn, offset, offsets, peak, peaks, readBook, readIn, recordsAt}
 use Rattle.book.specs.Book.{scores}
 use Rattle.frame.specs.Frame.{countOf, framed, readAs}
-use Rattle.book.specs.Shown.{P1, P3, P4, changed, crowd, kΩ, letters, shownWritten, signedBook, spare, µA, µF}
+use Rattle.book.specs.Shown.{P1, P3, P4, changed, crowd, fullName, halfName, kΩ, letters, shownWritten, signedBook}
+use Rattle.book.specs.Shown.{spare, µA, µF}
 use Rattle.merge.specs.Joined.{joined, mergeBooks}
 
 -- the course book: rc 20, rz 3; P3 is ac 5, rc 9, rc step 9, rl 12
@@ -60,6 +61,9 @@ abbrev signs : List Row
 signs =
     (shownWritten (mergeBooks (bookImage (entry µF 9 ∷ entry ohm 2 ∷ [])) (bookImage (entry kΩ 7 ∷ entry µA 4
     ∷ entry µF 1 ∷ [])) (spare 47)) gives (0 ∷ 4 ∷ 47 ∷ signedBook))
+    ∷ (shownWritten (mergeBooks (bookImage (entry fullName 1 ∷ [])) P1 (spare 64))
+    gives (0 ∷ 1 ∷ 64 ∷ bookImage (entry fullName 1 ∷ [])))
+    ∷ (shownWritten (mergeBooks P1 (bookImage (entry halfName 1 ∷ [])) (spare 70)) gives (1 ∷ 0 ∷ 0 ∷ spare 70))
     ∷ (shownWritten (mergeBooks signedBook (changed signedBook 46 (0x41 ∷ [])) (spare 60)) gives (1 ∷ 0 ∷ 0 ∷ spare 60))
     ∷ []
 

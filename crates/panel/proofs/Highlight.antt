@@ -3,7 +3,7 @@ use Prim.Native.Nat.{_+_, _-_, _<_, _≤_, min, ℕ}
 use mathlib.Core.Path.{_∙_, _≡_, ap, refl}
 use mathlib.Core.Logic.{inl, inr}
 use mathlib.Core.Bool.{_&&_, false, false≢true, not, true}
-use mathlib.Core.List.{List, []}
+use mathlib.Core.List.{List, [], _++_}
 use lib.Dec.{eqb, leb, ltb}
 use lib.ListN.{length, length-take, replicate}
 use lib.Seq.{take-append-seam}
@@ -16,7 +16,7 @@ use Rattle.entries.specs.Names.{allowedBytes, isName, isPlain, isPrefix, longes
 use Rattle.entries.proofs.TopK.{top-k}
 use Rattle.entries.proofs.Valid.{name-length, name-prefix, name-some, no-entry, valid-of}
 use Rattle.entries_laws.proofs.Place.{position-at}
-use Rattle.entries_laws.proofs.Prefixes.{prefix-less, prefix-more}
+use Rattle.entries_laws.proofs.Prefixes.{prefix-less, prefix-more, sign-lost}
 use Rattle.frame.proofs.Frame.{entries-valid}
 use Rattle.answer.specs.Answers.{_when_, given}
 use Rattle.answer.proofs.Answers.{clear}
@@ -25,7 +25,8 @@ use Rattle.book.proofs.Reading.{book-exact}
 use Rattle.panel.specs.declared.Panel.{Panel}
 use Rattle.panel.specs.Panel.{Typing, acts, appends, heldIn, highlighted, isHeld, isTyped, keyBytes, keyChecks}
 use Rattle.panel.specs.Panel.{lowerTo, lowered, offeredFor, onHeld, panelCount, panelOf, press, rowWith}
-use Rattle.panel.specs.Panel.{typedIn, typing, typingAfter, typingIn}
+use Rattle.panel.specs.Panel.{typedIn, typing, typingAfter, typingIn, withoutLast}
+use Rattle.panel.specs.Signs.{ErasesASign}
 use Rattle.panel.specs.Highlight.{HoldsItsName, OnItsName, StaysOnItsName, StillOn}
 
 -- a state that is shown as a panel is what the panel holds
@@ -191,6 +192,31 @@ holds-its-name book p key n h =
     let a = accepted book p key n h in
     rw (a .leaves)
     (on-its-name book (typingAfter (inBook book) p key) (after-prefix book p key a) (after-on book p key a))
+
+-- the text that an accepted key leaves
+text-after : (book : List ℕ) (p : Panel) (key rows : ℕ) → press book p key .answer ≡ given rows
+    → typedIn (press book p key .panel) ≡ acts (inBook book) key (onHeld (inBook book) (heldIn p) (typingIn p)) .typed
+unfolding lowered
+text-after book p key rows h =
+    let a = accepted book p key rows h in
+    ap typedIn (a .leaves) ∙ text-shown (inBook book) (typingAfter (inBook book) p key)
+
+-- a key appends its sign
+pub appends-sign : (book : List ℕ) (p : Panel) (key rows : ℕ) → appends key ≡ true
+    → press book p key .answer ≡ given rows → typedIn (press book p key .panel) ≡ typedIn p ++ keyBytes key
+unfolding acts onHeld
+appends-sign book p key rows t h = text-after book p key rows h ∙ rw t
+
+-- and 08 takes one
+pub erases-a-sign : ErasesASign
+unfolding acts onHeld
+erases-a-sign book p rows h n =
+    let a = accepted book p 0x08 rows h in
+    let ok = and-true (leb (p .len) longestName) (isPrefix (typedIn p)) (a .typed) .1 in
+    let s = sign-lost (typedIn p) ok (omega arith) in
+    let e : typedIn (press book p 0x08 .panel) ≡ withoutLast (typedIn p) = text-after book p 0x08 rows h
+    ∙ rw (ne-eqb (length (typedIn p)) 0 (λ z. omega arith)) in
+    (s .0, s .1, ap (λ w. w ++ s .0) e ∙ s .2)
 
 -- a panel that is allowed, on a book that offers its held name
 module _ (book : List ℕ) (p : Panel) (b : isBook book ≡ true) (ok : (isTyped p && isHeld p) ≡ true)

@@ -1,3 +1,4 @@
 pub mod Highlight
 pub mod Panel
+pub mod Signs
 pub mod Worked

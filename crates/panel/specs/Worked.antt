@@ -13,7 +13,7 @@ use Rattle.book.specs.Records.{recordLength, recordName, recordOf}
 use Rattle.book.specs.Book.{bookImage, entriesIn, imageIn, offset, offsets, peak, peaks, readBook, readIn, recordsAt}
 use Rattle.book.specs.Book.{scores}
 use Rattle.frame.specs.Frame.{countOf, framed, readAs}
-use Rattle.book.specs.Shown.{E, P1, P3, changed, letters, shownLength, spare}
+use Rattle.book.specs.Shown.{E, P1, P3, changed, kΩ, letters, shownLength, spare}
 use Rattle.panel.specs.declared.Panel.{Panel}
 use Rattle.panel.specs.Panel.{acts, lowered, onHeld, panelOf, press}
 
@@ -202,14 +202,11 @@ refusing =
     ∷ []
 
 -- texts with µ and Ω, in UTF-8 (document 02, request c)
-abbrev µF : List ℕ
-µF = text "10 " ++ micro ++ text "F"
+abbrev tenµF : List ℕ
+tenµF = text "10 " ++ micro ++ text "F"
 
-abbrev µH : List ℕ
-µH = text "10 " ++ micro ++ text "H"
-
-abbrev kΩ : List ℕ
-kΩ = text "4.7 k" ++ ohm
+abbrev tenµH : List ℕ
+tenµH = text "10 " ++ micro ++ text "H"
 
 -- so many letters x
 abbrev x : ℕ → List ℕ
@@ -217,14 +214,14 @@ x n = replicate n 0x78
 
 -- a book that offers 10 µH, 4.7 kΩ, 10 µF for the empty text
 abbrev signs : List ℕ
-signs = bookImage (entry µF 5 ∷ entry µH 9 ∷ entry kΩ 7 ∷ [])
+signs = bookImage (entry tenµF 5 ∷ entry tenµH 9 ∷ entry kΩ 7 ∷ [])
 
 abbrev signKeys : List Row
 signKeys =
     -- 80 appends µ, 81 Ω: to the empty text, behind letters, behind a sign
     (key signs (before [] 2) 0x80 gives leaves micro 0 0 [])
     ∷ (key signs (before [] 2) 0x81 gives leaves ohm 0 0 [])
-    ∷ (key signs (before (text "10 ") 1) 0x80 gives leaves (text "10 " ++ micro) 0 2 µH)
+    ∷ (key signs (before (text "10 ") 1) 0x80 gives leaves (text "10 " ++ micro) 0 2 tenµH)
     ∷ (key signs (before (text "4.7 k") 0) 0x81 gives leaves kΩ 0 1 kΩ)
     ∷ (key signs (before micro 0) 0x81 gives leaves (micro ++ ohm) 0 0 [])
     -- with two bytes left; a letter with one
@@ -232,20 +229,20 @@ signKeys =
     ∷ (key P3 (before (x 46) 0) 0x81 gives leaves (x 46 ++ ohm) 0 0 [])
     ∷ (key P3 (before (x 45 ++ micro) 0) 0x78 gives leaves (x 45 ++ micro ++ x 1) 0 0 [])
     -- erase a whole sign: alone, behind letters, at 48 bytes, behind a sign
-    ∷ (key signs (before micro 1) 0x08 gives leaves [] 0 3 µH)
+    ∷ (key signs (before micro 1) 0x08 gives leaves [] 0 3 tenµH)
     ∷ (key signs (before kΩ 0) 0x08 gives leaves (text "4.7 k") 0 1 kΩ)
     ∷ (key P3 (before (x 46 ++ micro) 0) 0x08 gives leaves (x 46) 0 0 [])
     ∷ (key P3 (before (x 46 ++ ohm) 0) 0x08 gives leaves (x 46) 0 0 [])
     ∷ (key signs (before (micro ++ ohm) 0) 0x08 gives leaves micro 0 0 [])
     -- erase a letter behind a sign
-    ∷ (key signs (before µF 0) 0x08 gives leaves (text "10 " ++ micro) 0 2 µH)
+    ∷ (key signs (before tenµF 0) 0x08 gives leaves (text "10 " ++ micro) 0 2 tenµH)
     -- take a name with a sign
-    ∷ (key signs (before (text "10 ") 1) 0x0D gives leaves µF 0 1 µF)
+    ∷ (key signs (before (text "10 ") 1) 0x0D gives leaves tenµF 0 1 tenµF)
     ∷ (key signs (before [] 1) 0x0D gives leaves kΩ 0 1 kΩ)
     -- the held name has a sign; one of 48 bytes that ends in a sign, which no book has
-    ∷ (key signs (holding (text "10 ") 0 µF) 0x00 gives leaves (text "10 ") 1 2 µF)
-    ∷ (key signs (holding (text "10 " ++ micro) 0 µF) 0x01 gives leaves (text "10 " ++ micro) 0 2 µH)
-    ∷ (key signs (holding [] 0 kΩ) 0x02 gives leaves [] 2 3 µF)
+    ∷ (key signs (holding (text "10 ") 0 tenµF) 0x00 gives leaves (text "10 ") 1 2 tenµF)
+    ∷ (key signs (holding (text "10 " ++ micro) 0 tenµF) 0x01 gives leaves (text "10 " ++ micro) 0 2 tenµH)
+    ∷ (key signs (holding [] 0 kΩ) 0x02 gives leaves [] 2 3 tenµF)
     ∷ (key P3 (holding [] 1 (x 46 ++ ohm)) 0x00 gives leaves [] 1 4 (text "rc"))
     ∷ []
 

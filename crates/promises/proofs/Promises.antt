@@ -9,7 +9,7 @@ use Rattle.octets.proofs.Tests.{or-false}
 use Rattle.entries.proofs.BestList.{best-list}
 use Rattle.entries.proofs.TopK.{top-k, top-k-only}
 use Rattle.entries.proofs.Valid.{valid-of}
-use Rattle.entries_laws.proofs.Prefixes.{in-signs, of-signs, sign-lost}
+use Rattle.entries_laws.proofs.Prefixes.{in-signs, of-signs}
 use Rattle.frame.specs.Frame.{entriesOf, isRead}
 use Rattle.frame.proofs.Frame.{entries-valid, same-reading}
 use Rattle.book.specs.Book.{bookImage, inBook, isBook, readBook}
@@ -30,7 +30,7 @@ use Rattle.sheet.proofs.Reading.{sheet-exact}
 use Rattle.sheet.proofs.RoundTrip.{round-trips}
 use Rattle.sheet.proofs.Size.{sheet-length}
 use Rattle.panel.specs.Panel.{press}
-use Rattle.panel.proofs.Highlight.{holds-its-name, stays-on-its-name}
+use Rattle.panel.proofs.Highlight.{appends-sign, erases-a-sign, holds-its-name, stays-on-its-name}
 use Rattle.panel.proofs.Refused.{press-refused}
 use Rattle.ledger.specs.Marked.{marked}
 use Rattle.ledger.proofs.Demand.{demand3, offers-best, trie-completes}
@@ -103,5 +103,7 @@ promises =
       holdsItsName = holds-its-name;
       staysOnItsName = stays-on-its-name;
       wholeSigns = λ w. (in-signs w, of-signs w);
-      erasesASign = sign-lost;
+      appendsMicro = λ book p rows h. appends-sign book p 0x80 rows refl h;
+      appendsOhm = λ book p rows h. appends-sign book p 0x81 rows refl h;
+      erasesASign = erases-a-sign;
     }

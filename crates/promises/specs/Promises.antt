@@ -1,16 +1,16 @@
--- Every promise on one page: the three demands and requests a and b, in the order and words of documents 01 and 02. One
+-- Every promise on one page: the three demands and requests a to c, in the order and words of documents 01 and 02. One
 -- value proves them all, `promises` in proofs/Promises.antt.
 use Prim.Native.Nat.{_*_, _+_, _≤_, ℕ}
 use mathlib.Core.Path.{_≡_}
 use mathlib.Core.Bool.{_&&_, _||_, not, true}
-use mathlib.Core.List.{List, [], _++_, _∷_}
+use mathlib.Core.List.{List, [], _∷_}
 use mathlib.Core.Option.{Option, some}
 use lib.Dec.{ltb}
 use lib.ListN.{length}
 use Rattle.octets.specs.Table.{failing}
 use Rattle.entries.specs.Completion.{BestList, TopK, completion, maxCount}
 use Rattle.entries.specs.Entries.{Entry, at, entry, maxEntries, position, valid, with, without}
-use Rattle.entries.specs.Names.{InSigns, allowedBytes, isPrefix, isSign, longestName}
+use Rattle.entries.specs.Names.{InSigns, allowedBytes, isPrefix, longestName, micro, ohm}
 use Rattle.frame.specs.Frame.{Exact, isRead}
 use Rattle.answer.specs.Answers.{_when_, entryBytes, refused}
 use Rattle.book.specs.Book.{bookImage, inBook, isBook, readBook}
@@ -23,7 +23,8 @@ use Rattle.trie.specs.Reading.{readTrie}
 use Rattle.trie.specs.Trie.{trieImage}
 use Rattle.sheet.specs.Sheet.{RoundTrips, buildBook, inSheet, listBook, readSheet, sheetImage}
 use Rattle.panel.specs.declared.Panel.{Panel}
-use Rattle.panel.specs.Panel.{appends, isHeld, isListed, isTyped, keyBytes, press, withoutLast}
+use Rattle.panel.specs.Panel.{appends, isHeld, isListed, isTyped, keyBytes, press}
+use Rattle.panel.specs.Signs.{Appends, ErasesASign}
 use Rattle.panel.specs.Highlight.{HoldsItsName, StaysOnItsName}
 use Rattle.ledger.specs.Demand.{Demand3·all, OffersBest, offersOf}
 use Rattle.ledger.specs.Marked.{table}
@@ -174,7 +175,8 @@ pub record Promises : Type 0 where
   -- other, each a byte 20 to 7E, µ or Ω. A lone half, or any other byte past 7E, gives 2, in an image 1, and 48 counts
   -- bytes (`isName`, `isPrefix`, of which all that stands above speaks: the best list covers such names and prefixes).
   pub wholeSigns : (w : List ℕ) → (allowedBytes w ≡ true → InSigns w) × (InSigns w → allowedBytes w ≡ true)
-  -- Erase removes a whole sign.
-  pub erasesASign :
-      (w : List ℕ) → isPrefix w ≡ true → 1 ≤ length w
-      → (s : List ℕ) × (isSign s ≡ true) × (withoutLast w ++ s ≡ w)
+  -- Key 80 appends µ and key 81 Ω; with fewer than two bytes left they give 9 (`keys`, above).
+  pub appendsMicro : Appends 0x80 micro
+  pub appendsOhm : Appends 0x81 ohm
+  -- Erase removes a whole sign. What stays is allowed, as after every key (`holdsItsName`).
+  pub erasesASign : ErasesASign

@@ -14,7 +14,7 @@ use Rattle.answer.specs.Answers.{counts, nonePlayed, number, writing, writingIm
 use Rattle.book.specs.Book.{bookImage, entriesIn, imageIn, offset, offsets, peak, peaks, readBook, readIn, recordsAt}
 use Rattle.book.specs.Book.{scores}
 use Rattle.frame.specs.Frame.{countOf, framed, readAs}
-use Rattle.book.specs.Shown.{P1, spare}
+use Rattle.book.specs.Shown.{P1, fullName, halfName, spare}
 use Rattle.edit.specs.Edits.{emptyBook, setEntry, withdrawEntry}
 use Rattle.script.specs.Run.{Finish, benchStep, runOf}
 use Rattle.script.specs.Script.{answerBytes, callAt, calls, isCall}
@@ -72,6 +72,11 @@ runs =
     -- Ω is set, half of it is refused
     ∷ (shownRun (runOf (setHalf ++ setOhm) (spare 18) (spare 18) (spare 14))
     gives (0 ∷ 2 ∷ 1 ∷ (P1 ++ spare 11) ++ (take 16 acBook ++ ohm ++ (refusal 2 ++ oneEntry))))
+    -- 46 letters and Ω, 47 and a half
+    ∷ (shownRun (runOf (0x00 ∷ 0x00 ∷ 0x00 ∷ 0x00 ∷ 1 ∷ 0x00 ∷ 48 ∷ halfName) (spare 7) (spare 7) (spare 7))
+    gives (0 ∷ 1 ∷ 0 ∷ P1 ++ (spare 7 ++ refusal 2)))
+    ∷ (shownRun (runOf (0x00 ∷ 0x00 ∷ 0x00 ∷ 0x00 ∷ 1 ∷ 0x00 ∷ 48 ∷ fullName) (spare 7) (spare 7) (spare 7))
+    gives (0 ∷ 1 ∷ 0 ∷ P1 ++ (spare 7 ++ refusal 7)))
     -- no room for the book of the call: 7 is the call's answer, and the run's is none
     ∷ (shownRun (runOf setAc (spare 17) (spare 17) (spare 7))
     gives (0 ∷ 1 ∷ 0 ∷ (P1 ++ spare 10) ++ (spare 17 ++ refusal 7)))

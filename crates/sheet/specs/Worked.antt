@@ -14,8 +14,8 @@ use Rattle.answer.specs.Answers.{entriesBytes, entryBytes, writing, writingImag
 use Rattle.frame.specs.Frame.{countOf, entriesOf, framed, readAs}
 use Rattle.book.specs.Book.{bookImage, entriesIn, imageIn, offset, offsets, peak, peaks, readBook, readIn, recordsAt}
 use Rattle.book.specs.Book.{scores}
-use Rattle.book.specs.Shown.{E, P1, P3, answerEntry, answerFor, changed, crowd, kΩ, listed, shownRead, shownWritten}
-use Rattle.book.specs.Shown.{signed, signedBook, spare, µA, µF}
+use Rattle.book.specs.Shown.{E, P1, P3, answerEntry, answerFor, changed, crowd, fullName, halfName, kΩ, listed}
+use Rattle.book.specs.Shown.{shownRead, shownWritten, signed, signedBook, spare, µA, µF}
 use Rattle.sheet.specs.Sheet.{buildBook, listBook, readSheet, sheetEntries, sheetImage}
 
 -- E as sheet, and the empty sheet
@@ -88,6 +88,9 @@ building =
     ∷ (builtFrom (pair "r\u{1f}" "rl") gives notBuilt)
     -- µ and Ω; half a sign, the other half of another
     ∷ (shownWritten (buildBook signedSheet (spare 47)) gives (0 ∷ 4 ∷ 47 ∷ signedBook))
+    ∷ (shownWritten (buildBook (sheetImage (entry fullName 1 ∷ [])) (spare 64))
+    gives (0 ∷ 1 ∷ 64 ∷ bookImage (entry fullName 1 ∷ [])))
+    ∷ (builtFrom (sheetImage (entry halfName 1 ∷ [])) gives notBuilt)
     ∷ (builtFrom (changed signedSheet 37 (0x41 ∷ [])) gives notBuilt)
     ∷ (builtFrom (changed signedSheet 37 (0xB5 ∷ [])) gives notBuilt)
     -- 1,024 entries, and one more

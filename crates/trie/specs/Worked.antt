@@ -15,8 +15,9 @@ use Rattle.answer.specs.Answers.{entriesBytes, entryBytes, writing, writingImag
 use Rattle.book.specs.Book.{bookImage, entriesIn, imageIn, offset, offsets, peak, peaks, readBook, readIn, recordsAt}
 use Rattle.book.specs.Book.{scores}
 use Rattle.frame.specs.Frame.{countOf, framed, readAs}
-use Rattle.book.specs.Shown.{E, P1, P2, P3, P4, answerEntry, answerFor, changed, cutName, cutTrie, letters, listed}
-use Rattle.book.specs.Shown.{shownOffered, shownRead, shownWritten, signed, signedBook, signedTrie, spare, µA, µF}
+use Rattle.book.specs.Shown.{E, P1, P2, P3, P4, answerEntry, answerFor, changed, cutName, cutTrie, fullName, halfName}
+use Rattle.book.specs.Shown.{letters, listed, shownOffered, shownRead, shownWritten, signed, signedBook, signedTrie}
+use Rattle.book.specs.Shown.{spare, µA, µF}
 use Rattle.trie.specs.Calls.{completeTrie, writeTrie}
 use Rattle.trie.specs.Reading.{behindSibling, childSize, labelLength, lastMark, readTrie, scoreSize, siblingOf}
 use Rattle.trie.specs.Reading.{trieEntries}
@@ -184,8 +185,8 @@ readings =
     ∷ (shownRead (readTrie (changed cutTrie 18 (0xA9 ∷ []))) gives [])
     ∷ (shownRead (readTrie (changed cutTrie 18 (0x41 ∷ []))) gives [])
     ∷ (shownRead (readTrie (trieOf 1 (0x09 ∷ 0xC2 ∷ []))) gives [])
-    ∷ (shownRead (readTrie (trieImage (entry (replicate 46 0x78 ++ ohm) 1 ∷ [])))
-    gives listed (entry (replicate 46 0x78 ++ ohm) 1 ∷ []))
+    ∷ (shownRead (readTrie (trieImage (entry fullName 1 ∷ []))) gives listed (entry fullName 1 ∷ []))
+    ∷ (shownRead (readTrie (trieImage (entry halfName 1 ∷ []))) gives [])
     ∷ []
 
 abbrev calls : List Row
@@ -219,6 +220,9 @@ calls =
     ∷ (shownOffered (completeTrie cutTrie cutName 1 (spare 53)) gives (0 ∷ 1 ∷ 13 ∷ 0 ∷ answerFor cutName 1
     ++ spare 40))
     ∷ (shownOffered (completeTrie cutTrie (text "abcdef" ++ (0xC2 ∷ [])) 1 (spare 53)) gives (2 ∷ 0 ∷ 0 ∷ 0 ∷ spare 53))
+    ∷ (shownOffered (completeTrie (trieImage (entry fullName 1 ∷ [])) fullName 1 (spare 53))
+    gives (0 ∷ 1 ∷ 53 ∷ 0 ∷ answerFor fullName 1))
+    ∷ (shownOffered (completeTrie cutTrie halfName 1 (spare 53)) gives (2 ∷ 0 ∷ 0 ∷ 0 ∷ spare 53))
     ∷ (shownOffered (completeTrie cutTrie (text "abcdef" ++ ohm) 1 (spare 53)) gives (0 ∷ 0 ∷ 0 ∷ 0 ∷ spare 53))
     -- 7: one byte short of 53 × k, whatever is offered; 3 before 7; 2 before 3; 1 before all
     ∷ (shownOffered (completeTrie P4 (text "rl") 1 (spare 52)) gives (7 ∷ 0 ∷ 0 ∷ 0 ∷ spare 52))

@@ -177,13 +177,16 @@ abbrev pub beneath : List ℕ → Among → Fields → Task
 beneath s p n =
     inGroup (p .next) (above (p .path + n .len) (halfOf s p n) (scoreOf p n) (eqb (n .len) longestLabel)) (p .left)
 
--- Where the mark of a key stands: in its own place, or for a byte past 7E in that of a control byte, which no name has.
--- The first halves of µ and Ω have different ones.
+-- Where the mark of a key stands: in its own place, or for a byte past 7E in one of the low places, where no byte of 20
+-- to 7E has its own. The first halves of µ and Ω have different ones.
 abbrev pub markCount : ℕ
 markCount = 128
 
+abbrev pub lowPlaces : ℕ
+lowPlaces = 32
+
 abbrev pub markPlace : ℕ → ℕ
-markPlace k = if ltb k markCount then k else k % 32
+markPlace k = if ltb k markCount then k else k % lowPlaces
 
 -- a leaf ends a name, so no half is open there
 abbrev pub nodeOn : Bool → List ℕ → Among → List ℕ → Fields → (Task → WalkEnd) → WalkEnd

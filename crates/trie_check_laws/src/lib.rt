@@ -36,8 +36,8 @@ pub struct Among {
     pub left: usize,
 }
 
-// What stands above a group: how many bytes of names, which half of a pair is open behind them (none, C2, CE, or no text
-// goes on), the score above, and whether the label above has 7 bytes or there is none.
+// What stands above a group: how many bytes of names, which half of a pair is open behind them, the score above, and
+// whether the label above has 7 bytes or there is none.
 pub struct Above {
     pub path: usize,
     pub half: usize,

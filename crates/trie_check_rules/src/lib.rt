@@ -6,17 +6,19 @@ ghost use Prim.Native.Nat.{_-_, _<_, _≤_};
 ghost use Rattle.trie_check_laws.specs.Walk.{afterNode, beginGroup, childStands, labelStands, lonely, markCount};
 ghost use Rattle.trie_check_laws.specs.Walk.{markPlace, scoreOf, scoreStands, stands};
 
-// The places for the marks of keys: `markCount`.
+// The places for the marks of keys: `markCount`; the low ones, where no byte of 20 to 7E has its own: `lowPlaces`.
 pub const MARK_COUNT: usize = 128;
 
-// Where the mark of a key stands: a byte past 7E takes the place of one that no name has.
+const LOW_PLACES: usize = 32;
+
+// Where the mark of a key stands: in its own place, or for a byte past 7E in a low one.
 pub fn mark_place(key: usize) -> usize
     ensures { λ r. ⌜ (r ≡ markPlace key) × (r < markCount) ⌝ }
 {
     if key < MARK_COUNT {
         return key;
     }
-    key % 32
+    key % LOW_PLACES
 }
 
 // Whether a first sibling may be the last: it has a label, and stands under one of 7 bytes or at the top.

@@ -23,10 +23,10 @@ A first book:
   labelbook set term.book 7 '10 µF'
   labelbook top term.book 5 r
 
-Names are 1 to 48 bytes long. Letters, digits, signs and spaces of ASCII (20 to 7E) have one byte
-each; µ (C2 B5) and Ω (CE A9) have two, as in UTF-8. Others are refused, also those that look alike:
-the Greek small mu and the ohm sign of Unicode. In a shell, a name with spaces stands in quotes, and
-one that begins with - behind the argument --, which ends the options:
+Names are 1 to 48 bytes long. Letters, digits, punctuation and spaces of ASCII (20 to 7E) have one
+byte each; µ (C2 B5) and Ω (CE A9) have two, as in UTF-8. Others are refused, also those that look
+alike: the Greek small mu and the ohm sign of Unicode. In a shell, a name with spaces stands in
+quotes, and one that begins with - behind the argument --, which ends the options:
 
   labelbook set term.book 3 -- '-3 dB'
 
