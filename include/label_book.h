@@ -125,10 +125,10 @@
  *   label_book_head               320
  *   label_book_build              320
  *   label_book_list               512
- *   label_book_complete         20096
+ *   label_book_complete         10112
  *   label_book_write_trie      170816
- *   label_book_complete_trie    33024
- *   label_book_press             3648
+ *   label_book_complete_trie    28736
+ *   label_book_press             2880
  *   label_book_run               1280
  *
  *
@@ -155,14 +155,16 @@ extern "C" {
 
 /* The version, as text and as a number to compare: 0xAABBCC is AA.BB.CC. In 1.2 the panel's struct
  * has grown: a program that has a panel must be compiled anew. Since 1.3 names may have µ and Ω; a
- * library before it declines an image with such a name. */
-#define LABEL_BOOK_VERSION "1.3.0"
-#define LABEL_BOOK_VERSION_NUMBER 0x010300
+ * library before it declines an image with such a name. Since 1.4 LABEL_BOOK_COUNT_MAX is lower:
+ * counts past it that were accepted before are refused with 3, and the buffers and ranges that a
+ * program sizes by it shrink with it. */
+#define LABEL_BOOK_VERSION "1.4.0"
+#define LABEL_BOOK_VERSION_NUMBER 0x010400
 
 /* The most there can be. */
 #define LABEL_BOOK_NAME_MAX 48      /* bytes of a name or prefix */
 #define LABEL_BOOK_ENTRIES_MAX 1024 /* entries of a book, sheet or trie */
-#define LABEL_BOOK_COUNT_MAX 16     /* entries that a completion can be asked for */
+#define LABEL_BOOK_COUNT_MAX 9      /* entries that a completion can be asked for */
 #define LABEL_BOOK_PANEL_ROWS 5     /* names that a panel offers */
 
 /* Bytes. A buffer of these is never too short. */
@@ -332,9 +334,9 @@ uint8_t label_book_list(const uint8_t *book, size_t book_len,
 
 /* Writes the best k of the entries that the prefix begins, in rank, or all if fewer, k from 1 to
  * LABEL_BOOK_COUNT_MAX, as answer entries one behind the other. Tells how many are offered, their
- * bytes, and the looks: how often the call looked for the best of a range, at most 2 * k - 1. Lent
- * are at least k * LABEL_BOOK_ENTRY_MAX bytes, even if fewer would do, and k ranges, counted as
- * structs; after an answer anything may be in the ranges.
+ * bytes, and the looks: how often the call looked for the best of a range, at most 2 * k - 1, so
+ * never more than 17. Lent are at least k * LABEL_BOOK_ENTRY_MAX bytes, even if fewer would do, and
+ * k ranges, counted as structs; after an answer anything may be in the ranges.
  * Refusals: 1 the book; 2 the prefix; 3 k; 7 dst has less than k * LABEL_BOOK_ENTRY_MAX bytes, or
  * ranges_len is less than k. */
 uint8_t label_book_complete(const uint8_t *book, size_t book_len,

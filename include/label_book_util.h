@@ -69,7 +69,7 @@ static inline const char *label_book_refusal_text(uint8_t number) {
         return "a name or prefix that is not allowed (a name has 1 to 48 bytes, "
                "each from 20 to 7E or in a whole µ or Ω)";
     case LABEL_BOOK_COUNT_OUT_OF_RANGE:
-        return "the number of names asked for is not 1 to 16";
+        return "the number of names asked for is not 1 to 9";
     case LABEL_BOOK_NOT_HELD:
         return "the book does not hold that name";
     case LABEL_BOOK_FULL:

@@ -278,7 +278,21 @@ static void refused_completions(void) {
                                 &three), LABEL_BOOK_TOO_SHORT, 0, 0, 0);
     GIVES_3(label_book_complete(BOOK, NAME(""), k, fresh(), room, ranges, k - 1, &one, &two,
                                 &three), LABEL_BOOK_TOO_SHORT, 0, 0, 0);
+    GIVES_3(label_book_complete(BOOK, NAME(""), k + 1, fresh(), room, ranges, k, &one, &two,
+                                &three), LABEL_BOOK_COUNT_OUT_OF_RANGE, 0, 0, 0);
     SAME_BYTES(dst, 7, FILL_7);
+}
+
+/* 19 names, scores 0 1 0 1 .. 0: each of the nine best leaves a part on both sides. */
+static void the_most_looks(void) {
+    char name[] = "a";
+    SAME(LABEL_BOOK_COUNT_MAX, 9);
+    bench_empty(&bench);
+    for (uint32_t i = 0; i < 19; i++, name[0]++) bench_set(&bench, name, i % 2);
+    for (size_t k = 1; k <= 9; k++) GIVES_3(complete("", k), LABEL_BOOK_OK, k, 6 * k, 2 * k - 1);
+    SAME(three, 17);
+    SAME_BYTES(dst + 48, 7, "01 72 00 00 00 01 A5");
+    GIVES_3(complete("", 10), LABEL_BOOK_COUNT_OUT_OF_RANGE, 0, 0, 0);
 }
 
 /* Writes the trie of the bench's book, with so many bytes of room. */
@@ -307,22 +321,29 @@ static void tries(void) {
     SAME_BYTES(dst, 7, FILL_7);
 }
 
-/* Completes from the trie of E, with just the room that k entries want. */
-static uint8_t complete_trie(const char *prefix, size_t k) {
+/* Completes from the trie of E, with so many bytes of room. */
+static uint8_t complete_trie_in(size_t room, const char *prefix, size_t k) {
     uint8_t trie[28];
     size_t len = from_hex(E_TRIE, trie, sizeof trie);
-    return label_book_complete_trie(trie, len, NAME(prefix), k, fresh(), k * LABEL_BOOK_ENTRY_MAX,
-                                    &one, &two, &three);
+    return label_book_complete_trie(trie, len, NAME(prefix), k, fresh(), room, &one, &two, &three);
+}
+
+/* The same with just the room that k entries want. */
+static uint8_t complete_trie(const char *prefix, size_t k) {
+    return complete_trie_in(k * LABEL_BOOK_ENTRY_MAX, prefix, k);
 }
 
 static void completion_from_a_trie(void) {
+    const size_t most = LABEL_BOOK_COUNT_MAX, room = most * LABEL_BOOK_ENTRY_MAX;
     GIVES_3(complete_trie("r", 2), LABEL_BOOK_OK, 2, 14, 0);
     SAME_BYTES(dst, 15, "02 72 6C 00 00 00 0C 02 72 63 00 00 00 09 A5");
     GIVES_3(complete_trie("rc", 5), LABEL_BOOK_OK, 2, 19, 0);
     SAME_BYTES(dst, 20, "02 72 63 00 00 00 09 07 72 63 20 73 74 65 70 00 00 00 09 A5");
     GIVES_3(complete_trie("q", 5), LABEL_BOOK_OK, 0, 0, 0);
-    GIVES_3(complete_trie("", LABEL_BOOK_COUNT_MAX), LABEL_BOOK_OK, 4, 33, 0);
-    GIVES_3(complete_trie("", LABEL_BOOK_COUNT_MAX + 1), LABEL_BOOK_COUNT_OUT_OF_RANGE, 0, 0, 0);
+    GIVES_3(complete_trie("", most), LABEL_BOOK_OK, 4, 33, 0);
+    GIVES_3(complete_trie("", most + 1), LABEL_BOOK_COUNT_OUT_OF_RANGE, 0, 0, 0);
+    GIVES_3(complete_trie_in(room - 1, "", most), LABEL_BOOK_TOO_SHORT, 0, 0, 0);
+    GIVES_3(complete_trie_in(room - 1, "", most + 1), LABEL_BOOK_COUNT_OUT_OF_RANGE, 0, 0, 0);
     GIVES_3(label_book_complete_trie(no_book, sizeof no_book, NAME(""), 1, fresh(), 53, &one, &two,
                                      &three), LABEL_BOOK_NOT_LAID_OUT, 0, 0, 0);
     SAME_BYTES(dst, 7, FILL_7);
@@ -650,9 +671,10 @@ int main(void) {
     test("head: where the first bucket's name stands", bucket_heads);
     test("list, build: E as a sheet and back; refusals", sheets);
     test("complete: P5 to P8", completion_from_a_book);
-    test("complete: k 16 and 17, and its other refusals", refused_completions);
+    test("complete: k 9 and 10, and its other refusals", refused_completions);
+    test("complete: 17 looks, the most", the_most_looks);
     test("write_trie: P2, P4, lone names of 7 and 8 bytes, a label cut in a sign", tries);
-    test("complete_trie: P5 to P7, k 16 and 17", completion_from_a_trie);
+    test("complete_trie: P5 to P7, k 9 and 10", completion_from_a_trie);
     test("press: every key, and the name that is then held", keys);
     test("press: the keys of signs, and erasing them; room for two bytes, one and none",
          keys_of_signs);

@@ -166,6 +166,8 @@ static void words_of_refusals(void) {
             SAME(strcmp(words, label_book_refusal_text((uint8_t)other)) != 0, 1);
     }
     SAME_TEXT(label_book_refusal_text(LABEL_BOOK_OK), "no refusal");
+    SAME_TEXT(label_book_refusal_text(LABEL_BOOK_COUNT_OUT_OF_RANGE),
+              "the number of names asked for is not 1 to 9");
     SAME_TEXT(label_book_refusal_text(LABEL_BOOK_NOT_HELD), "the book does not hold that name");
     SAME_TEXT(label_book_refusal_text(LABEL_BOOK_NOT_ALLOWED),
               "a name or prefix that is not allowed (a name has 1 to 48 bytes, "

@@ -190,6 +190,12 @@ pub fn entries(random: &mut Random, n: usize, names: Names, scores: Scores) -> E
     entries
 }
 
+/// 19 names of one letter with the scores 0 1 0 1 .. 0: on each side of a name that has score 1 at
+/// least one is left, so that offering one after the other takes the most looks.
+pub fn nineteen() -> Entries {
+    (b'a'..=b's').map(|letter| (vec![letter], (letter - b'a') as u32 % 2)).collect()
+}
+
 /// The entries of two books of these sizes, of whose names so many are shared; a shared name has a
 /// score in each.
 pub fn pair(
@@ -348,26 +354,31 @@ pub fn number(random: &mut Random, limit: usize) -> usize {
     }
 }
 
+/// How many entries to ask for: often as many as can be, or one more; any number up to that; none,
+/// or more: as many as could be asked for before (02, request d) and numbers of which the last
+/// bytes alone would be allowed.
 pub fn count(random: &mut Random) -> usize {
-    random.pick(&[
-        0,
-        1,
-        1,
-        2,
-        3,
-        5,
-        7,
-        8,
-        15,
-        16,
-        16,
-        17,
-        18,
-        257,
-        65_537,
-        (1 << 32) + 1,
-        usize::MAX,
-    ])
+    match random.below(8) {
+        0 | 1 => MOST_OFFERED,
+        2 => MOST_OFFERED + 1,
+        3..=5 => random.between(1, MOST_OFFERED),
+        _ => random.pick(&[
+            0,
+            MOST_OFFERED + 2,
+            MOST_BEFORE - 1,
+            MOST_BEFORE,
+            MOST_BEFORE + 1,
+            255,
+            256,
+            257,
+            256 + MOST_OFFERED,
+            65_537,
+            u32::MAX as usize,
+            (1 << 32) + 1,
+            (1 << 32) + MOST_OFFERED,
+            usize::MAX,
+        ]),
+    }
 }
 
 /// The length of a buffer for so many bytes: short by one, exact, long by one, or any.

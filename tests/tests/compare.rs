@@ -5,9 +5,12 @@ use label_book_tests::calls as ours;
 use label_book_tests::compare::Compare;
 use label_book_tests::make::{self, Names, Scores, NAMES, PLACES, SCORES};
 use label_book_tests::random::Random;
-use label_book_tests::reference::{book, calls, sheet, trie, Entries, MOST_ENTRIES};
+use label_book_tests::reference::{book, calls, sheet, trie, Entries};
+use label_book_tests::reference::{MOST_BEFORE, MOST_ENTRIES, MOST_OFFERED};
 use std::collections::BTreeSet;
 
+#[path = "compare/counts.rs"]
+mod counts;
 #[path = "compare/histories.rs"]
 mod histories;
 #[path = "compare/panels.rs"]
@@ -150,7 +153,8 @@ fn any_image(compare: &mut Compare, random: &mut Random, buffer: &[u8], held: &E
             compare.build(buffer, &dst);
         }
         Some(0x31) => {
-            compare.complete_trie(buffer, &name[..random.below(name.len() + 1)], 16, &dst);
+            let prefix = &name[..random.below(name.len() + 1)];
+            compare.complete_trie(buffer, prefix, MOST_OFFERED, &dst);
         }
         _ => match random.below(11) {
             0 => {
@@ -174,7 +178,7 @@ fn any_image(compare: &mut Compare, random: &mut Random, buffer: &[u8], held: &E
                 compare.merge(&book::image(held), buffer, &dst);
             }
             _ => {
-                compare.complete(buffer, b"", 16, &dst, 16);
+                compare.complete(buffer, b"", MOST_OFFERED, &dst, MOST_OFFERED);
                 compare.write_trie(buffer, &dst);
             }
         },
@@ -238,7 +242,7 @@ fn lists(compare: &mut Compare, random: &mut Random, book: &[u8], held: &Entries
     for _ in 0..4 {
         let name = make::some_name(random, held);
         let prefix = &make::beginning(random, &name)[..];
-        let k = random.between(1, 16);
+        let k = random.between(1, MOST_OFFERED);
         let dst = vec![0; 53 * k];
         let (a, from_book) = compare.complete(book, prefix, k, &dst, k);
         let (b, from_trie) = compare.complete_trie(&trie, prefix, k, &dst);
@@ -410,6 +414,7 @@ fn round(compare: &mut Compare, seed: u64) {
     worked_run(compare);
     panels::worked(compare);
     signs::worked(compare);
+    counts::worked(compare);
     sizes(compare, &mut random, 40);
     every_place(compare, &mut random, 6);
     damage(compare, &mut random, 600);
@@ -434,7 +439,7 @@ fn round(compare: &mut Compare, seed: u64) {
     {
         histories::long_history(compare, &mut random, length, 10_000, names);
     }
-    scripts::hostile_scripts(compare, &mut random, 40);
+    scripts::hostile_scripts(compare, &mut random, 49);
     scripts::hostile_calls(compare, &mut random);
     scripts::hostile_buffers(compare, &mut random);
     scripts::noise(compare, &mut random, 20_000);
@@ -442,6 +447,7 @@ fn round(compare: &mut Compare, seed: u64) {
     panels::every_key(compare, &mut random, 60);
     merges(compare, &mut random);
     damaged_merges(compare, &mut random, 300);
+    counts::books(compare, &mut random);
 }
 
 fn main() {

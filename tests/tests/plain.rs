@@ -1,7 +1,7 @@
 //! The calls that the benchmark compares with answer as the second implementation does.
 use label_book_tests::make::{self, Names, Scores, NAMES, PLACES, SCORES};
 use label_book_tests::random::Random;
-use label_book_tests::reference::{book, calls, sheet, trie, Entries};
+use label_book_tests::reference::{book, calls, sheet, trie, Entries, MOST_OFFERED};
 use label_book_tests::{plain, reference};
 
 /// Both calls on destinations with the same bytes: the same answer, the same bytes left.
@@ -22,7 +22,8 @@ fn ask(random: &mut Random, buffer: &[u8], page: &[u8], held: &Entries) {
     let whole = random.bytes(70_000);
     let dst = &whole[..make::room(random, book::image(held).len())];
     let short = &whole[..make::room(random, 53)];
-    let answer = &whole[..make::room(random, 53 * k.min(17))];
+    let answer = &whole[..make::room(random, 53 * k.min(MOST_OFFERED + 1))];
+    let ranges = random.pick(&[MOST_OFFERED - 1, MOST_OFFERED]);
     same(dst, plain::empty, calls::empty);
     same(dst, |d| plain::set(buffer, &name, 9, d), |d| calls::set(buffer, &name, 9, d));
     same(dst, |d| plain::withdraw(buffer, &name, d), |d| calls::withdraw(buffer, &name, d));
@@ -32,8 +33,8 @@ fn ask(random: &mut Random, buffer: &[u8], page: &[u8], held: &Entries) {
     same(short, |d| plain::name_of(buffer, &name, d), |d| calls::name_of(buffer, &name, d));
     same(
         answer,
-        |d| plain::complete(buffer, prefix, k, d, 15),
-        |d| calls::complete(buffer, prefix, k, d, 15),
+        |d| plain::complete(buffer, prefix, k, d, ranges),
+        |d| calls::complete(buffer, prefix, k, d, ranges),
     );
     same(&whole, |d| plain::write_trie(buffer, d), |d| calls::write_trie(buffer, d));
     for _ in 0..8 {
@@ -55,7 +56,7 @@ fn ask_trie(random: &mut Random, image: &[u8], held: &Entries) {
     for _ in 0..30 {
         let name = make::asked(random, held);
         let (prefix, k) = (&name[..random.below(name.len() + 1)], make::count(random));
-        let dst = random.bytes(53 * k.min(17));
+        let dst = random.bytes(53 * k.min(MOST_OFFERED + 1));
         let buffer = if random.chance(3) { image.to_vec() } else { make::damaged(random, image) };
         same(
             &dst,

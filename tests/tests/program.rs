@@ -3,7 +3,7 @@
 use label_book_tests::make::{self, Names, NAMES};
 use label_book_tests::programs::{printed, printed_and_said, said_when_full};
 use label_book_tests::random::Random;
-use label_book_tests::reference::{program, Entries};
+use label_book_tests::reference::{program, Entries, MOST_OFFERED};
 use std::io::Write;
 use std::os::fd::OwnedFd;
 use std::os::unix::net::UnixStream;
@@ -15,6 +15,7 @@ fn number(random: &mut Random) -> Vec<u8> {
     let value = match random.below(6) {
         0 => random.pick(&[0, 1, 4_294_967_295, 4_294_967_296, 9_999_999_999, 10_000_000_000]),
         1 => random.any() >> 31,
+        2 => random.between(MOST_OFFERED - 1, MOST_OFFERED + 2) as u64,
         _ => random.below(20) as u64,
     };
     match random.below(8) {
@@ -106,6 +107,15 @@ fn failures() {
     println!("labels: 4 failures of input and output, each said");
 }
 
+/// The book with the most looks, by its lines, asked for every count up to 20.
+fn every_count() -> Vec<u8> {
+    let lines = make::nineteen()
+        .into_iter()
+        .map(|(name, score)| [format!("set {score} ").as_bytes(), &name, b"\n"].concat());
+    let counts = (0..=20).flat_map(|k| [format!("top {k} \n"), format!("top {k} b\n")]);
+    lines.chain(counts.map(String::into_bytes)).flatten().collect()
+}
+
 fn main() {
     failures();
     let rounds = if std::env::var_os("LONG").is_some() { 20_000 } else { 200 };
@@ -122,6 +132,7 @@ fn main() {
         "set 5 10 µF\nset 9 4.7 kΩ\ntop 5 10 µ\ntop 5 4.7 kΩ\ndel µ\ndel 10 µF".into(),
         b"set 5 10 \xC2\nset 5 \xB5F\ntop 1 \xCE\ndel \xCE\xB5\nset 1 \xC3\xA4\n".to_vec(),
         full,
+        every_count(),
         vec![b'x'; 200_000],
     ];
     for _ in 0..rounds {

@@ -5,14 +5,16 @@
 //! sums are what is measured:
 //! - Most calls go down a few functions, none of which calls itself: any book shows the most, if
 //!   the call gets as far as to copy a name.
-//! - complete calls itself for each turn, at most 16 deep. In the 16th turn the best of the open
-//!   ranges is looked for, one call deeper for each of them: 16, if every turn left two parts.
+//! - complete calls itself for each turn, at most COUNT_MAX deep. In the last of so many turns the
+//!   best of the open ranges is looked for, one call deeper for each of them: there are as many, if
+//!   every turn left two parts.
 //! - write_trie has the names of a full book in its frame, whatever the book, and calls itself for
 //!   each group of names: 48 deep for names that begin each other up to 48 bytes, and once more
 //!   for the one name that is then left.
 //! - complete_trie checks the trie before all else, and calls itself for each group below another.
 //!   In a trie these are at most 48, one for each byte of a name; one more is looked at where a
-//!   node at 48 bytes claims to have children, which makes the image none.
+//!   node at 48 bytes claims to have children, which makes the image none. The search behind it has
+//!   the nodes that wait in its frames, room for COUNT_MAX of them, however many there are.
 //!
 //! `SEED=n` takes other random inputs.
 use measure::{Measure, Most};

@@ -1,6 +1,6 @@
 -- What the tables of worked cases share: the entries and images that document 01 shows, bytes to write into, and
 -- answers as numbers.
-use Prim.Native.Nat.{_%_, _+_, _/_, suc, ℕ}
+use Prim.Native.Nat.{_%_, _*_, _+_, _/_, suc, ℕ}
 use Prim.Native.String.{String}
 use mathlib.Core.List.{List, [], _++_, _∷_, map}
 use mathlib.Core.Option.{Option, none, some}
@@ -99,6 +99,14 @@ seventeenBook =
     ++ (1 ∷ 0x61 ∷ concatMap (λ c. 0 ∷ 1 ∷ c ∷ []) (countFrom 0x62 7))
     ++ (1 ∷ 0x69 ∷ concatMap (λ c. 0 ∷ 1 ∷ c ∷ []) (countFrom 0x6A 7))
     ++ (1 ∷ 0x71 ∷ [])
+
+-- 19 names a to s of score 0 and 1 in turn: the best of every range leaves a part left and right of it
+abbrev pub alternating : List Entry
+alternating = letters 0x61 (concatMap (λ i. 0 ∷ 1 ∷ []) (countFrom 0 9) ++ (0 ∷ []))
+
+-- its nine names of score 1, as offered: b, d, f .. r
+abbrev pub nineOffered : List ℕ
+nineOffered = concatMap (λ i. 1 ∷ (0x62 + 2 * i) ∷ 0x00 ∷ 0x00 ∷ 0x00 ∷ 1 ∷ []) (countFrom 0 9)
 
 -- n names of two letters, each of score 0
 abbrev pub crowd : ℕ → List Entry

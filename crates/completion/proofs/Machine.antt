@@ -21,7 +21,7 @@ use Rattle.entries.proofs.Same.{counted, in-counted, sameEntry}
 use Rattle.entries.proofs.Span.{span, span-at, span-best, span-length}
 use Rattle.completion.specs.declared.Range.{Range}
 use Rattle.completion.specs.Machine.{MachineOffers, bestOpen, bests, machine, noRange, offering, openRange}
-use Rattle.completion.specs.Machine.{others, parts, run}
+use Rattle.completion.specs.Machine.{mostLooks, others, parts, run}
 
 -- an open range of es, with its best
 record Good (es : List Entry) (r : Range) : Type 0 where
@@ -336,7 +336,7 @@ run-looks es (suc k) (r ∷ rs) =
     let ih = run-looks es k (others (best (bests es (r ∷ rs))) (r ∷ rs) ++ parts es (bestOpen es (r ∷ rs))) in
     omega arith
 
-looks-most : (es : List Entry) (p : List ℕ) (k : ℕ) → 1 ≤ k → machine es p k .looks ≤ 2 * k - 1
+pub looks-most : (es : List Entry) (p : List ℕ) (k : ℕ) → 1 ≤ k → machine es p k .looks ≤ mostLooks k
 unfolding machine
 looks-most es p zero h = absurd (omega arith)
 looks-most es p (suc k) h =

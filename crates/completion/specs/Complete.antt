@@ -20,28 +20,31 @@ use Rattle.completion.specs.declared.Range.{Range}
 abbrev pub entryRoom : ℕ
 entryRoom = 53
 
--- k is 0 or over 16
-abbrev pub badCount : ℕ → Bool
-badCount k = eqb k 0 || ltb maxCount k
+-- k is 0 or over the limit
+abbrev pub badCount : ℕ → ℕ → Bool
+badCount limit k = eqb k 0 || ltb limit k
 
 -- the entries offered, the bytes written and the looks
 abbrev pub offeredAs : List Entry → ℕ → OfferedCounts
 offeredAs l looks = record { offered = length l; bytes = length (entriesBytes l); looks = looks }
 
--- completion from a book; `ranges` is how many ranges are lent
-unfoldable pub completeBook : List ℕ → List ℕ → ℕ → List ℕ → ℕ → Outcome OfferedCounts
-completeBook book p k dst ranges =
+-- completion from a book, for counts up to a limit; `ranges` is how many ranges are lent
+unfoldable pub completeBookWithin : ℕ → List ℕ → List ℕ → ℕ → List ℕ → ℕ → Outcome OfferedCounts
+completeBookWithin limit book p k dst ranges =
     let es = inBook book in
     let l = completion es p k in
     writing
     (1 when not (isBook book)
     ∷ 2 when not (isPrefix p)
-    ∷ 3 when badCount k
+    ∷ 3 when badCount limit k
     ∷ 7 when (ltb (length dst) (entryRoom * k) || ltb ranges k)
     ∷ [])
     (offeredAs l (machine es p k .looks))
     (entriesBytes l)
     dst
+
+abbrev pub completeBook : List ℕ → List ℕ → ℕ → List ℕ → ℕ → Outcome OfferedCounts
+completeBook book p k dst ranges = completeBookWithin maxCount book p k dst ranges
 
 -- The lent ranges before and after a call: as they were after a refusal, free after an answer.
 abbrev pub Lent : {A R : Type 0} → Answer A → List R → List R → Type 0

@@ -58,11 +58,15 @@ machine es p k =
     let m = run k es rs in
     record { offered = m .offered; looks = length rs + m .looks }
 
+-- the most looks for k
+abbrev pub mostLooks : ℕ → ℕ
+mostLooks k = 2 * k - 1
+
 -- What the machine promises of entries in name order.
 pub record MachineOffers (es : List Entry) (p : List ℕ) (k : ℕ) : Type 0 where
   -- it offers the completion
   pub completes : map (at es) (machine es p k .offered) ≡ completion es p k
   -- looks are at most 2 × k − 1
-  pub atMost : 1 ≤ k → machine es p k .looks ≤ 2 * k - 1
+  pub atMost : 1 ≤ k → machine es p k .looks ≤ mostLooks k
   -- and equal the matches where these are at most k
   pub exactly : length (matches p es) ≤ k → machine es p k .looks ≡ length (matches p es)

@@ -6,7 +6,7 @@ use lib.ListN.{replicate, take}
 use Rattle.octets.specs.Octets.{be, fromBe}
 use Rattle.octets.specs.Table.{Row, _gives_, failing}
 use Rattle.octets.specs.Text.{text}
-use Rattle.entries.specs.Completion.{completion, rangeStart}
+use Rattle.entries.specs.Completion.{completion, maxCount, rangeStart}
 use Rattle.entries.specs.Entries.{Entry, entry, valid}
 use Rattle.entries.specs.Names.{allowedBytes, isName, isPrefix, isScore, micro}
 use Rattle.book.specs.Records.{recordLength, recordName, recordOf}
@@ -14,10 +14,10 @@ use Rattle.answer.specs.Answers.{entriesBytes, entryBytes, writing}
 use Rattle.book.specs.Book.{bookImage, entriesIn, imageIn, offset, offsets, peak, peaks, readBook, readIn, recordsAt}
 use Rattle.book.specs.Book.{scores}
 use Rattle.frame.specs.Frame.{countOf, framed, readAs}
-use Rattle.book.specs.Shown.{E, P1, P3, answerEntry, answerFor, changed, fullName, kΩ, letters, shownOffered}
-use Rattle.book.specs.Shown.{signedBook, spare, µA, µF}
-use Rattle.completion.specs.Complete.{completeBook}
-use Rattle.completion.specs.Machine.{machine, offering, openRange, others, parts}
+use Rattle.book.specs.Shown.{E, P1, P3, alternating, answerEntry, answerFor, changed, fullName, kΩ, letters}
+use Rattle.book.specs.Shown.{nineOffered, shownOffered, signedBook, spare, µA, µF}
+use Rattle.completion.specs.Complete.{completeBook, completeBookWithin}
+use Rattle.completion.specs.Machine.{machine, mostLooks, offering, openRange, others, parts}
 
 -- the looks, then the positions offered
 abbrev looksAt : List Entry → List ℕ → ℕ → List ℕ
@@ -37,7 +37,7 @@ looking =
     (looksAt (scored (1 ∷ 9 ∷ 1 ∷ [])) [] 1 gives (1 ∷ 1 ∷ []))
     ∷ (looksAt (scored (1 ∷ 9 ∷ 1 ∷ [])) [] 2 gives (3 ∷ 1 ∷ 0 ∷ []))
     ∷ (looksAt (scored (1 ∷ 9 ∷ 1 ∷ [])) [] 3 gives (3 ∷ 1 ∷ 0 ∷ 2 ∷ []))
-    ∷ (looksAt (scored (1 ∷ 9 ∷ 1 ∷ [])) [] 16 gives (3 ∷ 1 ∷ 0 ∷ 2 ∷ []))
+    ∷ (looksAt (scored (1 ∷ 9 ∷ 1 ∷ [])) [] maxCount gives (3 ∷ 1 ∷ 0 ∷ 2 ∷ []))
     -- rising scores: one part each time, and the k-th is not replaced
     ∷ (looksAt (scored (1 ∷ 2 ∷ 3 ∷ 4 ∷ [])) [] 2 gives (2 ∷ 3 ∷ 2 ∷ []))
     ∷ (looksAt (scored (1 ∷ 2 ∷ 3 ∷ 4 ∷ [])) [] 3 gives (3 ∷ 3 ∷ 2 ∷ 1 ∷ []))
@@ -45,6 +45,9 @@ looking =
     ∷ (looksAt (scored (1 ∷ 8 ∷ 1 ∷ 9 ∷ 1 ∷ 7 ∷ 1 ∷ [])) [] 3 gives (5 ∷ 3 ∷ 1 ∷ 5 ∷ []))
     ∷ (looksAt (scored (1 ∷ 8 ∷ 1 ∷ 9 ∷ 1 ∷ 7 ∷ 1 ∷ [])) [] 4 gives (7 ∷ 3 ∷ 1 ∷ 5 ∷ 0 ∷ []))
     ∷ (looksAt (scored (1 ∷ 8 ∷ 1 ∷ 9 ∷ 1 ∷ 7 ∷ 1 ∷ [])) [] 7 gives (7 ∷ 3 ∷ 1 ∷ 5 ∷ 0 ∷ 2 ∷ 4 ∷ 6 ∷ []))
+    -- the most looks that there can be, and a machine that takes them
+    ∷ (mostLooks maxCount ∷ looksAt alternating [] maxCount
+    gives (17 ∷ 17 ∷ 1 ∷ 3 ∷ 5 ∷ 7 ∷ 9 ∷ 11 ∷ 13 ∷ 15 ∷ 17 ∷ []))
     -- equal scores: the earlier name, within a range and of two ranges
     ∷ (looksAt (scored (3 ∷ 3 ∷ 3 ∷ [])) [] 2 gives (2 ∷ 0 ∷ 1 ∷ []))
     ∷ (looksAt (scored (5 ∷ 9 ∷ 7 ∷ 9 ∷ 5 ∷ [])) [] 4 gives (5 ∷ 1 ∷ 3 ∷ 2 ∷ 0 ∷ []))
@@ -78,6 +81,11 @@ completing =
     gives (0 ∷ 2 ∷ 20 ∷ 3 ∷ answerFor µF 9 ++ answerFor kΩ 7 ++ spare 86))
     ∷ (shownOffered (completeBook (bookImage (entry fullName 1 ∷ [])) fullName 1 (spare 53) 1)
     gives (0 ∷ 1 ∷ 53 ∷ 1 ∷ answerFor fullName 1))
+    -- nine of nineteen; under the limit 16 the same
+    ∷ (shownOffered (completeBook (bookImage alternating) [] 9 (spare 477) 9)
+    gives (0 ∷ 9 ∷ 54 ∷ 17 ∷ nineOffered ++ spare 423))
+    ∷ (shownOffered (completeBookWithin 16 (bookImage alternating) [] 9 (spare 477) 9)
+    gives (0 ∷ 9 ∷ 54 ∷ 17 ∷ nineOffered ++ spare 423))
     -- none offered
     ∷ (shownOffered (completeBook P1 [] 2 (spare 106) 2) gives (0 ∷ 0 ∷ 0 ∷ 0 ∷ spare 106))
     ∷ (shownOffered (completeBook P3 (replicate 48 0x72) 1 (spare 53) 1) gives (0 ∷ 0 ∷ 0 ∷ 0 ∷ spare 53))
@@ -90,13 +98,18 @@ refusing =
     ∷ (shownOffered (completeBook P3 (text "rl") 1 (spare 53) 0) gives (7 ∷ 0 ∷ 0 ∷ 0 ∷ spare 53))
     ∷ (shownOffered (completeBook P3 (text "q") 2 (spare 105) 2) gives (7 ∷ 0 ∷ 0 ∷ 0 ∷ spare 105))
     ∷ (shownOffered (completeBook P3 (text "q") 2 (spare 106) 1) gives (7 ∷ 0 ∷ 0 ∷ 0 ∷ spare 106))
-    -- 3 before 7: k is 0, 17, and 257, which is no 1; k is 16, and 16 with one byte or one range short
+    -- 3 before 7: k is 0, 10, 16, and 257, which is no 1; under the limit 16 it is 17
     ∷ (shownOffered (completeBook P3 [] 0 (spare 4) 0) gives (3 ∷ 0 ∷ 0 ∷ 0 ∷ spare 4))
-    ∷ (shownOffered (completeBook P3 [] 17 (spare 901) 17) gives (3 ∷ 0 ∷ 0 ∷ 0 ∷ spare 901))
+    ∷ (shownOffered (completeBook P3 [] 10 (spare 530) 10) gives (3 ∷ 0 ∷ 0 ∷ 0 ∷ spare 530))
+    ∷ (shownOffered (completeBook P3 [] 10 [] 0) gives (3 ∷ 0 ∷ 0 ∷ 0 ∷ []))
+    ∷ (shownOffered (completeBook P3 [] 16 (spare 848) 16) gives (3 ∷ 0 ∷ 0 ∷ 0 ∷ spare 848))
     ∷ (shownOffered (completeBook P3 [] 257 [] 0) gives (3 ∷ 0 ∷ 0 ∷ 0 ∷ []))
-    ∷ (shownOffered (completeBook P1 [] 16 (spare 848) 16) gives (0 ∷ 0 ∷ 0 ∷ 0 ∷ spare 848))
-    ∷ (shownOffered (completeBook P1 [] 16 (spare 847) 16) gives (7 ∷ 0 ∷ 0 ∷ 0 ∷ spare 847))
-    ∷ (shownOffered (completeBook P1 [] 16 (spare 848) 15) gives (7 ∷ 0 ∷ 0 ∷ 0 ∷ spare 848))
+    ∷ (shownOffered (completeBookWithin 16 P1 [] 16 (spare 848) 16) gives (0 ∷ 0 ∷ 0 ∷ 0 ∷ spare 848))
+    ∷ (shownOffered (completeBookWithin 16 P1 [] 17 (spare 901) 17) gives (3 ∷ 0 ∷ 0 ∷ 0 ∷ spare 901))
+    -- k is 9, and 9 with one byte or one range short
+    ∷ (shownOffered (completeBook P1 [] 9 (spare 477) 9) gives (0 ∷ 0 ∷ 0 ∷ 0 ∷ spare 477))
+    ∷ (shownOffered (completeBook P1 [] 9 (spare 476) 9) gives (7 ∷ 0 ∷ 0 ∷ 0 ∷ spare 476))
+    ∷ (shownOffered (completeBook P1 [] 9 (spare 477) 8) gives (7 ∷ 0 ∷ 0 ∷ 0 ∷ spare 477))
     -- 2 before 3 and 7
     ∷ (shownOffered (completeBook P3 (replicate 49 0x72) 1 (spare 53) 1) gives (2 ∷ 0 ∷ 0 ∷ 0 ∷ spare 53))
     ∷ (shownOffered (completeBook P3 (0x1F ∷ []) 0 [] 0) gives (2 ∷ 0 ∷ 0 ∷ 0 ∷ []))
@@ -114,5 +127,5 @@ table = looking ++ completing ++ refusing
 worked : failing 0 table ≡ []
 unfolding be fromBe allowedBytes isPrefix isName isScore valid completion rangeStart recordOf recordName recordLength
     framed countOf readAs scores peak peaks recordsAt offset offsets imageIn entriesIn readIn bookImage readBook
-    writing entryBytes entriesBytes openRange others parts offering machine completeBook
+    writing entryBytes entriesBytes openRange others parts offering machine completeBookWithin
 worked = refl

@@ -59,7 +59,7 @@ pub fn run(book: &[u8], start: completion_turn::Progress, slots: Queue) -> compl
 
 // Slots with nothing in them.
 pub fn no_ranges() -> Queue
-    ensures { λ q. ⌜ q .ranges ≡ replicate 16 noRange ⌝ }
+    ensures { λ q. ⌜ q .ranges ≡ replicate maxCount noRange ⌝ }
 {
     Queue {
         ranges: [completion::Range {

@@ -22,7 +22,7 @@ use Rattle.book_laws.specs.Held.{Held}
 use Rattle.answer.proofs.Answers.{clear}
 use Rattle.book_laws.proofs.Held.{held-valid}
 use Rattle.completion.specs.declared.Range.{Range}
-use Rattle.completion.specs.Complete.{badCount, completeBook, entryRoom, offeredAs}
+use Rattle.completion.specs.Complete.{badCount, completeBook, completeBookWithin, entryRoom, offeredAs}
 use Rattle.completion.specs.Machine.{machine, openRange, run}
 use Rattle.completion.proofs.Machine.{machine-inside, machine-promise, open-length, stop-fits}
 use Rattle.completion_turn.specs.declared.Progress.{Progress}
@@ -166,7 +166,7 @@ module _ (book p : List ℕ) (k : ℕ) (dst : List ℕ) (lent : ℕ) (xs : List 
 
   abbrev checks : List Check
   checks =
-      1 when not (isBook book) ∷ 2 when not (isPrefix p) ∷ 3 when badCount k
+      1 when not (isBook book) ∷ 2 when not (isPrefix p) ∷ 3 when badCount maxCount k
       ∷ 7 when (ltb (length dst) (entryRoom * k) || ltb lent k) ∷ []
 
   abbrev answer : OfferedCounts
@@ -204,7 +204,7 @@ module _ (book p : List ℕ) (k : ℕ) (dst : List ℕ) (lent : ℕ) (xs : List 
     slots : k ≤ lent
     slots = ltb-false lent k (or-right (ltb (length dst) (entryRoom * k)) _ (clean _ (inr (inr (inr (inl refl))))))
 
-  -- a machine that was asked for may run, where there are as many slots as ranges that may wait, or 16
+  -- a machine that was asked for may run, where there are as many slots as ranges that may wait, or as can be asked for
   pub asked-runs :
       (k ≤ lent → k ≤ maxCount → k ≤ length xs)
       → Runnable book xs (begunAs (length es) k (asked book p k (length dst) lent))
@@ -265,7 +265,7 @@ module _ (book p : List ℕ) (k : ℕ) (dst : List ℕ) (lent : ℕ) (xs : List 
 
     -- the answer and the destination are those of completion
     pub complete-is : outcomeOf es s dst ≡ completeBook book p k dst lent
-    unfolding completeBook writing
+    unfolding completeBookWithin writing
     complete-is = go both
       where
         go : Both → outcomeOf es s dst ≡ completeBook book p k dst lent

@@ -29,7 +29,7 @@ idleOf n c =
       at1 = 0;
       r1 = noRange;
       filled = 0;
-      offered = replicate 16 0;
+      offered = replicate maxCount 0;
       count = 0;
       looks = 0;
       entries = n;
@@ -51,7 +51,7 @@ startOf n k (r ∷ rs) =
       at1 = 0;
       r1 = r;
       filled = 1;
-      offered = replicate 16 0;
+      offered = replicate maxCount 0;
       count = 0;
       looks = 1;
       entries = n;
@@ -65,7 +65,7 @@ asked book p k room lent =
     unless
     (1 when not (isBook book)
     ∷ 2 when not (isPrefix p)
-    ∷ 3 when badCount k
+    ∷ 3 when badCount maxCount k
     ∷ 7 when (ltb room (entryRoom * k) || ltb lent k)
     ∷ [])
     (matchRange (inBook book) p)

@@ -8,7 +8,7 @@ use Rattle.completion.specs.declared.Range.{Range}
 use Rattle.completion_turn.specs.declared.Progress.{Progress}
 use Rattle.completion_turn.specs.Turns.{Ran, Runnable}
 
--- what a run over the lent slots xs asks; however many are lent, at most 16 hold an open range
+-- what a run over the lent slots xs asks; however many are lent, at most `maxCount` hold an open range
 pub record MayRun (book : List ℕ) (xs : List Range) (m : Progress) : Type 0 where
   pub runs : Runnable book xs m
   pub few : m .filled + m .turns ≤ maxCount + 1

@@ -21,9 +21,9 @@ use Rattle.answer.proofs.Converting.{converted}
 use Rattle.frame.proofs.Frame.{read-of}
 use Rattle.edit.specs.Edits.{emptyBook}
 use Rattle.edit.proofs.Empty.{empty-refused}
-use Rattle.completion.specs.Complete.{completeBook, entryRoom}
+use Rattle.completion.specs.Complete.{completeBook, completeBookWithin, entryRoom}
 use Rattle.completion.specs.Machine.{machine}
-use Rattle.trie.specs.Calls.{completeTrie, writeTrie}
+use Rattle.trie.specs.Calls.{completeTrie, completeTrieWithin, writeTrie}
 use Rattle.trie.specs.Reading.{readTrie}
 use Rattle.trie.specs.Trie.{trieImage}
 use Rattle.trie.proofs.Trie.{trie-exact}
@@ -37,7 +37,7 @@ completes :
     (book : List ℕ) (es : List Entry) → readBook book ≡ some es → (p : List ℕ) (k : ℕ) (dst : List ℕ) (ranges : ℕ)
     → isPrefix p ≡ true → 1 ≤ k → k ≤ maxCount → entryRoom * k ≤ length dst → k ≤ ranges
     → completeBook book p k dst ranges ≡ offersOf es p k (machine es p k .looks) dst
-unfolding completeBook writing
+unfolding completeBookWithin writing
 completes book es r p k dst ranges hp lo hi long enough =
     rw (
       r,
@@ -53,7 +53,7 @@ pub trie-completes :
     (trie : List ℕ) (es : List Entry) → readTrie trie ≡ some es → (p : List ℕ) (k : ℕ) (dst : List ℕ)
     → isPrefix p ≡ true → 1 ≤ k → k ≤ maxCount → entryRoom * k ≤ length dst
     → completeTrie trie p k dst ≡ offersOf es p k 0 dst
-unfolding completeTrie writing
+unfolding completeTrieWithin writing
 trie-completes trie es r p k dst hp lo hi long =
     rw (r, hp, ne-eqb k 0 (λ z. omega arith), le-ltb maxCount k hi, le-ltb (length dst) (entryRoom * k) long)
 

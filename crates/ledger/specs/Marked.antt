@@ -20,9 +20,9 @@ use Rattle.frame.specs.Frame.{countOf, framed, readAs}
 use Rattle.book.specs.Shown.{E, P1, P2, P3, P4, answerEntry, letters, listed, shownOffered, shownRead, shownWritten}
 use Rattle.book.specs.Shown.{spare}
 use Rattle.edit.specs.Edits.{emptyBook, setEntry, withdrawEntry}
-use Rattle.completion.specs.Complete.{completeBook}
+use Rattle.completion.specs.Complete.{completeBook, completeBookWithin}
 use Rattle.completion.specs.Machine.{machine, offering, openRange, others, parts}
-use Rattle.trie.specs.Calls.{completeTrie, writeTrie}
+use Rattle.trie.specs.Calls.{completeTrie, completeTrieWithin, writeTrie}
 use Rattle.trie.specs.Reading.{behindSibling, childSize, labelLength, lastMark, readTrie, scoreSize, siblingOf}
 use Rattle.trie.specs.Reading.{trieEntries}
 use Rattle.trie.specs.Trie.{groupBytes, headerByte, nodeBytes, nodeOf, otherBytes, trieImage}
@@ -137,13 +137,13 @@ bounds =
     -- a prefix likewise
     ∷ (shownOffered (completeBook P3 (replicate 48 0x78) 1 (spare 53) 1) gives (0 ∷ 0 ∷ 0 ∷ 0 ∷ spare 53))
     ∷ (shownOffered (completeBook P3 (replicate 49 0x78) 1 (spare 53) 1) gives (2 ∷ 0 ∷ 0 ∷ 0 ∷ spare 53))
-    -- k 16 is accepted, 17 gives 3
-    ∷ (shownOffered (completeBook P3 (text "rl") 16 (spare 848) 16)
-    gives (0 ∷ 1 ∷ 7 ∷ 1 ∷ answerEntry "rl" 12 ++ spare 841))
-    ∷ (shownOffered (completeBook P3 (text "rl") 17 (spare 901) 17) gives (3 ∷ 0 ∷ 0 ∷ 0 ∷ spare 901))
-    ∷ (shownOffered (completeTrie P4 (text "rl") 16 (spare 848))
-    gives (0 ∷ 1 ∷ 7 ∷ 0 ∷ answerEntry "rl" 12 ++ spare 841))
-    ∷ (shownOffered (completeTrie P4 (text "rl") 17 (spare 901)) gives (3 ∷ 0 ∷ 0 ∷ 0 ∷ spare 901))
+    -- k 9 is accepted, 10 gives 3 (document 02, request d)
+    ∷ (shownOffered (completeBook P3 (text "rl") 9 (spare 477) 9)
+    gives (0 ∷ 1 ∷ 7 ∷ 1 ∷ answerEntry "rl" 12 ++ spare 470))
+    ∷ (shownOffered (completeBook P3 (text "rl") 10 (spare 530) 10) gives (3 ∷ 0 ∷ 0 ∷ 0 ∷ spare 530))
+    ∷ (shownOffered (completeTrie P4 (text "rl") 9 (spare 477))
+    gives (0 ∷ 1 ∷ 7 ∷ 0 ∷ answerEntry "rl" 12 ++ spare 470))
+    ∷ (shownOffered (completeTrie P4 (text "rl") 10 (spare 530)) gives (3 ∷ 0 ∷ 0 ∷ 0 ∷ spare 530))
     -- a 7-byte lone name is one node, 8 bytes two
     ∷ (trieImage (entry (text "abcdefg") 0 ∷ [])
     gives (0x31 ∷ 0x00 ∷ 0x00 ∷ 0x00 ∷ 15 ∷ 0x00 ∷ 1 ∷ 0x0F ∷ text "abcdefg"))
@@ -160,6 +160,6 @@ unfolding be fromBe allowedBytes isPrefix isName isScore valid completion rangeS
     framed countOf readAs scores peak peaks recordsAt offset offsets imageIn entriesIn readIn bookImage readBook
     writing writingImage entryBytes entriesBytes emptyBook setEntry withdrawEntry openRange others parts offering
     machine
-    completeBook headerByte nodeBytes otherBytes groupBytes nodeOf trieImage scoreSize childSize lastMark labelLength
-    siblingOf behindSibling trieEntries readTrie writeTrie completeTrie ledgerAnswer callStep
+    completeBookWithin headerByte nodeBytes otherBytes groupBytes nodeOf trieImage scoreSize childSize lastMark
+    labelLength siblingOf behindSibling trieEntries readTrie writeTrie completeTrieWithin ledgerAnswer callStep
 marked = refl

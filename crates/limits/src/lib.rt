@@ -51,8 +51,8 @@ pub const BLOCK_SIZE: usize = 16;
 // The most bytes of a trie node's label: `longestLabel`.
 pub const LONGEST_LABEL: usize = 7;
 
-// The most entries that a completion offers: `maxCount`.
-pub const MAX_COUNT: usize = 16;
+// The most entries that a completion can be asked for: `maxCount`.
+pub const MAX_COUNT: usize = 9;
 // The bytes that a completion's destination must have for each entry asked for: `entryRoom`.
 pub const ENTRY_ROOM: usize = 53;
 // How many entries the panel asks for: `panelCount`.
@@ -78,8 +78,13 @@ pub const KEPT_BYTES: usize = 64;
 pub const MOST_DIGITS: usize = 10;
 // The first number that is too high for a command line: `hasNumber`.
 pub const NUMBERS_END: u64 = 4294967296;
+// The bytes that the line of an entry offered may take, with its score, a space, its name and a line feed:
+// `entryLineRoom`.
+pub const ENTRY_LINE_ROOM: usize = MOST_DIGITS + 1 + LONGEST_NAME + 1;
+// The bytes that the line of the looks may take: `looksLineRoom`.
+pub const LOOKS_LINE_ROOM: usize = 6 + MOST_DIGITS + 1;
 // The bytes that the lines of one command may take: `lineRoom`.
-pub const LINE_ROOM: usize = 1024;
+pub const LINE_ROOM: usize = MAX_COUNT * ENTRY_LINE_ROOM + LOOKS_LINE_ROOM;
 
 // The bytes of a script's call before its name: kind, score, length of the name.
 pub const CALL_HEAD: usize = 7;

@@ -10,7 +10,7 @@ use Rattle.octets.specs.Lists.{if_then_else_}
 use Rattle.script.specs.Run.{Bench, bench, benchCall, benchStep, bookOf}
 use Rattle.program.specs.Program.{bad, badLine, commandOf, edit, editLine, offerLines, top, topLines}
 use Rattle.program.specs.Program as program
-use Rattle.entries.specs.Completion.{completion}
+use Rattle.entries.specs.Completion.{completion, maxCount}
 use Rattle.entries.specs.Names.{isPrefix}
 use Rattle.answer.specs.Answers.{_when_, unless}
 use Rattle.book.specs.Book.{inBook, isBook}
@@ -22,7 +22,7 @@ use Rattle.answer.specs.declared.Completion.the-variants as answer
 unfoldable pub topOf : List ℕ → ℕ → List ℕ → List ℕ
 topOf book k p =
     offerLines
-    (unless (1 when not (isBook book) ∷ 2 when not (isPrefix p) ∷ 3 when badCount k ∷ [])
+    (unless (1 when not (isBook book) ∷ 2 when not (isPrefix p) ∷ 3 when badCount maxCount k ∷ [])
     (topLines (completion (inBook book) p k) (machine (inBook book) p k .looks)))
 
 -- what a command prints

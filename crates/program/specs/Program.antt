@@ -8,7 +8,7 @@ use lib.ListN.{drop, length}
 use Rattle.octets.specs.Lists.{concatMap, if_then_else_}
 use Rattle.octets.specs.Octets.{begins}
 use Rattle.octets.specs.Text.{text}
-use Rattle.entries.specs.Completion.{completion}
+use Rattle.entries.specs.Completion.{completion, maxCount}
 use Rattle.entries.specs.Entries.{Entry}
 use Rattle.entries.specs.Names.{isPrefix}
 use Rattle.answer.specs.Answers.{Answer, WrittenCounts, _when_, given, refused, unless}
@@ -92,12 +92,17 @@ abbrev pub offerLines : Answer (List ℕ) → List ℕ
 offerLines (refused n) = refusedLine n
 offerLines (given lines) = lines
 
+-- what `top` prints with the entries es held, for counts up to a limit
+abbrev pub topWithin : ℕ → ℕ → List ℕ → List Entry → List ℕ
+topWithin limit k p es =
+    offerLines
+    (unless (2 when not (isPrefix p) ∷ 3 when badCount limit k ∷ [])
+    (topLines (completion es p k) (machine es p k .looks)))
+
 -- what a command prints with the entries es held
 abbrev pub printed : Command → List Entry → List ℕ
 printed (edit c) es = editLine (ledgerAnswer bufferLength c es)
-printed (top k p) es =
-    offerLines
-    (unless (2 when not (isPrefix p) ∷ 3 when badCount k ∷ []) (topLines (completion es p k) (machine es p k .looks)))
+printed (top k p) es = topWithin maxCount k p es
 printed bad es = text "bad" ++ lineFeed
 
 -- the entries held after it

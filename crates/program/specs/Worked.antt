@@ -12,10 +12,11 @@ use Rattle.entries.specs.Names.{allowedBytes, isName, isPrefix, micro, ohm}
 use Rattle.book.specs.Records.{recordOf}
 use Rattle.book.specs.Book.{bookImage, imageIn, offset, offsets, peak, peaks, recordsAt, scores}
 use Rattle.frame.specs.Frame.{framed}
-use Rattle.book.specs.Shown.{E, crowd}
+use Rattle.book.specs.Shown.{E, alternating, crowd}
 use Rattle.completion.specs.Machine.{machine, offering, openRange, others, parts}
 use Rattle.ledger.specs.Ledger.{ledgerAnswer, ledgerStep}
 use Rattle.program.specs.Program.{commandOf, decimal, lineFeed, printed, program, refusedLine, topLines}
+use Rattle.program.specs.Program.{topWithin}
 
 -- document 01's input, without the last line feed, and all that it prints
 abbrev shownInput : List ℕ
@@ -41,6 +42,10 @@ inputs =
     gives text "ok 1\nok 2\nok 2\nno 2\nbad\n3 a\n2 b\nlooks 2\nok 1\n2 b\nlooks 1\nno 4\nok 2\n0 a\nlooks 1\n")
     ∷ []
 
+-- the nine best of `alternating`
+abbrev nineLines : List ℕ
+nineLines = text "1 b\n1 d\n1 f\n1 h\n1 j\n1 l\n1 n\n1 p\n1 r\nlooks 17\n"
+
 abbrev numbers : List Row
 numbers =
     -- the highest number, and one more
@@ -58,13 +63,19 @@ numbers =
     ∷ (prints [] (text "set +5 a") gives text "bad\n")
     ∷ (prints [] (text "set 5a b") gives text "bad\n")
     ∷ (prints [] (text "set 0x5 a") gives text "bad\n")
-    -- k is 0, over 16, and far over
+    -- k is 0, 9, over 9, and far over
     ∷ (prints E (text "top 0 a") gives text "no 3\n")
-    ∷ (prints E (text "top 16 a") gives text "5 ac\nlooks 1\n")
-    ∷ (prints E (text "top 17 a") gives text "no 3\n")
+    ∷ (prints E (text "top 9 a") gives text "5 ac\nlooks 1\n")
+    ∷ (prints E (text "top 10 a") gives text "no 3\n")
+    ∷ (prints E (text "top 16 a") gives text "no 3\n")
     ∷ (prints E (text "top 257 a") gives text "no 3\n")
     ∷ (prints E (text "top 4294967295 a") gives text "no 3\n")
     ∷ (prints E (text "top 4294967296 a") gives text "bad\n")
+    -- nine of nineteen; under the limit 16 the same
+    ∷ (prints alternating (text "top 9 ") gives nineLines)
+    ∷ (topWithin 16 9 [] alternating gives nineLines)
+    ∷ (topWithin 16 16 (text "a") E gives text "5 ac\nlooks 1\n")
+    ∷ (topWithin 16 17 (text "a") E gives text "no 3\n")
     ∷ []
 
 abbrev forms : List Row

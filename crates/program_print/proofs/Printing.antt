@@ -22,7 +22,7 @@ use Rattle.sheet.specs.Sheet.{sheetFrom}
 use Rattle.sheet_write.proofs.Entries.{Here, here}
 use Rattle.sheet_check.proofs.RowLoop.{between}
 use Rattle.program.specs.Program.{decimal, lineFeed}
-use Rattle.program_print.specs.Printing.{Laid, Printed, Shows, entryLine, offeredLines}
+use Rattle.program_print.specs.Printing.{Laid, Printed, Shows, entryLine, entryLineRoom, offeredLines}
 use Rattle.program_print.specs.declared.Numeral.{Numeral}
 use Rattle.program_print.proofs.Decimal.{decimal-most}
 
@@ -77,12 +77,13 @@ pub record Offering (answer : List ℕ) (n : ℕ) (out₀ out : List ℕ) (at en
   pub upto : i ≤ n
   pub stands : begins (entriesBytes (drop i (sheetFrom n answer))) (drop at answer) ≡ true
   pub size : length out ≡ length out₀
-  pub room : end + 60 * (n - i) ≤ length out
+  pub room : end + entryLineRoom * (n - i) ≤ length out
   pub left : sets out end (offeredLines (drop i (sheetFrom n answer))) ≡ sets out₀ 0 (offeredLines (sheetFrom n answer))
   pub ends : end + length (offeredLines (drop i (sheetFrom n answer))) ≡ length (offeredLines (sheetFrom n answer))
 
 pub offer-start :
-    {answer : List ℕ} {n : ℕ} {out : List ℕ} → Laid n answer × (60 * n ≤ length out) → Offering answer n out out 0 0 0
+    {answer : List ℕ} {n : ℕ} {out : List ℕ} → Laid n answer × (entryLineRoom * n ≤ length out)
+    → Offering answer n out out 0 0 0
 offer-start h =
     record {
       upto = omega arith;
@@ -142,7 +143,7 @@ module _
         }
 
 -- the lines of allowed entries are short
-pub lines-most : (l : List Entry) → all isEntry l ≡ true → length (offeredLines l) ≤ 60 * length l
+pub lines-most : (l : List Entry) → all isEntry l ≡ true → length (offeredLines l) ≤ entryLineRoom * length l
 lines-most [] h = omega arith
 lines-most (e ∷ l) h =
     let p = and-true (isEntry e) (all isEntry l) h in

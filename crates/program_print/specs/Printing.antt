@@ -10,6 +10,7 @@ use Rattle.octets.specs.Octets.{begins}
 use Rattle.octets.specs.Text.{text}
 use Rattle.entries.specs.Completion.{maxCount}
 use Rattle.entries.specs.Entries.{Entry, isEntry}
+use Rattle.entries.specs.Names.{longestName}
 use Rattle.answer.specs.Answers.{entriesBytes}
 use Rattle.sheet.specs.Sheet.{sheetFrom}
 use Rattle.program.specs.Program.{decimal, lineFeed}
@@ -30,6 +31,10 @@ pub record Shows (v : ℕ) (n : Numeral) : Type 0 where
 -- the line of an entry offered: score and name
 abbrev pub entryLine : Entry → List ℕ
 entryLine e = decimal (e .score) ++ text " " ++ e .name ++ lineFeed
+
+-- the bytes that it may take: ten digits, a space, the longest name, a line feed
+abbrev pub entryLineRoom : ℕ
+entryLineRoom = 10 + 1 + longestName + 1
 
 abbrev pub offeredLines : List Entry → List ℕ
 offeredLines l = concatMap entryLine l

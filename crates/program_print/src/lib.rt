@@ -7,7 +7,7 @@ ghost use lib.ListN.{length};
 ghost use Rattle.entries.specs.Entries.{entry};
 ghost use Rattle.sheet.specs.Sheet.{sheetFrom};
 ghost use Rattle.program.specs.Program.{badLine, decimal, lineFeed};
-ghost use Rattle.program_print.specs.Printing.{Laid, Printed, Shows, entryLine, offeredLines};
+ghost use Rattle.program_print.specs.Printing.{Laid, Printed, Shows, entryLine, entryLineRoom, offeredLines};
 
 // A number's decimal digits: the bytes from an index on.
 struct Numeral {
@@ -72,7 +72,7 @@ fn put_entry_line(out: &mut [u8], at: usize, name: &[u8], score: u32) -> usize
 
 // Writes the lines of the n entries of an answer at the front: where they end.
 pub fn put_entry_lines(answer: &[u8], n: usize, out: &mut [u8]) -> usize
-    requires { ⌜ Laid n (now answer) × (60 * n ≤ length (now out)) ⌝ }
+    requires { ⌜ Laid n (now answer) × (entryLineRoom * n ≤ length (now out)) ⌝ }
     ensures { λ r. ⌜ Printed (now (out .entry)) 0 (offeredLines (sheetFrom n (now (answer .entry)))) r
         (now (out .exit)) ⌝ }
 {

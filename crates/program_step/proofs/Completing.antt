@@ -3,34 +3,34 @@ use Prim.Native.Nat.{_*_, _≤_, ℕ}
 use mathlib.Core.Path.{_≡_, ap}
 use mathlib.Core.Bool.{_||_, false, true}
 use mathlib.Core.List.{List, _++_}
-use lib.Dec.{eqb, ltb}
+use lib.Dec.{ltb}
 use lib.ListN.{drop, getD, length}
 use native.Mathlib.Omega.{arith}
-use borrow.Author.Tests.{eqb-false, le-ltb, ltb-false}
+use borrow.Author.Tests.{le-ltb}
 use Rattle.octets.specs.Lists.{all}
 use Rattle.octets.specs.Octets.{overwrite}
 use Rattle.octets.specs.Text.{text}
 use Rattle.octets.proofs.Lists.{all-at, all-imp, all-in, get-in}
 use Rattle.octets.proofs.Order.{begins-append}
-use Rattle.octets.proofs.Tests.{and-true, by-test, or-false}
-use Rattle.entries.specs.Completion.{completion}
+use Rattle.octets.proofs.Tests.{and-true, by-test}
+use Rattle.entries.specs.Completion.{completion, maxCount}
 use Rattle.entries.specs.Entries.{Entry, isEntry, noEntry, valid}
 use Rattle.entries.specs.Names.{isName, isPrefix, isScore}
 use Rattle.entries.proofs.BestList.{best-list}
 use Rattle.entries.proofs.Valid.{valid-all, valid-of}
 use Rattle.answer.specs.Answers.{counts, entriesBytes, given, noneOffered, refused, writing}
 use Rattle.book.specs.Book.{inBook, isBook}
-use Rattle.completion.specs.Complete.{Completed, badCount, completeBook, offeredAs}
+use Rattle.completion.specs.Complete.{Completed, badCount, completeBook, completeBookWithin, entryRoom, offeredAs}
 use Rattle.answer.specs.Reports.{offeredOf}
-use Rattle.completion.specs.Machine.{machine}
-use Rattle.completion.proofs.Machine.{machine-promise}
+use Rattle.completion.specs.Machine.{machine, mostLooks}
+use Rattle.completion.proofs.Limit.{count-within, looks-within}
 use Rattle.sheet.specs.Sheet.{sheetFrom}
 use Rattle.sheet.proofs.Reading.{sheetFrom-of}
 use Rattle.book.proofs.Reading.{valid-in}
 use Rattle.program.specs.Program.{decimal, lineFeed, refusedLine, topLines}
 use Rattle.program_print.specs.Printing.{Laid, Printed, offeredLines}
 use Rattle.program_print.proofs.Printing.{put-append}
-use Rattle.program_step.specs.Step.{Printable, answerLines}
+use Rattle.program_step.specs.Step.{Printable, answerLines, answerRoom}
 use Rattle.program.specs.Console.{topOf}
 use Rattle.answer.specs.declared.Completion.{Completion}
 use Rattle.answer.specs.declared.Completion.the-variants as answer
@@ -52,7 +52,7 @@ module _ (bytes : List ℕ) {c : Completion} {out : List ℕ} {m : ℕ} {left : 
 
 pub offered-printable :
     {c : Completion} {n size looks : ℕ} (bytes : List ℕ) → c ≡ answer.Offered n size looks → Printable c bytes
-    → Laid n bytes × (looks ≤ 31)
+    → Laid n bytes × (looks ≤ mostLooks maxCount)
 offered-printable bytes e p = rw e at p
 
 -- the entries of a completion are allowed, and at most k
@@ -74,7 +74,7 @@ refused-lines (answer.Offered m size looks) bytes n e = let z : _≡_ {A = ℕ} 
 given-lines :
     (c : Completion) (l : List Entry) (looks : ℕ) (rest : List ℕ) → offeredOf c ≡ given (offeredAs l looks)
     → all isEntry l ≡ true
-    → length l ≤ 16 → looks ≤ 31 → Printable c (entriesBytes l ++ rest)
+    → length l ≤ maxCount → looks ≤ mostLooks maxCount → Printable c (entriesBytes l ++ rest)
     × (answerLines c (entriesBytes l ++ rest) ≡ topLines l looks)
 given-lines (answer.Refused m) l looks rest e s f g = let z : _≡_ {A = ℕ} 0 1 = cc in absurd (omega arith)
 given-lines (answer.Offered m size seen) l looks rest e s f g =
@@ -90,28 +90,21 @@ given-lines (answer.Offered m size seen) l looks rest e s f g =
     score-of : (e : Entry) → isEntry e ≡ true → isScore (e .score) ≡ true
     score-of e h = and-true (isName (e .name)) (isScore (e .score)) h .1
 
--- whole: with 848 bytes for the answer, 7 does not apply
-module _ (book p dst : List ℕ) (k : ℕ) (room : length dst ≡ 848) {c : Completion} {left : List ℕ}
+-- whole: with room for every answer, 7 does not apply
+module _ (book p dst : List ℕ) (k : ℕ) (room : length dst ≡ answerRoom) {c : Completion} {left : List ℕ}
     (done : Completed (completeBook book p k dst k) c left)
   where
     abbrev l : List Entry
     l = completion (inBook book) p k
 
-    count-of : badCount k ≡ false → (1 ≤ k) × (k ≤ 16)
-    count-of t =
-        let q = or-false (eqb k 0) (ltb 16 k) t in
-        let z = eqb-false k 0 (q .0) in
-        let m : k ≤ 16 = ltb-false 16 k (q .1) in
-        (omega arith, m)
+    room-of : k ≤ maxCount → (ltb (length dst) (entryRoom * k) || ltb k k) ≡ false
+    room-of m = rw (le-ltb (length dst) (entryRoom * k) (omega arith), le-ltb k k (omega arith))
 
-    room-of : k ≤ 16 → (ltb (length dst) (53 * k) || ltb k k) ≡ false
-    room-of m = rw (le-ltb (length dst) (53 * k) (omega arith), le-ltb k k (omega arith))
-
-    shown : isBook book ≡ true → isPrefix p ≡ true → badCount k ≡ false → Printable c left
+    shown : isBook book ≡ true → isPrefix p ≡ true → badCount maxCount k ≡ false → Printable c left
         × (answerLines c left ≡ topOf book k p)
-    unfolding completeBook writing topOf
+    unfolding completeBookWithin writing topOf
     shown t u w =
-        let n = count-of w in
+        let n = count-within maxCount k w in
         let v = valid-in book t in
         let x : offeredOf c ≡ given (offeredAs l (machine (inBook book) p k .looks)) = rw (
           t,
@@ -121,22 +114,22 @@ module _ (book p dst : List ℕ) (k : ℕ) (room : length dst ≡ 848) {c : Comp
         ) at (done .answer) in
         let y : left ≡ overwrite dst (entriesBytes l) = rw (t, u, w, room-of (n .1)) at (done .left) in
         let few = best-list (inBook book) p k (valid-of (inBook book) v .order) .may .atMost in
-        let most = machine-promise (inBook book) p k (valid-of (inBook book) v .order) .atMost (n .0) in
         let g =
         given-lines c l (machine (inBook book) p k .looks) (drop (length (entriesBytes l)) dst) x
         (completion-sound (inBook book) p k v)
-        (omega arith) (omega arith)
+        (omega arith)
+        (looks-within maxCount (inBook book) p k w)
         in
         rw (t, u, w, y) g
 
     pub top-shown : Printable c left × (answerLines c left ≡ topOf book k p)
-    unfolding completeBook writing topOf
+    unfolding completeBookWithin writing topOf
     top-shown =
         by-test (isBook book)
         (λ t.
         by-test (isPrefix p)
         (λ u.
-        by-test (badCount k)
+        by-test (badCount maxCount k)
         (λ w. rw (t, u, w) (refused-lines c left 3 (rw (t, u, w) at (done .answer))))
         (λ w. shown t u w))
         (λ u. rw (t, u) (refused-lines c left 2 (rw (t, u) at (done .answer)))))

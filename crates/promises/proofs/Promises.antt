@@ -6,6 +6,7 @@ use mathlib.Core.List.{List, []}
 use lib.Dec.{ltb}
 use lib.ListN.{length}
 use Rattle.octets.proofs.Tests.{or-false}
+use Rattle.entries.specs.Completion.{maxCount}
 use Rattle.entries.proofs.BestList.{best-list}
 use Rattle.entries.proofs.TopK.{top-k, top-k-only}
 use Rattle.entries.proofs.Valid.{valid-of}
@@ -18,10 +19,10 @@ use Rattle.book.proofs.Size.{book-length}
 use Rattle.lookup.specs.Lookups.{checkBook, find, headLength, nameAt, nameOf, prefixRange}
 use Rattle.lookup.proofs.Lookups.{head-part}
 use Rattle.edit.specs.Edits.{emptyBook, setEntry, withdrawEntry}
-use Rattle.completion.specs.Complete.{completeBook, entryRoom}
+use Rattle.completion.specs.Complete.{completeBookWithin, entryRoom}
 use Rattle.completion.specs.Machine.{machine}
 use Rattle.completion.proofs.Machine.{machine-promise}
-use Rattle.trie.specs.Calls.{completeTrie, writeTrie}
+use Rattle.trie.specs.Calls.{completeTrieWithin, writeTrie}
 use Rattle.trie.specs.Reading.{readTrie}
 use Rattle.trie.specs.Trie.{trieImage}
 use Rattle.trie.proofs.Trie.{trie-exact}
@@ -42,11 +43,12 @@ use Rattle.program.proofs.Theorem.{lines-say, never-seven}
 use Rattle.merge.specs.Joined.{mergeBooks}
 use Rattle.merge.proofs.Merged.{merged}
 use Rattle.promises.specs.Promises.{Promises}
+use Rattle.promises.proofs.Limit.{most-looks, same-within}
 use Rattle.promises.proofs.Writes.{declines, offers, writes}
 
 pub promises : Promises
-unfolding emptyBook setEntry withdrawEntry completeBook writeTrie completeTrie buildBook listBook checkBook find nameAt
-    nameOf prefixRange headLength press mergeBooks runOf
+unfolding emptyBook setEntry withdrawEntry completeBookWithin writeTrie completeTrieWithin buildBook listBook checkBook
+    find nameAt nameOf prefixRange headLength press mergeBooks runOf
 promises =
     record {
       emptying = writes _ _ _ (λ dst. refl);
@@ -106,4 +108,7 @@ promises =
       appendsMicro = λ book p rows h. appends-sign book p 0x80 rows refl h;
       appendsOhm = λ book p rows h. appends-sign book p 0x81 rows refl h;
       erasesASign = erases-a-sign;
+      looksAtMost = most-looks;
+      sameWithin = same-within;
+      asUnderSixteen = same-within maxCount 16;
     }

@@ -1,4 +1,4 @@
--- Every promise on one page: the three demands and requests a to c, in the order and words of documents 01 and 02. One
+-- Every promise on one page: the three demands and requests a to d, in the order and words of documents 01 and 02. One
 -- value proves them all, `promises` in proofs/Promises.antt.
 use Prim.Native.Nat.{_*_, _+_, _≤_, ℕ}
 use mathlib.Core.Path.{_≡_}
@@ -33,6 +33,7 @@ use Rattle.script.specs.Theorem.{RefusedStays, RunLedgers}
 use Rattle.program.specs.Theorem.{CutAlike, InParts, InputSays, LinesSay, NeverSeven}
 use Rattle.merge.specs.Joined.{mergeBooks, mergedEntries}
 use Rattle.merge.specs.Merged.{Merged·all}
+use Rattle.promises.specs.Limit.{MostLooks, SameWithin}
 use Rattle.promises.specs.Refusals.{Declines, Offers, Writes, absent, badK, badName, badPrefix, full, noBook}
 use Rattle.promises.specs.Refusals.{noBucket, noPosition, noRoom}
 
@@ -180,3 +181,10 @@ pub record Promises : Type 0 where
   pub appendsOhm : Appends 0x81 ohm
   -- Erase removes a whole sign. What stays is allowed, as after every key (`holdsItsName`).
   pub erasesASign : ErasesASign
+  -- REQUEST D. Nine rows are the most: k from 10 up gives 3, from the book, from the trie and in `top` (`badK` above,
+  -- `lines`). Looks are at most 17, which a completion of nine reaches.
+  pub looksAtMost : MostLooks maxCount 17
+  -- Users who stay within nine see the same lists: whatever two limits there are, counts within both get the same
+  -- answers, bytes and looks. So it is of nine and of sixteen, which was the limit before.
+  pub sameWithin : (limit limit′ : ℕ) → SameWithin limit limit′
+  pub asUnderSixteen : SameWithin maxCount 16

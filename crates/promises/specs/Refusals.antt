@@ -7,6 +7,7 @@ use mathlib.Core.List.{List, []}
 use lib.Dec.{leb}
 use lib.ListN.{drop, length}
 use Rattle.octets.specs.Lists.{_∈_, ceil}
+use Rattle.entries.specs.Completion.{maxCount}
 use Rattle.entries.specs.Entries.{Entry, holds, maxEntries}
 use Rattle.entries.specs.Names.{isName, isPrefix}
 use Rattle.answer.specs.Answers.{Answer, Check, OfferedCounts, Outcome, WrittenCounts, _when_, applying, given, refused}
@@ -26,9 +27,9 @@ badName w = 2 when not (isName w)
 abbrev pub badPrefix : List ℕ → Check
 badPrefix p = 2 when not (isPrefix p)
 
--- k is 0 or over 16
+-- k is 0 or over the limit
 abbrev pub badK : ℕ → Check
-badK k = 3 when badCount k
+badK k = 3 when badCount maxCount k
 
 -- the name is not in the book
 abbrev pub absent : List ℕ → List Entry → Check

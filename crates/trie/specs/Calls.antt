@@ -4,7 +4,7 @@ use mathlib.Core.Bool.{not}
 use mathlib.Core.List.{List, [], _∷_}
 use lib.Dec.{ltb}
 use lib.ListN.{length}
-use Rattle.entries.specs.Completion.{completion}
+use Rattle.entries.specs.Completion.{completion, maxCount}
 use Rattle.entries.specs.Names.{isPrefix}
 use Rattle.answer.specs.Answers.{OfferedCounts, Outcome, WrittenCounts, _when_, converting, entriesBytes, writing}
 use Rattle.frame.specs.Frame.{entriesOf, isRead}
@@ -17,16 +17,19 @@ use Rattle.trie.specs.Trie.{trieImage}
 unfoldable pub writeTrie : List ℕ → List ℕ → Outcome WrittenCounts
 writeTrie book dst = converting readBook trieImage book dst
 
--- completion from a trie: it takes no ranges and reports looks 0
-unfoldable pub completeTrie : List ℕ → List ℕ → ℕ → List ℕ → Outcome OfferedCounts
-completeTrie trie p k dst =
+-- completion from a trie, for counts up to a limit: it takes no ranges and reports looks 0
+unfoldable pub completeTrieWithin : ℕ → List ℕ → List ℕ → ℕ → List ℕ → Outcome OfferedCounts
+completeTrieWithin limit trie p k dst =
     let l = completion (entriesOf (readTrie trie)) p k in
     writing
     (1 when not (isRead (readTrie trie))
     ∷ 2 when not (isPrefix p)
-    ∷ 3 when badCount k
+    ∷ 3 when badCount limit k
     ∷ 7 when ltb (length dst) (entryRoom * k)
     ∷ [])
     (offeredAs l 0)
     (entriesBytes l)
     dst
+
+abbrev pub completeTrie : List ℕ → List ℕ → ℕ → List ℕ → Outcome OfferedCounts
+completeTrie trie p k dst = completeTrieWithin maxCount trie p k dst

@@ -15,10 +15,10 @@ use Rattle.answer.specs.Answers.{entriesBytes, entryBytes, writing, writingImag
 use Rattle.book.specs.Book.{bookImage, entriesIn, imageIn, offset, offsets, peak, peaks, readBook, readIn, recordsAt}
 use Rattle.book.specs.Book.{scores}
 use Rattle.frame.specs.Frame.{countOf, framed, readAs}
-use Rattle.book.specs.Shown.{E, P1, P2, P3, P4, answerEntry, answerFor, changed, cutName, cutTrie, fullName, halfName}
-use Rattle.book.specs.Shown.{letters, listed, shownOffered, shownRead, shownWritten, signed, signedBook, signedTrie}
-use Rattle.book.specs.Shown.{spare, µA, µF}
-use Rattle.trie.specs.Calls.{completeTrie, writeTrie}
+use Rattle.book.specs.Shown.{E, P1, P2, P3, P4, alternating, answerEntry, answerFor, changed, cutName, cutTrie}
+use Rattle.book.specs.Shown.{fullName, halfName, letters, listed, nineOffered, shownOffered, shownRead, shownWritten}
+use Rattle.book.specs.Shown.{signed, signedBook, signedTrie, spare, µA, µF}
+use Rattle.trie.specs.Calls.{completeTrie, completeTrieWithin, writeTrie}
 use Rattle.trie.specs.Reading.{behindSibling, childSize, labelLength, lastMark, readTrie, scoreSize, siblingOf}
 use Rattle.trie.specs.Reading.{trieEntries}
 use Rattle.trie.specs.Trie.{groupBytes, headerByte, nodeBytes, nodeOf, otherBytes, trieImage}
@@ -208,7 +208,12 @@ calls =
     gives (0 ∷ 1 ∷ 12 ∷ 0 ∷ answerEntry "rc step" 9 ++ spare 41))
     ∷ (shownOffered (completeTrie P4 [] 1 (spare 54)) gives (0 ∷ 1 ∷ 7 ∷ 0 ∷ answerEntry "rl" 12 ++ spare 47))
     ∷ (shownOffered (completeTrie P4 (text "q") 1 (spare 53)) gives (0 ∷ 0 ∷ 0 ∷ 0 ∷ spare 53))
-    ∷ (shownOffered (completeTrie (P2 ++ spare 9) [] 16 (spare 848)) gives (0 ∷ 0 ∷ 0 ∷ 0 ∷ spare 848))
+    ∷ (shownOffered (completeTrie (P2 ++ spare 9) [] 9 (spare 477)) gives (0 ∷ 0 ∷ 0 ∷ 0 ∷ spare 477))
+    -- nine of nineteen; under the limit 16 the same
+    ∷ (shownOffered (completeTrie (trieImage alternating) [] 9 (spare 477))
+    gives (0 ∷ 9 ∷ 54 ∷ 0 ∷ nineOffered ++ spare 423))
+    ∷ (shownOffered (completeTrieWithin 16 (trieImage alternating) [] 9 (spare 477))
+    gives (0 ∷ 9 ∷ 54 ∷ 0 ∷ nineOffered ++ spare 423))
     -- equal scores by the earlier name, although the trie has c in front
     ∷ (shownOffered (completeTrie (trieImage (letters 0x61 (3 ∷ 3 ∷ 4 ∷ 3 ∷ []))) [] 3 (spare 159))
     gives (0 ∷ 3 ∷ 18 ∷ 0 ∷ answerEntry "c" 4 ++ answerEntry "a" 3 ++ answerEntry "b" 3 ++ spare 141))
@@ -226,9 +231,13 @@ calls =
     ∷ (shownOffered (completeTrie cutTrie (text "abcdef" ++ ohm) 1 (spare 53)) gives (0 ∷ 0 ∷ 0 ∷ 0 ∷ spare 53))
     -- 7: one byte short of 53 × k, whatever is offered; 3 before 7; 2 before 3; 1 before all
     ∷ (shownOffered (completeTrie P4 (text "rl") 1 (spare 52)) gives (7 ∷ 0 ∷ 0 ∷ 0 ∷ spare 52))
-    ∷ (shownOffered (completeTrie P4 (text "q") 16 (spare 847)) gives (7 ∷ 0 ∷ 0 ∷ 0 ∷ spare 847))
+    ∷ (shownOffered (completeTrie P4 (text "q") 9 (spare 476)) gives (7 ∷ 0 ∷ 0 ∷ 0 ∷ spare 476))
     ∷ (shownOffered (completeTrie P4 [] 0 (spare 4)) gives (3 ∷ 0 ∷ 0 ∷ 0 ∷ spare 4))
-    ∷ (shownOffered (completeTrie P4 [] 17 (spare 901)) gives (3 ∷ 0 ∷ 0 ∷ 0 ∷ spare 901))
+    ∷ (shownOffered (completeTrie P4 [] 10 (spare 530)) gives (3 ∷ 0 ∷ 0 ∷ 0 ∷ spare 530))
+    ∷ (shownOffered (completeTrie P4 [] 10 []) gives (3 ∷ 0 ∷ 0 ∷ 0 ∷ []))
+    ∷ (shownOffered (completeTrie P4 [] 16 (spare 848)) gives (3 ∷ 0 ∷ 0 ∷ 0 ∷ spare 848))
+    ∷ (shownOffered (completeTrieWithin 16 P4 (text "q") 16 (spare 848)) gives (0 ∷ 0 ∷ 0 ∷ 0 ∷ spare 848))
+    ∷ (shownOffered (completeTrieWithin 16 P4 [] 17 (spare 901)) gives (3 ∷ 0 ∷ 0 ∷ 0 ∷ spare 901))
     ∷ (shownOffered (completeTrie P4 (text "r\u{7f}") 0 (spare 4)) gives (2 ∷ 0 ∷ 0 ∷ 0 ∷ spare 4))
     ∷ (shownOffered (completeTrie P4 (replicate 49 0x72) 1 (spare 53)) gives (2 ∷ 0 ∷ 0 ∷ 0 ∷ spare 53))
     ∷ (shownOffered (completeTrie (changed P4 6 (5 ∷ [])) (text "r\u{7f}") 0 []) gives (1 ∷ 0 ∷ 0 ∷ 0 ∷ []))
@@ -242,5 +251,5 @@ worked : failing 0 table ≡ []
 unfolding be fromBe allowedBytes isPrefix isName isScore valid completion recordOf recordName recordLength framed
     countOf readAs scores peak peaks recordsAt offset offsets imageIn entriesIn readIn bookImage readBook writing
     writingImage entryBytes entriesBytes headerByte nodeBytes otherBytes groupBytes nodeOf trieImage scoreSize
-    childSize lastMark labelLength siblingOf behindSibling trieEntries readTrie writeTrie completeTrie
+    childSize lastMark labelLength siblingOf behindSibling trieEntries readTrie writeTrie completeTrieWithin
 worked = refl

@@ -27,7 +27,7 @@ use Rattle.trie_find.specs.Offers.{Gives, OffersWritten, TurnGiven, Turn
 use Rattle.trie_find.proofs.Starting.{trie-valid}
 
 -- the first of the nodes that wait, and the others
-pub first-and-rest : (q : NodeQueue) → length (q .nodes) ≡ 16 → 0 < q .count → q .count ≤ 16
+pub first-and-rest : (q : NodeQueue) → length (q .nodes) ≡ maxCount → 0 < q .count → q .count ≤ maxCount
     → waits q ≡ getD (q .nodes) 0 nowhere ∷ drop 1 (waits q)
 first-and-rest q l h k =
     let a = length-take-le (q .count) (q .nodes) (omega arith) in

@@ -69,7 +69,8 @@ fn offer(offered: usize, bytes: usize) -> Completion
     }
 }
 
-// Completion from a trie that was checked, for a count from 1 to 16 and a destination with room for as many entries.
+// Completion from a trie that was checked, for a count that is not refused and a destination with room for as many
+// entries.
 pub fn complete(trie: &[u8], prefix: &[u8], k: usize, dst: &mut [u8]) -> Completion
     requires { ⌜ (isTrie (now trie) ≡ true) × (1 ≤ k) × (k ≤ maxCount) × (entryRoom * k ≤ length (now dst)) ⌝ }
     ensures { λ r. ⌜ OffersWritten (completion (inTrie (now (trie .entry))) (now (prefix .entry)) k) (now (dst .entry))

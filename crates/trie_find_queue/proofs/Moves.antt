@@ -10,6 +10,7 @@ use native.Mathlib.Omega.{arith}
 use Rattle.octets.specs.Lists.{_∈_}
 use Rattle.octets.proofs.Lists.{drop-take-cons, drop-take-set, get-in, take-snoc}
 use Rattle.octets.proofs.Tests.{by-test}
+use Rattle.entries.specs.Completion.{maxCount}
 use Rattle.trie_find_queue.specs.Waits.{Queued, nodeOutranks, rankAmong, putAt, putInRank, waits}
 use Rattle.trie_find_queue.specs.declared.NodeQueue.{NodeQueue}
 use Rattle.trie_find_queue.specs.declared.WaitingNode.{WaitingNode}
@@ -75,10 +76,10 @@ pub record Moving (q : NodeQueue) (i : ℕ) (x : WaitingNode) (nodes : List Wait
     Type 0 where
   pub low : i ≤ j
   pub upto : j ≤ q .count
-  pub long : length nodes ≡ 16
+  pub long : length nodes ≡ maxCount
   pub rest : take j nodes ++ (carry ∷ drop j (take (q .count) nodes)) ≡ putAt i x (waits q)
 
-pub moving-start : (q : NodeQueue) (i : ℕ) (x : WaitingNode) → i ≤ q .count → length (q .nodes) ≡ 16
+pub moving-start : (q : NodeQueue) (i : ℕ) (x : WaitingNode) → i ≤ q .count → length (q .nodes) ≡ maxCount
     → Moving q i x (q .nodes) x i
 moving-start q i x h l =
     record {
@@ -90,7 +91,7 @@ moving-start q i x h l =
     }
 
 module _ (q : NodeQueue) (i : ℕ) (x : WaitingNode) (nodes : List WaitingNode) (carry d : WaitingNode) (j : ℕ)
-    (few : q .count ≤ 16)
+    (few : q .count ≤ maxCount)
     (v : Moving q i x nodes carry j) where
   pub moving-on : j < q .count → Moving q i x (set nodes j carry) (getD nodes j d) (j + 1)
   moving-on h =
@@ -118,7 +119,7 @@ module _ (q : NodeQueue) (i : ℕ) (x : WaitingNode) (nodes : List WaitingNode) 
       let n : length (take (q .count) nodes) ≤ q .count = omega (arith, length-take (q .count) nodes) in
       rw (e, drop-of-length-le (take (q .count) nodes) n) at (v .rest)
 
-  pub moving-more : (most : ℕ) → q .count ≤ j → q .count < most → most ≤ 16
+  pub moving-more : (most : ℕ) → q .count ≤ j → q .count < most → most ≤ maxCount
       → Queued most (putAt i x (waits q)) (record { nodes = set nodes (q .count) carry; count = q .count + 1 })
   moving-more most h k m =
       let l = v .long in
@@ -149,13 +150,13 @@ module _ (q : NodeQueue) (i : ℕ) (x : WaitingNode) (nodes : List WaitingNode) 
 pub record Closing (q : NodeQueue) (nodes : List WaitingNode) (i : ℕ) : Type 0 where
   pub low : 1 ≤ i
   pub upto : i ≤ q .count
-  pub long : length nodes ≡ 16
+  pub long : length nodes ≡ maxCount
   pub rest : take (i - 1) nodes ++ drop i (take (q .count) nodes) ≡ drop 1 (waits q)
 
-pub closing-start : (q : NodeQueue) → 1 ≤ q .count → length (q .nodes) ≡ 16 → Closing q (q .nodes) 1
+pub closing-start : (q : NodeQueue) → 1 ≤ q .count → length (q .nodes) ≡ maxCount → Closing q (q .nodes) 1
 closing-start q h l = record { low = omega arith; upto = h; long = l; rest = refl }
 
-module _ (q : NodeQueue) (few : q .count ≤ 16) (nodes : List WaitingNode) (d : WaitingNode) where
+module _ (q : NodeQueue) (few : q .count ≤ maxCount) (nodes : List WaitingNode) (d : WaitingNode) where
   pub closing-on : (i : ℕ) → Closing q nodes i → i < q .count → Closing q (set nodes (i - 1) (getD nodes i d)) (i + 1)
   closing-on zero v h = absurd (let z = v .low in omega arith)
   closing-on (suc i) v h =

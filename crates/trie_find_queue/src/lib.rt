@@ -1,4 +1,4 @@
-// The nodes of a trie that wait in a search, by value and in rank: the best first, at most 16.
+// The nodes of a trie that wait in a search, by value and in rank: the best first, at most as many as can be asked for.
 use limits::LONGEST_NAME;
 use limits::MAX_COUNT;
 ghost use mathlib.Core.Path.{_≡_};

@@ -109,7 +109,8 @@ impl Book {
         calls::find(&self.held, name)
     }
 
-    /// The best `k` of the entries that a prefix begins, or all if fewer.
+    /// The best `k` of the entries that a prefix begins, or all if fewer, `k` from 1 to
+    /// [`COUNT_MAX`].
     ///
     /// # Errors
     /// [`Refusal::NotAllowed`], [`Refusal::CountOutOfRange`].

@@ -38,7 +38,8 @@ pub struct Offered {
     pub offered: usize,
     /// The bytes that they take, at the front of the destination.
     pub bytes: usize,
-    /// How often the call looked for the best of a range; 0 from a trie.
+    /// How often the call looked for the best of a range: at most 2 × `k` − 1, so never more than
+    /// 17; 0 from a trie.
     pub looks: usize,
 }
 
@@ -226,9 +227,9 @@ pub fn write_trie(book: &[u8], dst: &mut [u8]) -> Result<Written, Refusal> {
     written(|e, b| unsafe { c::label_book_write_trie(book.as_ptr(), book.len(), at, len, e, b) })
 }
 
-/// Writes the best `k` of the entries that a prefix begins, or all if fewer, as answer entries.
-/// At least [`ENTRY_MAX`](crate::ENTRY_MAX) × `k` bytes and `k` ranges are lent; after an answer
-/// anything may be in the ranges.
+/// Writes the best `k` of the entries that a prefix begins, or all if fewer, as answer entries, `k`
+/// from 1 to [`COUNT_MAX`](crate::COUNT_MAX). At least [`ENTRY_MAX`](crate::ENTRY_MAX) × `k` bytes
+/// and `k` ranges are lent; after an answer anything may be in the ranges.
 ///
 /// # Errors
 /// [`Refusal::NotLaidOut`], [`Refusal::NotAllowed`], [`Refusal::CountOutOfRange`],

@@ -64,8 +64,9 @@ pub const NAME_MAX: usize = 48;
 pub const ENTRIES_MAX: usize = 1_024;
 /// The most bytes of an answer entry: length byte, name, 4-byte score.
 pub const ENTRY_MAX: usize = 53;
-/// The most entries that can be asked of a completion.
-pub const COUNT_MAX: usize = 16;
+/// The most entries that can be asked of a completion. Up to version 1.3 it was 16: counts from 10
+/// to 16 are refused now ([`Refusal::CountOutOfRange`]), and what is sized by it is smaller.
+pub const COUNT_MAX: usize = 9;
 /// The most rows of a panel.
 pub const PANEL_ROWS: usize = 5;
 /// The bytes in front of every image's entries: version, total length, number of entries.

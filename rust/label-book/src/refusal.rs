@@ -64,7 +64,7 @@ impl fmt::Display for Refusal {
                 "a name or prefix that is not allowed (a name has 1 to 48 bytes, \
                  each from 20 to 7E or in a whole µ or Ω)"
             }
-            Refusal::CountOutOfRange => "the number of names asked for is not 1 to 16",
+            Refusal::CountOutOfRange => "the number of names asked for is not 1 to 9",
             Refusal::NotHeld => "the book does not hold that name",
             Refusal::Full => "more than 1,024 names",
             Refusal::NoSuchPlace => "the book has no such position or bucket",

@@ -119,11 +119,11 @@ Refused: 1, FILE is no book; 2, NAME is not allowed; 4, the book does not hold N
 pub const TOP: &str = "\
 labelbook top FILE K [PREFIX]
 
-Prints the best K names, from 1 to 16, that begin with PREFIX, or all if there are fewer, as lines
+Prints the best K names, from 1 to 9, that begin with PREFIX, or all if there are fewer, as lines
 SCORE NAME, the highest score first. Without PREFIX it is the best of all names. FILE is a book, or
 the trie of one, which gives the same lines. - as FILE is standard input.
 
-Refused: 1, FILE is neither; 2, PREFIX is not allowed; 3, K is not 1 to 16.
+Refused: 1, FILE is neither; 2, PREFIX is not allowed; 3, K is not 1 to 9.
 ";
 
 pub const MERGE: &str = "\

@@ -2,7 +2,8 @@
 mod common;
 
 use common::{book_of, lines_of, long_names, run_all, Desk, BOOK, EMPTY_BOOK, LINES, TRIE};
-use common::{A_TRIE, FULL, NOT_1_TO_16, NOT_ALLOWED, NOT_A_BOOK, NOT_HELD};
+use common::{A_TRIE, FULL, NOT_ALLOWED, NOT_A_BOOK, NOT_A_COUNT, NOT_HELD};
+use label_book::COUNT_MAX;
 use label_book_tests::random::Random;
 use std::collections::BTreeMap;
 use std::ffi::{OsStr, OsString};
@@ -222,12 +223,12 @@ fn top(desk: &Desk) {
         desk.prints(&["top", file, "5", "rc"], "9 rc\n9 rc step\n");
         desk.prints(&["top", file, "5", "q"], "");
         desk.prints(&["top", file, "1"], "12 rl\n");
-        desk.prints(&["top", file, "16", ""], "12 rl\n9 rc\n9 rc step\n5 ac\n");
+        desk.prints(&["top", file, "9", ""], "12 rl\n9 rc\n9 rc step\n5 ac\n");
         desk.run(&["top", "-", "1", "a"]).input(desk.read(file)).gives(0, "5 ac\n", "");
         let behind = [&desk.read(file)[..], &[7; 90_000]].concat();
         desk.run(&["top", "-", "1", "a"]).input(behind).gives(0, "5 ac\n", "");
-        for count in ["0", "17", "4294967295"] {
-            desk.fails(&["top", file, count, "r"], 3, &format!("{file}: {NOT_1_TO_16}"));
+        for count in ["0", "10", "11", "16", "17", "256", "265", "4294967295"] {
+            desk.fails(&["top", file, count, "r"], 3, &format!("{file}: {NOT_A_COUNT}"));
         }
         desk.fails(&["top", file, "0", "\t"], 2, &format!("{file}: {NOT_ALLOWED}"));
         let cut = desk.read(file);
@@ -236,7 +237,7 @@ fn top(desk: &Desk) {
     }
     desk.run(&["top", "-", "1"]).fails(desk, 1, &format!("standard input: {NOT_A_BOOK}"));
     desk.fails(&["top", "b.book", "1"], 74, "b.book: No such file or directory (os error 2)");
-    let words = "K is a whole number from 1 to 16, not";
+    let words = "K is a whole number from 1 to 9, not";
     for text in ["", "x", "-1", "+1", "1.0", "4294967296", "00000000001"] {
         let message = format!("top: {words} `{text}`\n`labelbook help top` says more");
         desk.fails(&["top", "--", "a.book", text], 64, &message);
@@ -247,7 +248,8 @@ fn top(desk: &Desk) {
     desk.write("full.trie", &book.trie());
     entries.sort_by_key(|entry| std::cmp::Reverse(entry.0));
     for file in ["full.book", "full.trie"] {
-        desk.prints(&["top", file, "16"], lines_of(&entries[..16]));
+        desk.prints(&["top", file, "9"], lines_of(&entries[..9]));
+        desk.fails(&["top", file, "10"], 3, &format!("{file}: {NOT_A_COUNT}"));
     }
 }
 
@@ -415,7 +417,7 @@ fn names_with_signs(desk: &Desk) {
     for file in ["a.book", "a.trie"] {
         desk.prints(&["top", file, "5", "µ"], "7 µA\n2 µ\n");
         desk.prints(&["top", file, "1", "10 µ"], "5 10 µF\n");
-        desk.prints(&["top", file, "16", "4.7 kΩ"], "9 4.7 kΩ\n");
+        desk.prints(&["top", file, "9", "4.7 kΩ"], "9 4.7 kΩ\n");
         desk.prints(&["top", file, "1", "Ωµ"], "");
         let half = OsStr::from_bytes(b"10 \xC2");
         let arguments = [OsStr::new("top"), OsStr::new(file), OsStr::new("5"), half];
@@ -467,7 +469,7 @@ fn a_term(desk: &Desk) {
             0 => desk.fails(&["withdraw", "a.book", &name], 4, &format!("a.book: {NOT_HELD}")),
             1 => {
                 let prefix: String = name.chars().take(random.below(4)).collect();
-                let (prefix, count) = (&prefix[..], 1 + random.below(16));
+                let (prefix, count) = (&prefix[..], random.between(1, COUNT_MAX));
                 let mut best: Vec<(u32, &String)> =
                     held.iter().filter(|e| e.0.starts_with(prefix)).map(|e| (*e.1, e.0)).collect();
                 best.sort_by_key(|entry| (std::cmp::Reverse(entry.0), entry.1));
@@ -506,7 +508,7 @@ fn random_arguments(desk: &Desk) {
         "--x",
         "0",
         "5",
-        "17",
+        "10",
         "4294967296",
         "r",
         "rc",

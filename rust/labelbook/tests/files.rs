@@ -5,6 +5,7 @@ use common::shim::{Shim, EPERM};
 use common::{
     book_of, long_names, refused, run_all, Desk, BOOK, EMPTY_BOOK, LINES, NOT_A_BOOK, TRIE,
 };
+use label_book::COUNT_MAX;
 use label_book_tests::random::Random;
 use std::fs::{self, File, Permissions};
 use std::os::unix::ffi::OsStrExt;
@@ -84,9 +85,9 @@ fn damaged_tries(desk: &Desk) {
             let mut image = TRIE;
             image[at] ^= change;
             desk.write("a.trie", &image);
-            let mut answer = [0; label_book::COUNT_MAX * label_book::ENTRY_MAX];
-            let run = desk.run(&["top", "a.trie", "16"]);
-            match label_book::complete_trie(&image, b"", 16, &mut answer) {
+            let mut answer = [0; COUNT_MAX * label_book::ENTRY_MAX];
+            let run = desk.run(&["top", "a.trie", &COUNT_MAX.to_string()]);
+            match label_book::complete_trie(&image, b"", COUNT_MAX, &mut answer) {
                 Err(_) => run.fails(desk, 1, &format!("a.trie: {NOT_A_BOOK}")),
                 Ok(told) => {
                     let run = run.outcome();

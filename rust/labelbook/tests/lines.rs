@@ -3,6 +3,7 @@ mod common;
 
 use common::{book_of, lines_of, long_names, run_all, Desk, BOOK, EMPTY_BOOK, LINES};
 use common::{FULL, NOT_ALLOWED};
+use label_book::COUNT_MAX;
 use label_book_tests::random::Random;
 use std::collections::BTreeMap;
 use std::fs::File;
@@ -267,12 +268,13 @@ fn labels(desk: &Desk) {
     let program = concat!(env!("CARGO_MANIFEST_DIR"), "/../../target/bin/labels");
     let lines = format!("{LINES}7 10 µF\n3 4.7 kΩ\n");
     let input: String = lines.lines().map(|line| format!("set {line}\n")).collect();
-    desk.write("input", format!("{input}top 16 \n").as_bytes());
+    desk.write("input", format!("{input}top {COUNT_MAX} \n").as_bytes());
     let run = Command::new(program).stdin(File::open(desk.path("input")).unwrap()).output();
     let printed = run.unwrap_or_else(|error| panic!("`rt check labels`: {error}")).stdout;
     let printed = String::from_utf8(printed).unwrap();
     let is_entry = |line: &&str| !line.starts_with("ok ") && !line.starts_with("looks ");
     let best: Vec<&str> = printed.lines().filter(is_entry).collect();
     desk.run(&["build", "a.book"]).input(lines).gives(0, "", "");
-    desk.prints(&["top", "a.book", "16"], format!("{}\n", best.join("\n")));
+    let best = format!("{}\n", best.join("\n"));
+    desk.prints(&["top", "a.book", &COUNT_MAX.to_string()], best);
 }

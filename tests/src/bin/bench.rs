@@ -1,7 +1,7 @@
 //! How long each call takes at three sizes, in one run with warm buffers: the static library, the
 //! same call in plain safe Rust over the same image with the same checks (`plain`), and one scan of
 //! the image's bytes.
-use label_book::{key, Panel, Range};
+use label_book::{key, Panel, Range, COUNT_MAX};
 use label_book_tests::calls;
 use label_book_tests::make::{self, Names, Places, Scores};
 use label_book_tests::plain;
@@ -126,12 +126,12 @@ fn size(n: usize) {
     writes!(build, n, page, page);
     writes!(list, n, image, image);
     {
-        let mut ranges = [Range::default(); 16];
+        let mut ranges = [Range::default(); COUNT_MAX];
         let (mut one, mut two) = (vec![0; LONG_BUFFER], vec![0; LONG_BUFFER]);
         let ours =
             &mut || consume(calls::complete(black_box(image), prefix, 5, &mut one, &mut ranges));
         line("complete", n, image, ours, &mut || {
-            consume(plain::complete(black_box(image), prefix, 5, &mut two, 16))
+            consume(plain::complete(black_box(image), prefix, 5, &mut two, COUNT_MAX))
         });
     }
     writes!(write_trie, n, image, image);

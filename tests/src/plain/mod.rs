@@ -487,8 +487,8 @@ struct Open {
     end: usize,
 }
 
-/// Each of the positions from first to end in rank, the first k of them, at most 16: the machine of
-/// open ranges. Gives the looks.
+/// Each of the positions from first to end in rank, the first k of them, at most
+/// [`MOST_OFFERED`]: the machine of open ranges. Gives the looks.
 fn each_ranked(
     book: Book,
     first: usize,

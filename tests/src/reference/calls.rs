@@ -152,8 +152,9 @@ fn looks(entries: &Entries, prefix: &[u8], k: usize) -> usize {
     looks
 }
 
-/// Completion's checks behind the image's, in order, then the entries offered.
+/// Completion's checks behind the image's, in order, then the entries offered; k is at most `most`.
 fn offer(
+    most: usize,
     entries: &Entries,
     prefix: &[u8],
     k: usize,
@@ -161,7 +162,7 @@ fn offer(
     ranges: usize,
 ) -> Result<(usize, usize), u8> {
     allow(is_prefix(prefix), NAME)?;
-    allow((1..=MOST_OFFERED).contains(&k), COUNT)?;
+    allow((1..=most).contains(&k), COUNT)?;
     allow(dst.len() >= 53 * k && ranges >= k, TOO_SHORT)?;
     let (offered, bytes) = completion(entries, prefix, k);
     write(offered, &bytes, dst)
@@ -169,15 +170,38 @@ fn offer(
 
 /// Completion from a book, with as many ranges lent.
 pub fn complete(book: &[u8], prefix: &[u8], k: usize, dst: &mut [u8], ranges: usize) -> Offered {
-    let entries = book::read(book).ok_or(IMAGE)?;
-    let (offered, bytes) = offer(&entries, prefix, k, dst, ranges)?;
-    Ok((offered, bytes, looks(&entries, prefix, k)))
+    complete_within(MOST_OFFERED, book, prefix, k, dst, ranges)
 }
 
 /// Completion from a trie, which takes no ranges and reports looks 0.
 pub fn complete_trie(trie: &[u8], prefix: &[u8], k: usize, dst: &mut [u8]) -> Offered {
+    complete_trie_within(MOST_OFFERED, trie, prefix, k, dst)
+}
+
+/// Completion from a book with a limit of k that is given.
+pub(super) fn complete_within(
+    most: usize,
+    book: &[u8],
+    prefix: &[u8],
+    k: usize,
+    dst: &mut [u8],
+    ranges: usize,
+) -> Offered {
+    let entries = book::read(book).ok_or(IMAGE)?;
+    let (offered, bytes) = offer(most, &entries, prefix, k, dst, ranges)?;
+    Ok((offered, bytes, looks(&entries, prefix, k)))
+}
+
+/// The same from a trie.
+pub(super) fn complete_trie_within(
+    most: usize,
+    trie: &[u8],
+    prefix: &[u8],
+    k: usize,
+    dst: &mut [u8],
+) -> Offered {
     let entries = trie::read(trie).ok_or(IMAGE)?;
-    let (offered, bytes) = offer(&entries, prefix, k, dst, k)?;
+    let (offered, bytes) = offer(most, &entries, prefix, k, dst, k)?;
     Ok((offered, bytes, 0))
 }
 

@@ -20,7 +20,9 @@ pub type Entries = BTreeMap<Vec<u8>, u32>;
 
 pub const MOST_ENTRIES: usize = 1024;
 pub const LONGEST_NAME: usize = 48;
-pub const MOST_OFFERED: usize = 16;
+/// The most that a completion can be asked for (02, request d), and what it was before, in 01.
+pub const MOST_OFFERED: usize = 9;
+pub const MOST_BEFORE: usize = 16;
 
 /// The two signs that have two bytes each: C2 B5 and CE A9.
 pub const MICRO: char = '\u{B5}';

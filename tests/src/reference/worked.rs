@@ -1,4 +1,5 @@
 //! The cases that the documents work out.
+mod counts;
 mod signs;
 
 use super::calls::*;
@@ -88,10 +89,10 @@ fn limits() {
     let mut dst = [0; 2000];
     assert_eq!(set(&book, &[b'a'; 48], 1, &mut dst).map(|a| a.0), Ok(5));
     assert_eq!(set(&book, &[b'a'; 49], 1, &mut dst), Err(NAME));
-    assert!(complete(&book, b"", 16, &mut dst, 16).is_ok());
-    assert_eq!(complete(&book, b"", 17, &mut dst, 17), Err(COUNT));
-    assert_eq!(complete(&book, b"", 16, &mut dst, 15), Err(TOO_SHORT));
-    assert_eq!(complete(&book, b"", 16, &mut dst[..53 * 16 - 1], 16), Err(TOO_SHORT));
+    assert!(complete(&book, b"", 9, &mut dst, 9).is_ok());
+    assert_eq!(complete(&book, b"", 10, &mut dst, 10), Err(COUNT));
+    assert_eq!(complete(&book, b"", 9, &mut dst, 8), Err(TOO_SHORT));
+    assert_eq!(complete(&book, b"", 9, &mut dst[..53 * 9 - 1], 9), Err(TOO_SHORT));
     // A lone name of 7 bytes is one node, of 8 bytes two.
     assert_eq!(
         trie::image(&of(&[("1234567", 0)])),
@@ -413,7 +414,7 @@ fn bytes_behind_the_held_name() {
 fn program_output() {
     let input = b"set 5 ac\nset 9 rc\nset 9 rc step\nset 12 rl\ntop 2 r\ndel zz";
     assert_eq!(program::run(input), b"ok 1\nok 2\nok 3\nok 4\n12 rl\n9 rc\nlooks 2\nno 4\n");
-    let input = b"\nset 5 \ntop 2\ntop 2 \ntop 0 a\ntop 17 \x80\nset 4294967296 a\n\
+    let input = b"\nset 5 \ntop 2\ntop 2 \ntop 0 a\ntop 10 \x80\nset 4294967296 a\n\
           set 0000000001  a\nset 00000000001 a\nDEL a\ndel \n";
     assert_eq!(
         program::run(input),

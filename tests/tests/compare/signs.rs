@@ -160,7 +160,7 @@ fn a_group_of_98(compare: &mut Compare) {
         let (told, left) = compare.write_trie(&book, &vec![0; trie.len()]);
         assert_eq!((told.0, told.1[0], &left), (0, 98, &trie));
         for prefix in ["", "x", "xµ", "xΩ", "x~"] {
-            compare.complete_trie(&trie, prefix.as_bytes(), 16, &[0; 848]);
+            compare.complete_trie(&trie, prefix.as_bytes(), MOST_OFFERED, &[0; 53 * MOST_OFFERED]);
         }
     }
 }
@@ -204,7 +204,7 @@ fn lists_by_signs(compare: &mut Compare) {
     for (prefix, offered) in
         [("µ", 2), ("10 µ", 2), ("10 µF", 1), ("4.7 kΩ", 1), ("Ω", 1), ("Ωµ", 0)]
     {
-        for k in [1, 2, 16] {
+        for k in [1, 2, MOST_OFFERED] {
             let dst = vec![0; 53 * k];
             let (a, from_book) = compare.complete(&book, prefix.as_bytes(), k, &dst, k);
             let (b, from_trie) = compare.complete_trie(&trie, prefix.as_bytes(), k, &dst);

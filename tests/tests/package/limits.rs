@@ -5,6 +5,7 @@ use label_book::{build, check, complete, complete_trie, key, list, name_at, set,
 use label_book::{Book, Panel, Range, Refusal, Written};
 use label_book::{BOOK_MAX, COUNT_MAX, ENTRIES_MAX, ENTRY_MAX, FRONT, NAME_MAX};
 use label_book::{PANEL_ROWS, SHEET_MAX, TRIE_MAX};
+use label_book_tests::make;
 use label_book_tests::reference::{sheet, Entries};
 
 /// The longest trie that is known (docs/FORMAT.md).
@@ -16,6 +17,7 @@ pub fn all(package: &mut Package) {
     names(package);
     entries(package, &full);
     counts(package, &full);
+    looks(package);
     images(package, &full);
     panels(package, &full);
 }
@@ -110,6 +112,21 @@ fn counts(package: &mut Package, full: &Book) {
     package.case(short == Err(Refusal::TooShort), "a byte less");
     let short = complete(full.image(), b"", k, &mut dst[..room], &mut ranges[..k - 1]);
     package.case(short == Err(Refusal::TooShort), "a range less");
+    // One entry more is too many, whatever is lent.
+    let more = complete(full.image(), b"", k + 1, &mut dst[..room], &mut ranges[..k]);
+    package.case(more == Err(Refusal::CountOutOfRange), "one entry more, a range and bytes less");
+    let more = complete_trie(&trie, b"", k + 1, &mut []);
+    package.case(more == Err(Refusal::CountOutOfRange), "the same from a trie without room");
+    let more = full.complete(b"", k + 1).map(|best| best.offered());
+    package.case(more == Err(Refusal::CountOutOfRange), "the same from a book of its own");
+}
+
+/// The most looks, from a book of which every best leaves a part on each side.
+fn looks(package: &mut Package) {
+    let book = Book::from_sheet(&sheet::image(&make::nineteen())).expect("a sheet");
+    let best = book.complete(b"", COUNT_MAX).expect("a prefix and a count");
+    package.case(best.offered() == COUNT_MAX, "as many are offered");
+    package.case(best.looks() == 2 * COUNT_MAX - 1, "as many looks as can be");
 }
 
 /// Full images of 48-byte names: the longest sheet, and no book or trie too long.

@@ -18,6 +18,7 @@ pub fn all(measure: &mut Measure, seed: u64) {
     sizes(measure, random);
     nested(measure, random);
     ranges(measure);
+    queues(measure);
     damaged_tries(measure, random);
     places(measure);
     merges(measure, random);
@@ -184,6 +185,23 @@ fn ranges(measure: &mut Measure) {
                 measure.complete(&book, &prefix, k, ANSWER_ROOM, COUNT_MAX);
                 measure.complete_trie(&trie, &prefix, k, ANSWER_ROOM);
             }
+        }
+    }
+}
+
+/// Completions for every count from a trie in which the way down to the best name passes a sibling
+/// at each byte, so that more would wait than can; and from one in which no more than one waits.
+fn queues(measure: &mut Measure) {
+    let shapes: [(&str, fn(usize) -> u32); 2] = [
+        ("as many nodes of a trie wait as can", |i| i as u32),
+        ("one node of a trie waits", |i| (NAME_MAX - i) as u32),
+    ];
+    for (kind, score) in shapes {
+        measure.kind = kind;
+        let Images { book, trie, .. } = images(&scored(chain(b'a'), score));
+        for k in 0..=COUNT_MAX + 1 {
+            measure.complete(&book, b"", k, ANSWER_ROOM, COUNT_MAX);
+            measure.complete_trie(&trie, b"", k, ANSWER_ROOM);
         }
     }
 }

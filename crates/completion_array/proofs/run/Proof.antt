@@ -36,25 +36,26 @@ searched c = c .before .before .before
 loop-holds : tie.Need-loop-holds Inv-loop μ-loop
 loop-holds c = goes-start (c .before .pre .ready)
 
--- the slots at the start and in the loop, sixteen; what the machine has before a turn, and which slots it names
+-- the slots at the start and in the loop, as many as can be asked for; what the machine has before a turn, and which
+-- slots it names
 slots : (z : tie.Start Inv-loop μ-loop) → length (z .args .slots .ranges) ≡ maxCount
 slots z = search (needs, length-mapped)
 
-sixteen : (t : tie.Then1 Inv-loop μ-loop) → length (t .before .before .loop .q .ranges) ≡ maxCount
-sixteen t = t .before .before .loop .inv .size ∙ slots (begin t)
+slots-now : (t : tie.Then1 Inv-loop μ-loop) → length (t .before .before .loop .q .ranges) ≡ maxCount
+slots-now t = t .before .before .loop .inv .size ∙ slots (begin t)
 
 going : (t : tie.Then1 Inv-loop μ-loop)
     → Going (inBook (begin t .args .book .now)) (t .before .before .loop .q .ranges) (t .before .before .loop .p)
 going t = t .before .before .loop .inv .ready (t .if1 .taken)
 
 first : (t : tie.Then1 Inv-loop μ-loop) → t .before .before .loop .p .at0 < maxCount
-first t = omega (arith, going t .first, sixteen t)
+first t = omega (arith, going t .first, slots-now t)
 
 second : (t : tie.Then1 Inv-loop μ-loop) → t .before .before .loop .p .at1 < maxCount
-second t = omega (arith, going t .second, sixteen t)
+second t = omega (arith, going t .second, slots-now t)
 
 filled : (t : tie.Then1 Inv-loop μ-loop) → t .before .before .loop .p .filled ≤ maxCount
-filled t = omega (arith, going t .room, sixteen t, t .if1 .taken)
+filled t = omega (arith, going t .room, slots-now t, t .if1 .taken)
 
 mul-r0 : tie.Need-mul-r0 Inv-loop μ-loop
 mul-r0 c = omega (arith, first (turning c))

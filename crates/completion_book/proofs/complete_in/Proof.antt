@@ -2,6 +2,7 @@
 -- No loop, so no invariant. Assumes nothing.
 use lib.ListN.{length, replicate}
 use native.Mathlib.Omega.{arith}
+use Rattle.entries.specs.Completion.{maxCount}
 use Rattle.book.specs.Book.{inBook}
 use Rattle.completion.specs.Machine.{noRange}
 use Rattle.completion_book.specs.Offers.{asked, begunAs}
@@ -28,11 +29,11 @@ run-requires c κs =
     let z = begin-of-no-ranges c in
     rw (c .before .start-machine .ensures, c .no-ranges .ensures)
     (asked-runs (z .args .book .now) (z .args .prefix .now) (z .args .k) (z .args .dst .now) (z .args .k)
-    (replicate 16 noRange) (λ l few. few))
+    (replicate maxCount noRange) (λ l few. few))
 
 -- the machine has run from its start
 ran : (r : tie.After-run) → let z = begin r in
-    Ran (inBook (z .args .book .now)) (replicate 16 noRange)
+    Ran (inBook (z .args .book .now)) (replicate maxCount noRange)
     (begunAs (length (inBook (z .args .book .now))) (z .args .k)
     (asked (z .args .book .now) (z .args .prefix .now) (z .args .k) (length (z .args .dst .now)) (z .args .k)))
     (r .run .result)
@@ -43,7 +44,7 @@ write-answer-requires c κs =
     let r = c .before in
     let z = begin r in
     answerable (z .args .book .now) (z .args .prefix .now) (z .args .k) (z .args .dst .now) (z .args .k)
-    (replicate 16 noRange) (r .run .result) (omega arith) (ran r)
+    (replicate maxCount noRange) (r .run .result) (omega arith) (ran r)
 
 same-length : tie.Need-same-length
 same-length c = c .before .before .write-answer .kept .1 .1 .0
@@ -54,7 +55,7 @@ returns c =
     let r = f .before .before in
     let z = begin r in
     rw (← complete-is (z .args .book .now) (z .args .prefix .now) (z .args .k) (z .args .dst .now) (z .args .k)
-    (replicate 16 noRange) (r .run .result) (omega arith) (ran r)) (f .write-answer .ensures)
+    (replicate maxCount noRange) (r .run .result) (omega arith) (ran r)) (f .write-answer .ensures)
 
 pub complete-in-spec : {M : Type 1} → statement M
 complete-in-spec =

@@ -2,6 +2,7 @@
 -- No loop, so no invariant. Assumes nothing.
 use lib.ListN.{replicate}
 use native.Mathlib.Omega.{arith}
+use Rattle.entries.specs.Completion.{maxCount}
 use Rattle.completion.specs.Machine.{noRange}
 use Rattle.completion_book.proofs.Answering.{start-offers, start-runs}
 use Rattle.completion_book.proofs.offers.Statement.{statement}
@@ -21,12 +22,12 @@ run-requires : tie.Need-run-requires
 run-requires c κs =
     let z = begin c in
     rw (c .before .begin .ensures, c .no-ranges .ensures)
-    (start-runs _ (replicate 16 noRange) (z .pre .0) (z .pre .1) (z .pre .1))
+    (start-runs _ (replicate maxCount noRange) (z .pre .0) (z .pre .1) (z .pre .1))
 
 returns : tie.Need-returns
 returns c =
     let n = c .before in
-    start-offers _ _ _ _ (replicate 16 noRange) (omega arith)
+    start-offers _ _ _ _ (replicate maxCount noRange) (omega arith)
     (rw (n .before .begin .ensures, n .no-ranges .ensures) at (c .run .ensures))
 
 pub offers-spec : {M : Type 1} → statement M

@@ -1,8 +1,10 @@
--- `program_step::print_top` meets its contract: by the answer's kind; the entries' lines take at most 960 bytes, and
--- the looks are few. No loop, so no invariant. Assumes nothing.
+-- `program_step::print_top` meets its contract: by the answer's kind; there is room for the lines of as many entries
+-- as can be asked for, and the looks are few. No loop, so no invariant. Assumes nothing.
 use Prim.Native.Nat.{_≤_}
 use native.Mathlib.Omega.{arith}
 use borrow.Author.Needs.{needs}
+use Rattle.entries.specs.Completion.{maxCount}
+use Rattle.completion.specs.Machine.{mostLooks}
 use Rattle.program_print.specs.Printing.{Laid}
 use Rattle.sheet.specs.Sheet.{sheetFrom}
 use Rattle.program_print.proofs.Printing.{lines-most}
@@ -33,7 +35,7 @@ after-c c = c .before .before .before .before
 -- the entries offered, and the looks
 told :
     (k : tie.After-c2)
-    → Laid (k .c2 .given .0 .0) (begin k .args .answer .now) × (k .c2 .given .0 .1 .1 .0 ≤ 31)
+    → Laid (k .c2 .given .0 .0) (begin k .args .answer .now) × (k .c2 .given .0 .1 .1 .0 ≤ mostLooks maxCount)
 told k =
     let s = begin k in
     offered-printable (s .args .answer .now) (k .c2 .given .1) (s .pre .0)

@@ -5,6 +5,7 @@ use mathlib.Core.Bool.{false, true}
 use native.Mathlib.Omega.{arith}
 use borrow.Author.Tests.{le-ltb, lt-ltb, not-false, not-true}
 use borrow.Author.Needs.{needs}
+use Rattle.entries.specs.Completion.{maxCount}
 use Rattle.entries.specs.Names.{isPrefix}
 use Rattle.completion.specs.Complete.{badCount}
 use Rattle.trie.specs.Reading.{readTrie}
@@ -36,7 +37,7 @@ trie-there c = image-held (readTrie (begin c .args .trie .now))
 prefix-there : (e : tie.Else1) → isPrefix (begin (checked e) .args .prefix .now) ≡ true
 prefix-there e = sym (e .before .is-prefix .ensures) ∙ not-false (e .before .is-prefix .result) (e .if1 .left)
 
-good : (e : tie.Else3) → badCount (begin (checked (allowed e)) .args .k) ≡ false
+good : (e : tie.Else3) → badCount maxCount (begin (checked (allowed e)) .args .k) ≡ false
 good e = count-good (begin (checked (allowed e)) .args .k) (e .before .if2 .left) (e .if3 .left)
 
 check-requires : tie.Need-check-requires

@@ -6,6 +6,7 @@ use mathlib.Core.List.{_∷_}
 use lib.ListN.{drop, getD, length}
 use native.Mathlib.Omega.{arith}
 use borrow.Author.Needs.{needs}
+use Rattle.entries.specs.Completion.{maxCount}
 use Rattle.trie_find_queue.specs.Waits.{nowhere, waits}
 use Rattle.octets.proofs.Lists.{length-mapped}
 use Rattle.trie_find.proofs.Offering.{first-and-rest, some-todo, turn-gives}
@@ -19,8 +20,8 @@ begin c = c .before .before .before .before
 abbrev begin-of-follow : tie.After-follow → tie.Start
 begin-of-follow c = begin (c .before)
 
--- the array holds 16 nodes
-long : (c : tie.Start) → length (c .args .q .nodes) ≡ 16
+-- the array holds as many nodes as can be asked for
+long : (c : tie.Start) → length (c .args .q .nodes) ≡ maxCount
 long c = search (needs, length-mapped)
 
 -- the first and the others

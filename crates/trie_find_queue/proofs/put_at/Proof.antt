@@ -6,6 +6,7 @@ use mathlib.Core.Path.{_≡_}
 use lib.ListN.{length}
 use native.Mathlib.Omega.{arith}
 use borrow.Author.Needs.{needs}
+use Rattle.entries.specs.Completion.{maxCount}
 use Rattle.trie_find_queue.proofs.put_at.Statement.{statement}
 use Rattle.trie_find_queue.proofs.put_at.Tie as tie
 use Rattle.trie_find_queue.specs.Waits.{nowhere}
@@ -29,8 +30,8 @@ begin-of-then1 c = c .before .before .before .before
 abbrev begin-of-else1 : tie.Else1 Inv-loop μ-loop → tie.Start Inv-loop μ-loop
 begin-of-else1 c = c .before .before .before .before
 
--- the array holds 16 nodes
-long : (c : tie.Start Inv-loop μ-loop) → length (c .args .q .nodes) ≡ 16
+-- the array holds as many nodes as can be asked for
+long : (c : tie.Start Inv-loop μ-loop) → length (c .args .q .nodes) ≡ maxCount
 long c = search (needs, length-mapped)
 
 loop-holds : tie.Need-loop-holds Inv-loop μ-loop
@@ -59,7 +60,7 @@ loop-again : tie.Need-loop-again Inv-loop μ-loop
 loop-again c =
     let z = begin c in
     let l = c .before .before .loop in
-    let few : z .args .q .count ≤ 16 = omega (arith, z .pre .1, z .pre .2) in
+    let few : z .args .q .count ≤ maxCount = omega (arith, z .pre .1, z .pre .2) in
     moving-on (z .args .q) (z .args .i) (z .args .x) (l .nodes) (l .carry) nowhere (l .j) few (l .inv)
     (c .before .loop-test .taken)
 
@@ -70,7 +71,7 @@ array-set-from-nodes-2 : tie.Need-array-set-from-nodes-2 Inv-loop μ-loop
 array-set-from-nodes-2 c = omega (arith, c .if1 .taken, begin-of-then1 c .pre .2)
 
 add-t18 : tie.Need-add-t18 Inv-loop μ-loop
-add-t18 c = let q : begin-of-then1 c .args .q .count ≤ 16 = omega (
+add-t18 c = let q : begin-of-then1 c .args .q .count ≤ maxCount = omega (
   arith,
   begin-of-then1 c .pre .1,
   begin-of-then1 c .pre .2,
@@ -80,7 +81,7 @@ returns : tie.Need-returns Inv-loop μ-loop
 returns c =
     let z = begin-of-then1 c in
     let l = c .before .before .loop in
-    let few : z .args .q .count ≤ 16 = omega (arith, z .pre .1, z .pre .2) in
+    let few : z .args .q .count ≤ maxCount = omega (arith, z .pre .1, z .pre .2) in
     moving-more (z .args .q) (z .args .i) (z .args .x) (l .nodes) (l .carry) nowhere (l .j) few (l .inv)
     (z .args .most) (c .before .loop-test .left) (c .if1 .taken) (z .pre .2)
 
@@ -88,7 +89,7 @@ returns-2 : tie.Need-returns-2 Inv-loop μ-loop
 returns-2 c =
     let z = begin-of-else1 c in
     let l = c .before .before .loop in
-    let few : z .args .q .count ≤ 16 = omega (arith, z .pre .1, z .pre .2) in
+    let few : z .args .q .count ≤ maxCount = omega (arith, z .pre .1, z .pre .2) in
     let full : z .args .q .count ≡ z .args .most = omega (arith, z .pre .1, c .if1 .left) in
     moving-full (z .args .q) (z .args .i) (z .args .x) (l .nodes) (l .carry) nowhere (l .j) few (l .inv)
     (z .args .most) (c .before .loop-test .left) full

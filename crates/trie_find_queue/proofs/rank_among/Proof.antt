@@ -7,6 +7,7 @@ use lib.ListN.{length}
 use native.Mathlib.Omega.{arith}
 use borrow.Author.Needs.{needs}
 use borrow.Author.Tests.{not-false, not-true}
+use Rattle.entries.specs.Completion.{maxCount}
 use Rattle.trie_find_queue.proofs.rank_among.Statement.{statement}
 use Rattle.trie_find_queue.proofs.rank_among.Tie as tie
 use Rattle.trie_find_queue.specs.Waits.{nowhere}
@@ -36,8 +37,8 @@ at-loop c = c .before .before .before .before
 abbrev at-loop-of-else1 : tie.Else1 Inv-loop μ-loop → tie.At-loop Inv-loop μ-loop
 at-loop-of-else1 c = c .before .before .before .before
 
--- the array holds 16 nodes
-long : (c : tie.Start Inv-loop μ-loop) → length (c .args .q .nodes) ≡ 16
+-- the array holds as many nodes as can be asked for
+long : (c : tie.Start Inv-loop μ-loop) → length (c .args .q .nodes) ≡ maxCount
 long c = search (needs, length-mapped)
 
 room : (c : tie.Start Inv-loop μ-loop) → c .args .q .count ≤ length (c .args .q .nodes)

@@ -6,6 +6,7 @@ use mathlib.Core.Path.{_≡_, refl}
 use lib.ListN.{length}
 use native.Mathlib.Omega.{arith}
 use borrow.Author.Needs.{needs}
+use Rattle.entries.specs.Completion.{maxCount}
 use Rattle.trie_find_queue.proofs.rest.Statement.{statement}
 use Rattle.trie_find_queue.proofs.rest.Tie as tie
 use Rattle.trie_find_queue.specs.Waits.{nowhere}
@@ -22,8 +23,8 @@ abbrev μ-loop : tie.MeasureT-loop
 abbrev begin : tie.After-y Inv-loop μ-loop → tie.Start Inv-loop μ-loop
 begin c = c .before .before .before .before
 
--- the array holds 16 nodes
-long : (c : tie.Start Inv-loop μ-loop) → length (c .args .q .nodes) ≡ 16
+-- the array holds as many nodes as can be asked for
+long : (c : tie.Start Inv-loop μ-loop) → length (c .args .q .nodes) ≡ maxCount
 long c = search (needs, length-mapped)
 
 loop-holds : tie.Need-loop-holds Inv-loop μ-loop

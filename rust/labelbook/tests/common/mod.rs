@@ -31,7 +31,7 @@ pub fn refused(image: &[u8]) -> String {
 pub const NOT_ALLOWED: &str =
     "refused, 2: a name or prefix that is not allowed (a name has 1 to 48 bytes, each from 20 to \
      7E or in a whole µ or Ω)";
-pub const NOT_1_TO_16: &str = "refused, 3: the number of names asked for is not 1 to 16";
+pub const NOT_A_COUNT: &str = "refused, 3: the number of names asked for is not 1 to 9";
 pub const NOT_HELD: &str = "refused, 4: the book does not hold that name";
 pub const FULL: &str = "refused, 5: more than 1,024 names";
 

@@ -234,8 +234,8 @@ fn completions() {
         ("10 µF", 2, &[("10 µF", 5)], 1, (1, 1)),
         ("4.7 kΩ", 3, &[("4.7 kΩ", 9)], 1, (2, 1)),
         ("4.7 kΩ ", 3, &[], 0, (0, 0)),
-        ("Ω", 16, &[("Ω", 3)], 1, (5, 1)),
-        ("Ωµ", 16, &[], 0, (0, 0)),
+        ("Ω", 9, &[("Ω", 3)], 1, (5, 1)),
+        ("Ωµ", 9, &[], 0, (0, 0)),
         ("", 3, &[("4.7 kΩ", 9), ("µA", 7), ("10 µF", 5)], 5, (0, 6)),
     ] {
         assert_eq!(prefix_range(&book, prefix.as_bytes()), Ok(range), "{prefix}");
@@ -401,7 +401,7 @@ fn panels_refused() {
 #[test]
 fn program_lines() {
     let input = "set 5 10 µF\nset 9 4.7 kΩ\nset 4 10 µA\ntop 2 10 µ\ntop 1 4.7 kΩ\ntop 5 µ\n\
-                 del µ\ndel 10 µA\ntop 16 ";
+                 del µ\ndel 10 µA\ntop 9 ";
     let printed = "ok 1\nok 2\nok 3\n5 10 µF\n4 10 µA\nlooks 2\n9 4.7 kΩ\nlooks 1\nlooks 0\n\
                    no 4\nok 2\n9 4.7 kΩ\n5 10 µF\nlooks 2\n";
     assert_eq!(program::run(input.as_bytes()), printed.as_bytes());
