@@ -157,7 +157,7 @@ extern "C" {
  * has grown: a program that has a panel must be compiled anew. Since 1.3 names may have µ and Ω; a
  * library before it declines an image with such a name. Since 1.4 LABEL_BOOK_COUNT_MAX is lower:
  * counts past it that were accepted before are refused with 3, and the buffers and ranges that a
- * program sizes by it shrink with it. */
+ * program sizes by it shrink with it. A program that names it must be compiled anew. */
 #define LABEL_BOOK_VERSION "1.4.0"
 #define LABEL_BOOK_VERSION_NUMBER 0x010400
 

@@ -439,7 +439,7 @@ fn round(compare: &mut Compare, seed: u64) {
     {
         histories::long_history(compare, &mut random, length, 10_000, names);
     }
-    scripts::hostile_scripts(compare, &mut random, 49);
+    scripts::hostile_scripts(compare, &mut random, 40);
     scripts::hostile_calls(compare, &mut random);
     scripts::hostile_buffers(compare, &mut random);
     scripts::noise(compare, &mut random, 20_000);

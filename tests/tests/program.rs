@@ -116,6 +116,14 @@ fn every_count() -> Vec<u8> {
     lines.chain(counts.map(String::into_bytes)).flatten().collect()
 }
 
+/// The longest lines that one command can print: as many as can be asked for, each of the longest
+/// name and a score of ten digits.
+fn longest_lines() -> Vec<u8> {
+    let name = |i: usize| "x".repeat(47) + &i.to_string();
+    let lines = (0..MOST_OFFERED).map(|i| format!("set {} {}\n", u32::MAX, name(i)));
+    (lines.collect::<String>() + &format!("top {MOST_OFFERED} \n")).into_bytes()
+}
+
 fn main() {
     failures();
     let rounds = if std::env::var_os("LONG").is_some() { 20_000 } else { 200 };
@@ -133,6 +141,7 @@ fn main() {
         b"set 5 10 \xC2\nset 5 \xB5F\ntop 1 \xCE\ndel \xCE\xB5\nset 1 \xC3\xA4\n".to_vec(),
         full,
         every_count(),
+        longest_lines(),
         vec![b'x'; 200_000],
     ];
     for _ in 0..rounds {

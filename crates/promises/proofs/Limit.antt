@@ -22,7 +22,7 @@ use Rattle.completion.specs.Machine.{machine, mostLooks, offering, openRange, o
 use Rattle.completion.proofs.Limit.{looks-within, same-count}
 use Rattle.trie.specs.Calls.{completeTrieWithin}
 use Rattle.ledger.proofs.Demand.{offers-best}
-use Rattle.promises.specs.Limit.{MostLooks, SameWithin}
+use Rattle.promises.specs.Limit.{AsUnderSixteen, MostLooks, SameWithin}
 
 -- the limit stands in the check for 3 alone, which a count within both limits passes under both or under neither
 pub same-within : (limit limit′ : ℕ) → SameWithin limit limit′
@@ -31,7 +31,16 @@ same-within limit limit′ =
     record {
       fromBook = λ book p k dst ranges h h′. rw (same-count limit limit′ k h h′);
       fromTrie = λ trie p k dst h h′. rw (same-count limit limit′ k h h′);
-      printed = λ k p es h h′. rw (same-count limit limit′ k h h′);
+      printedByTop = λ k p es h h′. rw (same-count limit limit′ k h h′);
+    }
+
+pub as-under-sixteen : AsUnderSixteen
+as-under-sixteen =
+    let same = same-within maxCount 16 in
+    record {
+      fromBook = λ book p k dst ranges h. same .fromBook book p k dst ranges h (omega arith);
+      fromTrie = λ trie p k dst h. same .fromTrie trie p k dst h (omega arith);
+      printedByTop = λ k p es h. same .printedByTop k p es h (omega arith);
     }
 
 -- an answer was not refused with 3, so its looks are few

@@ -6,7 +6,6 @@ use mathlib.Core.List.{List, []}
 use lib.Dec.{ltb}
 use lib.ListN.{length}
 use Rattle.octets.proofs.Tests.{or-false}
-use Rattle.entries.specs.Completion.{maxCount}
 use Rattle.entries.proofs.BestList.{best-list}
 use Rattle.entries.proofs.TopK.{top-k, top-k-only}
 use Rattle.entries.proofs.Valid.{valid-of}
@@ -43,7 +42,7 @@ use Rattle.program.proofs.Theorem.{lines-say, never-seven}
 use Rattle.merge.specs.Joined.{mergeBooks}
 use Rattle.merge.proofs.Merged.{merged}
 use Rattle.promises.specs.Promises.{Promises}
-use Rattle.promises.proofs.Limit.{most-looks, same-within}
+use Rattle.promises.proofs.Limit.{as-under-sixteen, most-looks, same-within}
 use Rattle.promises.proofs.Writes.{declines, offers, writes}
 
 pub promises : Promises
@@ -110,5 +109,5 @@ promises =
       erasesASign = erases-a-sign;
       looksAtMost = most-looks;
       sameWithin = same-within;
-      asUnderSixteen = same-within maxCount 16;
+      asUnderSixteen = as-under-sixteen;
     }

@@ -33,7 +33,7 @@ use Rattle.script.specs.Theorem.{RefusedStays, RunLedgers}
 use Rattle.program.specs.Theorem.{CutAlike, InParts, InputSays, LinesSay, NeverSeven}
 use Rattle.merge.specs.Joined.{mergeBooks, mergedEntries}
 use Rattle.merge.specs.Merged.{Merged·all}
-use Rattle.promises.specs.Limit.{MostLooks, SameWithin}
+use Rattle.promises.specs.Limit.{AsUnderSixteen, MostLooks, SameWithin}
 use Rattle.promises.specs.Refusals.{Declines, Offers, Writes, absent, badK, badName, badPrefix, full, noBook}
 use Rattle.promises.specs.Refusals.{noBucket, noPosition, noRoom}
 
@@ -181,10 +181,10 @@ pub record Promises : Type 0 where
   pub appendsOhm : Appends 0x81 ohm
   -- Erase removes a whole sign. What stays is allowed, as after every key (`holdsItsName`).
   pub erasesASign : ErasesASign
-  -- REQUEST D. Nine rows are the most: k from 10 up gives 3, from the book, from the trie and in `top` (`badK` above,
-  -- `lines`). Looks are at most 17, which a completion of nine reaches.
+  -- REQUEST D. Nine rows are the most: k from 10 up gives 3, from the book, from the trie and in `top` (`completing`,
+  -- `completingFromTrie` and `lines`, above). Looks are at most 17, which a completion of nine reaches.
   pub looksAtMost : MostLooks maxCount 17
   -- Users who stay within nine see the same lists: whatever two limits there are, counts within both get the same
-  -- answers, bytes and looks. So it is of nine and of sixteen, which was the limit before.
+  -- answers, bytes and looks, and so with nine and with sixteen, the limit before.
   pub sameWithin : (limit limit′ : ℕ) → SameWithin limit limit′
-  pub asUnderSixteen : SameWithin maxCount 16
+  pub asUnderSixteen : AsUnderSixteen

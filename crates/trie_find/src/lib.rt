@@ -69,7 +69,7 @@ fn offer(offered: usize, bytes: usize) -> Completion
     }
 }
 
-// Completion from a trie that was checked, for a count that is not refused and a destination with room for as many
+// Completion from a trie that was checked, for a count from 1 to the limit and a destination with room for as many
 // entries.
 pub fn complete(trie: &[u8], prefix: &[u8], k: usize, dst: &mut [u8]) -> Completion
     requires { ⌜ (isTrie (now trie) ≡ true) × (1 ≤ k) × (k ≤ maxCount) × (entryRoom * k ≤ length (now dst)) ⌝ }

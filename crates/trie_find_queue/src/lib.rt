@@ -1,4 +1,5 @@
-// The nodes of a trie that wait in a search, by value and in rank: the best first, at most as many as can be asked for.
+// The nodes of a trie that wait in a search, by value and in rank: the best first, at most one for each entry that can
+// be asked for.
 use limits::LONGEST_NAME;
 use limits::MAX_COUNT;
 ghost use mathlib.Core.Path.{_≡_};

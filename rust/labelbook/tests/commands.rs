@@ -110,6 +110,9 @@ fn help(desk: &Desk) {
         assert!(usage.starts_with(&format!("labelbook {command} ")), "{usage}");
         texts.push(about);
     }
+    let top = &texts[1 + COMMANDS.iter().position(|command| *command == "top").unwrap()];
+    assert!(top.contains(&format!("from 1 to {COUNT_MAX},")), "{top}");
+    assert!(top.contains(&format!("K is not 1 to {COUNT_MAX}.\n")), "{top}");
     for line in texts.iter().flat_map(|text| text.lines()) {
         assert!(line.chars().count() <= 100 && !line.ends_with(' '), "{line}");
     }

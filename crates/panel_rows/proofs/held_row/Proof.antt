@@ -19,7 +19,7 @@ use Rattle.panel_rows.proofs.Rows.{row-absent, row-found, row-none}
 use Rattle.panel_rows.proofs.held_row.Statement.{statement}
 use Rattle.panel_rows.proofs.held_row.Tie as tie
 
--- the arrays are 48 bytes and 16 positions long
+-- the arrays are as long as the longest name and the most that can be asked for
 long : (c : tie.Start) → length (c .args .p .held) ≡ longestName
 long c = search needs
 

@@ -14,7 +14,7 @@ use Rattle.panel_rows.proofs.Rows.{rows-offered}
 use Rattle.panel_rows.proofs.rows_of.Statement.{statement}
 use Rattle.panel_rows.proofs.rows_of.Tie as tie
 
--- the arrays are 48 bytes and 16 positions long
+-- the arrays are as long as the longest name and the most that can be asked for
 long : (c : tie.Start) → length (c .args .p .text) ≡ longestName
 long c = search needs
 

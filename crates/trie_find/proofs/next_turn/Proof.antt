@@ -20,7 +20,7 @@ begin c = c .before .before .before .before
 abbrev begin-of-follow : tie.After-follow → tie.Start
 begin-of-follow c = begin (c .before)
 
--- the array holds as many nodes as can be asked for
+-- the array holds a node for each entry that can be asked for
 long : (c : tie.Start) → length (c .args .q .nodes) ≡ maxCount
 long c = search (needs, length-mapped)
 

@@ -30,7 +30,7 @@ begin-of-then1 c = c .before .before .before .before
 abbrev begin-of-else1 : tie.Else1 Inv-loop μ-loop → tie.Start Inv-loop μ-loop
 begin-of-else1 c = c .before .before .before .before
 
--- the array holds as many nodes as can be asked for
+-- the array holds a node for each entry that can be asked for
 long : (c : tie.Start Inv-loop μ-loop) → length (c .args .q .nodes) ≡ maxCount
 long c = search (needs, length-mapped)
 

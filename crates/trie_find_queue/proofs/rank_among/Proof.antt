@@ -37,7 +37,7 @@ at-loop c = c .before .before .before .before
 abbrev at-loop-of-else1 : tie.Else1 Inv-loop μ-loop → tie.At-loop Inv-loop μ-loop
 at-loop-of-else1 c = c .before .before .before .before
 
--- the array holds as many nodes as can be asked for
+-- the array holds a node for each entry that can be asked for
 long : (c : tie.Start Inv-loop μ-loop) → length (c .args .q .nodes) ≡ maxCount
 long c = search (needs, length-mapped)
 

@@ -23,7 +23,7 @@ abbrev μ-loop : tie.MeasureT-loop
 abbrev begin : tie.After-y Inv-loop μ-loop → tie.Start Inv-loop μ-loop
 begin c = c .before .before .before .before
 
--- the array holds as many nodes as can be asked for
+-- the array holds a node for each entry that can be asked for
 long : (c : tie.Start Inv-loop μ-loop) → length (c .args .q .nodes) ≡ maxCount
 long c = search (needs, length-mapped)
 
