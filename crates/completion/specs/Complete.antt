@@ -43,6 +43,7 @@ completeBookWithin limit book p k dst ranges =
     (entriesBytes l)
     dst
 
+-- completion from a book, as the call has it
 abbrev pub completeBook : List ℕ → List ℕ → ℕ → List ℕ → ℕ → Outcome OfferedCounts
 completeBook book p k dst ranges = completeBookWithin maxCount book p k dst ranges
 

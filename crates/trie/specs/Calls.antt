@@ -31,5 +31,6 @@ completeTrieWithin limit trie p k dst =
     (entriesBytes l)
     dst
 
+-- completion from a trie, as the call has it
 abbrev pub completeTrie : List ℕ → List ℕ → ℕ → List ℕ → Outcome OfferedCounts
 completeTrie trie p k dst = completeTrieWithin maxCount trie p k dst
