@@ -1,8 +1,9 @@
 /*
  * A term's first lesson: a teacher starts a book and edits it, a course's book is merged into it, a
  * student types the start of a name and takes one that is offered, also one with µ or Ω in it, the
- * teacher keeps the book as a sheet and writes a trie of it. Build and run it with examples/run-c;
- * examples/panel.rs is the same in Rust and prints the same, which is in examples/expected.
+ * teacher keeps the book as a sheet, prints its page for the wall and writes a trie of it. Build
+ * and run it with examples/run-c; examples/panel.rs is the same in Rust and prints the same, which
+ * is in examples/expected.
  */
 #include <stdbool.h>
 #include <stdio.h>
@@ -174,6 +175,16 @@ static void keep(struct bench *b) {
     printf("built from the sheet: %zu held, %s\n", built, same ? "the same book" : "another book");
 }
 
+/* And the page for the laboratory's wall, which is text: the bytes are printed as they are. */
+static void print_page(const struct bench *b) {
+    static uint8_t page[LABEL_BOOK_PAGE_MAX];
+    size_t entries, bytes;
+    must(label_book_page(book(b), LABEL_BOOK_BOOK_MAX, page, sizeof page, &entries, &bytes),
+         "label_book_page");
+    printf("the page: %zu names, %zu bytes\n", entries, bytes);
+    fwrite(page, 1, bytes, stdout);
+}
+
 /* A bench that only offers names can keep the trie alone: it completes as the book does. */
 static void offer_from_trie(const struct bench *b) {
     static uint8_t trie[LABEL_BOOK_TRIE_MAX];
@@ -199,6 +210,7 @@ int main(void) {
     type(&bench);
     type_signs(&bench);
     keep(&bench);
+    print_page(&bench);
     offer_from_trie(&bench);
     return 0;
 }

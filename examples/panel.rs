@@ -1,12 +1,13 @@
 //! A term's first lesson: a teacher starts a book and edits it, a course's book is merged into it,
 //! a student types the start of a name and takes one that is offered, also one with µ or Ω in it,
-//! the teacher keeps the book as a sheet and writes a trie of it. Build and run it with
-//! examples/run-rust; examples/panel.c is the same in C and prints the same, which is in
-//! examples/expected.
+//! the teacher keeps the book as a sheet, prints its page for the wall and writes a trie of it.
+//! Build and run it with examples/run-rust; examples/panel.c is the same in C and prints the same,
+//! which is in examples/expected.
 use label_book::{entries, key, Book, Entries, Panel, Refusal, Written};
 use label_book::{ENTRY_MAX, PANEL_ROWS};
 use std::borrow::Cow;
 use std::error::Error;
+use std::io::{self, Write};
 
 /// Names are bytes, of UTF-8; they are shown as text.
 fn text(name: &[u8]) -> Cow<'_, str> {
@@ -126,6 +127,13 @@ fn keep(book: &Book) -> Result<(), Refusal> {
     Ok(())
 }
 
+/// And the page for the laboratory's wall, which is text: the bytes are printed as they are.
+fn print_page(book: &Book) -> io::Result<()> {
+    let page = book.page();
+    println!("the page: {} names, {} bytes", book.entries(), page.len());
+    io::stdout().write_all(&page)
+}
+
 /// A bench that only offers names can keep the trie alone: it completes as the book does.
 fn offer_from_trie(book: &Book) -> Result<(), Refusal> {
     let trie = book.trie();
@@ -143,6 +151,7 @@ fn main() -> Result<(), Box<dyn Error>> {
     type_keys(&mut book)?;
     type_signs(&mut book)?;
     keep(&book)?;
+    print_page(&book)?;
     offer_from_trie(&book)?;
     Ok(())
 }

@@ -27,6 +27,8 @@
  *   sheet         the image that lists the same entries in plain, to exchange with other programs.
  *   trie          the image that holds the same entries as a tree, for completion without ranges.
  *                 It is written from a book and never edited: write it again after an edit.
+ *   page          the text that shows the same entries in rank, for people: it is printed and put
+ *                 on a wall, and no call reads it.
  *   answer entry  an entry as the calls write it: 1 byte of length, the name, 4 bytes of score,
  *                 big-endian, that is the highest byte first. It has 5 bytes more than its name.
  *
@@ -43,7 +45,8 @@
  * A buffer is a pointer and a length in bytes. An image stands at the front of its buffer; the
  * bytes behind it are neither read nor changed, so that a whole buffer can be lent, not only the
  * image in it. What an image needs at most is LABEL_BOOK_BOOK_MAX, LABEL_BOOK_SHEET_MAX and
- * LABEL_BOOK_TRIE_MAX bytes; label_book_check tells how many a book has, those to save.
+ * LABEL_BOOK_TRIE_MAX bytes, and a page LABEL_BOOK_PAGE_MAX; label_book_check tells how many a book
+ * has, those to save.
  *
  * Any bytes may be given as a source, such as a file that is no book: the call declines then.
  * A source is never changed, and two sources may be the same bytes. What a call may change, that
@@ -125,8 +128,9 @@
  *   label_book_head               320
  *   label_book_build              320
  *   label_book_list               512
+ *   label_book_page             60864
  *   label_book_complete         10112
- *   label_book_write_trie      170816
+ *   label_book_write_trie      170752
  *   label_book_complete_trie    28736
  *   label_book_press             2880
  *   label_book_run               1280
@@ -136,8 +140,9 @@
  *
  * For calls that keep to "Buffers": that each call ends, and the numbers, out values and bytes said
  * here, are proved of the functions in crates/label_book/src/c_names.rt (docs/CONTRACTS.txt has the
- * contracts); so is that no book is longer than LABEL_BOOK_BOOK_MAX and no sheet longer than
- * LABEL_BOOK_SHEET_MAX. For LABEL_BOOK_TRIE_MAX, which is not proved, docs/FORMAT.md argues.
+ * contracts); so is that no book is longer than LABEL_BOOK_BOOK_MAX, no sheet longer than
+ * LABEL_BOOK_SHEET_MAX and no page longer than LABEL_BOOK_PAGE_MAX. For LABEL_BOOK_TRIE_MAX, which
+ * is not proved, docs/FORMAT.md argues.
  *
  * That this file declares those functions as they are is not proved: .ci/c-names compares every
  * prototype, struct and constant of it with the sources, and tests/c calls all of them by it. NULL
@@ -158,8 +163,8 @@ extern "C" {
  * library before it declines an image with such a name. Since 1.4 LABEL_BOOK_COUNT_MAX is lower:
  * counts past it that were accepted before are refused with 3, and the buffers and ranges that a
  * program sizes by it shrink with it. A program that names it must be compiled anew. */
-#define LABEL_BOOK_VERSION "1.4.0"
-#define LABEL_BOOK_VERSION_NUMBER 0x010400
+#define LABEL_BOOK_VERSION "1.5.0"
+#define LABEL_BOOK_VERSION_NUMBER 0x010500
 
 /* The most there can be. */
 #define LABEL_BOOK_NAME_MAX 48      /* bytes of a name or prefix */
@@ -173,6 +178,7 @@ extern "C" {
 #define LABEL_BOOK_BOOK_MAX 55559   /* a book */
 #define LABEL_BOOK_SHEET_MAX 54279  /* a sheet */
 #define LABEL_BOOK_TRIE_MAX 70759   /* a trie */
+#define LABEL_BOOK_PAGE_MAX 84009   /* a page */
 
 /* What a call returns: see "Answers and refusals". */
 #define LABEL_BOOK_OK 0
@@ -325,6 +331,27 @@ uint8_t label_book_build(const uint8_t *sheet, size_t sheet_len,
 /* Writes the sheet of a book's entries; tells them and its bytes.
  * Refusals: 1 the book; 7 the sheet is longer than dst. */
 uint8_t label_book_list(const uint8_t *book, size_t book_len,
+                        uint8_t *dst, size_t dst_len, size_t *entries, size_t *bytes);
+
+
+/*
+ * The page for the wall.
+ */
+
+/* Writes the page of a book's entries, as text: the heading line, then the lines of each entry, in
+ * rank. Every line, the last one too, has 40 bytes and behind them a line feed, 0x0A:
+ *
+ *   the heading line       NAME at its left end, SCORE at its right end, spaces between them
+ *   an entry's first line  28 bytes of name, padded with spaces; two spaces; the score in decimal,
+ *                          at the right end of 10 bytes
+ *   its further lines      where the name is longer: the next 28 bytes of it, padded with spaces;
+ *                          12 spaces
+ *
+ * A column is one byte, so a µ or Ω may be split, its second byte on the next line. Tells the
+ * entries and the bytes, 41 for each line; the page of an empty book is the heading line alone. It
+ * is NOT zero-terminated: fwrite(dst, 1, bytes, stdout) prints it.
+ * Refusals: 1 the book; 7 the page is longer than dst. */
+uint8_t label_book_page(const uint8_t *book, size_t book_len,
                         uint8_t *dst, size_t dst_len, size_t *entries, size_t *bytes);
 
 

@@ -39,7 +39,7 @@ static uint32_t told_score;
     } while (0)
 
 static struct bench bench;
-static uint8_t dst[LABEL_BOOK_TRIE_MAX];
+static uint8_t dst[LABEL_BOOK_PAGE_MAX];
 static struct label_book_range ranges[LABEL_BOOK_COUNT_MAX + 1];
 
 static const char x49[] = "xxxxxxxxxxxxxxxxxxxxxxxxxxxxxxxxxxxxxxxxxxxxxxxxx";
@@ -243,6 +243,66 @@ static void sheets(void) {
     sheet[7 + 1] = 'z'; /* "zc" before "rc" */
     GIVES(label_book_build(sheet, len, fresh(), 99, &one, &two), LABEL_BOOK_NOT_LAID_OUT, 0, 0);
     SAME_BYTES(dst, 7, FILL_7);
+}
+
+/* Writes the page of the bench's book, with so many bytes of room. */
+static uint8_t write_page(size_t room) {
+    return label_book_page(BOOK, fresh(), room, &one, &two);
+}
+
+/* The destination is this text, and behind it as before the call; no page has the byte FILL. */
+static void page_is(const char *want) {
+    static char text[LABEL_BOOK_PAGE_MAX + 1];
+    size_t len = sizeof dst;
+    while (len > 0 && dst[len - 1] == FILL) len--;
+    memcpy(text, dst, len);
+    text[len] = '\0';
+    SAME(len, strlen(want));
+    SAME_TEXT(text, want);
+}
+
+#define HEADING "NAME                               SCORE\n"
+#define E_PAGE HEADING "rl                                    12\n" \
+                       "rc                                     9\n" \
+                       "rc step                                9\n" \
+                       "ac                                     5\n"
+#define E_PAGE_BYTES (5 * 41)
+
+static void pages(void) {
+    bench_empty(&bench);
+    GIVES(write_page(41), LABEL_BOOK_OK, 0, 41);
+    page_is(HEADING);
+    GIVES(write_page(40), LABEL_BOOK_TOO_SHORT, 0, 0);
+    page_is("");
+    bench_of_e(&bench);
+    GIVES(write_page(E_PAGE_BYTES), LABEL_BOOK_OK, 4, E_PAGE_BYTES);
+    page_is(E_PAGE);
+    GIVES(write_page(sizeof dst), LABEL_BOOK_OK, 4, E_PAGE_BYTES);
+    page_is(E_PAGE);
+    GIVES(write_page(E_PAGE_BYTES - 1), LABEL_BOOK_TOO_SHORT, 0, 0);
+    GIVES(label_book_page(bench_book(&bench), E_BYTES - 1, dst, E_PAGE_BYTES, &one, &two),
+          LABEL_BOOK_NOT_LAID_OUT, 0, 0);
+    GIVES(label_book_page(no_book, sizeof no_book, dst, 0, &one, &two), LABEL_BOOK_NOT_LAID_OUT, 0,
+          0);
+    page_is("");
+}
+
+static void pages_of_long_names(void) {
+    bench_empty(&bench);
+    bench_set(&bench, letters(48), 4294967295);
+    bench_set(&bench, letters(29), 10);
+    bench_set(&bench, letters(28), 10);
+    bench_set(&bench, "xxxxxxxxxxxxxxxxxxxxxxxxxxx" MICRO "F", 0); /* 27 letters in front */
+    GIVES(write_page(8 * 41), LABEL_BOOK_OK, 4, 8 * 41);
+    page_is(HEADING "xxxxxxxxxxxxxxxxxxxxxxxxxxxx  4294967295\n"
+                    "xxxxxxxxxxxxxxxxxxxx                    \n"
+                    "xxxxxxxxxxxxxxxxxxxxxxxxxxxx          10\n"
+                    "xxxxxxxxxxxxxxxxxxxxxxxxxxxx          10\n"
+                    "x                                       \n"
+                    "xxxxxxxxxxxxxxxxxxxxxxxxxxx\xC2           0\n"
+                    "\xB5" "F                                      \n");
+    GIVES(write_page(8 * 41 - 1), LABEL_BOOK_TOO_SHORT, 0, 0);
+    page_is("");
 }
 
 /* Completes from the bench's book, with just the room that k entries want. */
@@ -635,6 +695,9 @@ static void a_full_book(void) {
     GIVES(label_book_list(BOOK, dst, LABEL_BOOK_SHEET_MAX, &one, &two), LABEL_BOOK_OK,
           LABEL_BOOK_ENTRIES_MAX, LABEL_BOOK_SHEET_MAX);
     SAME(label_book_write_trie(BOOK, dst, LABEL_BOOK_TRIE_MAX, &one, &two), LABEL_BOOK_OK);
+    GIVES(write_page(LABEL_BOOK_PAGE_MAX), LABEL_BOOK_OK, LABEL_BOOK_ENTRIES_MAX,
+          LABEL_BOOK_PAGE_MAX);
+    GIVES(write_page(LABEL_BOOK_PAGE_MAX - 1), LABEL_BOOK_TOO_SHORT, 0, 0);
     memcpy(other, bench_book(&bench), sizeof other);
     bench_of_e(&bench);
     GIVES(label_book_merge(BOOK, other, sizeof other, dst, sizeof dst, &one, &two), LABEL_BOOK_FULL,
@@ -670,6 +733,8 @@ int main(void) {
     test("prefix_range: some, all, none, refused", prefix_ranges);
     test("head: where the first bucket's name stands", bucket_heads);
     test("list, build: E as a sheet and back; refusals", sheets);
+    test("page: the empty book and E; refusals", pages);
+    test("page: names of 28, 29 and 48 bytes, a sign on two lines", pages_of_long_names);
     test("complete: P5 to P8", completion_from_a_book);
     test("complete: k 9 and 10, and its other refusals", refused_completions);
     test("complete: 17 looks, the most", the_most_looks);

@@ -221,6 +221,11 @@ impl Compare {
         self.writes("list", [book, &[]], &[], dst, |[book, _], d| calls::list(book, d), other)
     }
 
+    pub fn page(&mut self, book: &[u8], dst: &[u8]) -> (Told, Vec<u8>) {
+        let other = |d: &mut [u8]| told_written(reference::page(book, d));
+        self.writes("page", [book, &[]], &[], dst, |[book, _], d| calls::page(book, d), other)
+    }
+
     pub fn check(&mut self, book: &[u8]) {
         self.reads(
             "check",

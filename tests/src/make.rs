@@ -22,9 +22,11 @@ pub enum Names {
     Signs,
     /// as mixed, with µ and Ω
     Units,
+    /// as units, of about 28 bytes, as many as a line of the page has for a name, or of about 48
+    Lines,
 }
 
-pub const NAMES: [Names; 8] = [
+pub const NAMES: [Names; 9] = [
     Names::Short,
     Names::LongPrefix,
     Names::Full,
@@ -33,6 +35,7 @@ pub const NAMES: [Names; 8] = [
     Names::Mixed,
     Names::Signs,
     Names::Units,
+    Names::Lines,
 ];
 
 #[derive(Clone, Copy, Debug)]
@@ -40,10 +43,13 @@ pub enum Scores {
     Equal,
     Extreme,
     Few,
+    /// the least and the greatest numbers of 1 to 10 digits
+    Digits,
     Any,
 }
 
-pub const SCORES: [Scores; 4] = [Scores::Equal, Scores::Extreme, Scores::Few, Scores::Any];
+pub const SCORES: [Scores; 5] =
+    [Scores::Equal, Scores::Extreme, Scores::Few, Scores::Digits, Scores::Any];
 
 /// Where the names of the first of two books stand among those of the second.
 #[derive(Clone, Copy, Debug)]
@@ -159,6 +165,12 @@ pub fn name(random: &mut Random, names: Names, held: &Entries) -> Vec<u8> {
             let room = random.between(2, LONGEST_NAME.min(20));
             whole([start, filled(|| sign(random), room)].concat(), LONGEST_NAME)
         }
+        Names::Lines => {
+            let start = some_name(random, held);
+            let start = beginning(random, &start);
+            let length = random.pick(&[26, 27, 28, 28, 28, 29, 29, 29, 30, 47, 48]);
+            whole([start, filled(|| sign(random), LONGEST_NAME)].concat(), length)
+        }
     }
 }
 
@@ -173,6 +185,10 @@ pub fn score(random: &mut Random, scores: Scores) -> u32 {
         Scores::Equal => 7,
         Scores::Extreme => random.pick(&[0, 1, u32::MAX - 1, u32::MAX]),
         Scores::Few => random.pick(&[0, 1, 255, 256, 257, 65_535, 65_536]),
+        Scores::Digits => {
+            let power = 10_u32.pow(random.below(10) as u32);
+            random.pick(&[power, power - 1, u32::MAX])
+        }
         Scores::Any => random.any() as u32,
     }
 }
@@ -188,6 +204,11 @@ pub fn entries(random: &mut Random, n: usize, names: Names, scores: Scores) -> E
         tries += 1;
     }
     entries
+}
+
+/// Names of so many bytes: numbers with zeros in front.
+pub fn numbers(count: usize, length: usize) -> impl Iterator<Item = Vec<u8>> {
+    (0..count).map(move |i| format!("{i:0length$}").into_bytes())
 }
 
 /// 19 names of one letter with the scores 0 1 0 1 .. 0: on each side of a name that has score 1 at

@@ -1,11 +1,11 @@
 //! Random and hostile inputs through the C interface, compared with the second implementation.
 //! Seeded and bounded: the same cases in every run. `LONG=1` runs many more rounds, each with
 //! another seed.
-use label_book_tests::calls as ours;
+use label_book_tests::calls::{self as ours, Told};
 use label_book_tests::compare::Compare;
 use label_book_tests::make::{self, Names, Scores, NAMES, PLACES, SCORES};
 use label_book_tests::random::Random;
-use label_book_tests::reference::{book, calls, sheet, trie, Entries};
+use label_book_tests::reference::{book, calls, page, sheet, trie, Entries};
 use label_book_tests::reference::{MOST_BEFORE, MOST_ENTRIES, MOST_OFFERED};
 use std::collections::BTreeSet;
 
@@ -13,6 +13,8 @@ use std::collections::BTreeSet;
 mod counts;
 #[path = "compare/histories.rs"]
 mod histories;
+#[path = "compare/pages.rs"]
+mod pages;
 #[path = "compare/panels.rs"]
 mod panels;
 #[path = "compare/scripts.rs"]
@@ -20,8 +22,8 @@ mod scripts;
 #[path = "compare/signs.rs"]
 mod signs;
 
-/// Longer than every image.
-const LONG_BUFFER: usize = 70_000;
+/// Longer than every image and every page.
+const LONG_BUFFER: usize = 90_000;
 
 const SIZES: [usize; 16] = [0, 1, 2, 7, 8, 9, 15, 16, 17, 31, 32, 33, 127, 129, 1023, 1024];
 
@@ -37,6 +39,22 @@ fn destination(random: &mut Random, needed: usize) -> Vec<u8> {
 /// The bytes that a call of the second implementation writes, 0 where it refuses.
 fn needed(call: impl FnOnce(&mut [u8]) -> calls::Written) -> usize {
     call(&mut vec![0; LONG_BUFFER]).map_or(0, |(_, bytes)| bytes)
+}
+
+/// A call into a destination that is one byte short, exact, and one byte long: it writes these
+/// bytes, and tells how many entries are in them. Gives the last destination.
+fn rooms(
+    random: &mut Random,
+    entries: usize,
+    bytes: &[u8],
+    mut call: impl FnMut(&[u8]) -> (Told, Vec<u8>),
+) -> Vec<u8> {
+    assert_eq!(call(&random.bytes(bytes.len() - 1)).0, (7, [0; 3]));
+    let accepted = (0, [entries as u64, bytes.len() as u64, 0]);
+    assert_eq!(call(&random.bytes(bytes.len())), (accepted, bytes.to_vec()));
+    let (told, left) = call(&random.bytes(bytes.len() + 1));
+    assert_eq!((told, &left[..bytes.len()]), (accepted, bytes));
+    left
 }
 
 /// Every call that reads a book, once, on a buffer that may hold one.
@@ -75,6 +93,8 @@ fn complete(compare: &mut Compare, random: &mut Random, buffer: &[u8], prefix: &
 fn convert(compare: &mut Compare, random: &mut Random, buffer: &[u8], held: &Entries) {
     let dst = destination(random, sheet::image(held).len());
     compare.list(buffer, &dst);
+    let dst = destination(random, page::bytes(held).len());
+    compare.page(buffer, &dst);
     let image = trie::image(held);
     let dst = destination(random, image.len());
     compare.write_trie(buffer, &dst);
@@ -94,11 +114,11 @@ fn sizes(compare: &mut Compare, random: &mut Random, rounds: usize) {
         for names in NAMES {
             for scores in SCORES {
                 let held = make::entries(random, n, names, scores);
-                let page = sheet::image(&held);
+                let sheet = sheet::image(&held);
                 let image = book::image(&held);
                 let dst = destination(random, image.len());
-                compare.build(&page, &dst);
-                let (told, dst) = compare.build(&page, &vec![0xEE; image.len()]);
+                compare.build(&sheet, &dst);
+                let (told, dst) = compare.build(&sheet, &vec![0xEE; image.len()]);
                 assert_eq!((told.0, &dst), (0, &image));
                 let mut buffer = image.clone();
                 let trie_image = trie::image(&held);
@@ -110,6 +130,7 @@ fn sizes(compare: &mut Compare, random: &mut Random, rounds: usize) {
                     ask_trie(compare, random, &trie_image, &held);
                 }
                 convert(compare, random, &buffer, &held);
+                pages::page_of(compare, random, &buffer, &held);
                 let dst = random.bytes(20);
                 compare.empty(&dst[..random.below(20)]);
             }
@@ -156,7 +177,7 @@ fn any_image(compare: &mut Compare, random: &mut Random, buffer: &[u8], held: &E
             let prefix = &name[..random.below(name.len() + 1)];
             compare.complete_trie(buffer, prefix, MOST_OFFERED, &dst);
         }
-        _ => match random.below(11) {
+        _ => match random.below(12) {
             0 => {
                 compare.set(buffer, &name, 5, &dst);
             }
@@ -176,6 +197,9 @@ fn any_image(compare: &mut Compare, random: &mut Random, buffer: &[u8], held: &E
             }
             9 => {
                 compare.merge(&book::image(held), buffer, &dst);
+            }
+            10 => {
+                compare.page(buffer, &dst);
             }
             _ => {
                 compare.complete(buffer, b"", MOST_OFFERED, &dst, MOST_OFFERED);
@@ -300,12 +324,7 @@ fn merge(compare: &mut Compare, random: &mut Random, [first, second]: &[Entries;
         return;
     }
     let image = book::image(&joined);
-    assert_eq!(compare.merge(&first, &second, &random.bytes(image.len() - 1)).0, (7, [0; 3]));
-    let accepted = (0, [joined.len() as u64, image.len() as u64, 0]);
-    let exact = compare.merge(&first, &second, &random.bytes(image.len()));
-    assert_eq!(exact, (accepted, image.clone()));
-    let (told, left) = compare.merge(&first, &second, &random.bytes(image.len() + 1));
-    assert_eq!((told, &left[..image.len()]), (accepted, &image[..]));
+    let left = rooms(random, joined.len(), &image, |dst| compare.merge(&first, &second, dst));
     lists(compare, random, &left, &joined);
 }
 
@@ -331,6 +350,10 @@ fn damaged_merges(compare: &mut Compare, random: &mut Random, rounds: usize) {
 
 fn bytes(hex: &str) -> Vec<u8> {
     hex.split_whitespace().map(|b| u8::from_str_radix(b, 16).unwrap()).collect()
+}
+
+fn entries(of: &[(&str, u32)]) -> Entries {
+    of.iter().map(|(name, score)| (name.as_bytes().to_vec(), *score)).collect()
 }
 
 /// The cases that the document works out, made by the calls themselves.
@@ -415,6 +438,7 @@ fn round(compare: &mut Compare, seed: u64) {
     panels::worked(compare);
     signs::worked(compare);
     counts::worked(compare);
+    pages::worked(compare);
     sizes(compare, &mut random, 40);
     every_place(compare, &mut random, 6);
     damage(compare, &mut random, 600);
@@ -448,6 +472,7 @@ fn round(compare: &mut Compare, seed: u64) {
     merges(compare, &mut random);
     damaged_merges(compare, &mut random, 300);
     counts::books(compare, &mut random);
+    pages::books(compare, &mut random);
 }
 
 fn main() {

@@ -14,7 +14,7 @@ const BEFORE: usize = 0x5A5A_5A5A_5A5A_5A5A;
 const RANGE: usize = size_of::<Range>();
 
 /// The numbers that each call returns when a buffer of it is NULL, and any other arguments.
-const NUMBERS: [(&str, &[u8]); 17] = [
+const NUMBERS: [(&str, &[u8]); 18] = [
     ("empty", &[7]),
     ("set", &[1, 2, 7]),
     ("withdraw", &[1, 2, 4, 7]),
@@ -27,6 +27,7 @@ const NUMBERS: [(&str, &[u8]); 17] = [
     ("head", &[1]),
     ("build", &[1, 7]),
     ("list", &[1, 7]),
+    ("page", &[1, 7]),
     ("write_trie", &[1, 7]),
     ("complete", &[0, 1, 2, 3, 7]),
     ("complete_trie", &[0, 1, 2, 3, 7]),
@@ -196,6 +197,7 @@ fn writing(tried: &mut Tried, given: &Given) {
     }
     tried.writes("build", c::label_book_build, sheets, rooms);
     tried.writes("list", c::label_book_list, books, rooms);
+    tried.writes("page", c::label_book_page, books, rooms);
     tried.writes("write_trie", c::label_book_write_trie, books, rooms);
     tried.joins("withdraw", c::label_book_withdraw, books, names, rooms);
     tried.joins("name_of", c::label_book_name_of, books, names, rooms);

@@ -17,7 +17,7 @@ mod panels;
 mod values;
 
 /// Every number that each function is to be seen to give; 0 is an answer.
-const NUMBERS: [(&str, &[u8]); 17] = [
+const NUMBERS: [(&str, &[u8]); 18] = [
     ("empty", &[0, 7]),
     ("set", &[0, 1, 2, 5, 7]),
     ("withdraw", &[0, 1, 2, 4, 7]),
@@ -30,6 +30,7 @@ const NUMBERS: [(&str, &[u8]); 17] = [
     ("head", &[0, 1, 6]),
     ("build", &[0, 1, 7]),
     ("list", &[0, 1, 7]),
+    ("page", &[0, 1, 7]),
     ("write_trie", &[0, 1, 7]),
     ("complete", &[0, 1, 2, 3, 7]),
     ("complete_trie", &[0, 1, 2, 3, 7]),

@@ -1,8 +1,11 @@
 //! The calls that the benchmark compares with answer as the second implementation does.
 use label_book_tests::make::{self, Names, Scores, NAMES, PLACES, SCORES};
 use label_book_tests::random::Random;
-use label_book_tests::reference::{book, calls, sheet, trie, Entries, MOST_OFFERED};
+use label_book_tests::reference::{book, calls, page, sheet, trie, Entries, MOST_OFFERED};
 use label_book_tests::{plain, reference};
+
+/// Longer than every image and every page.
+const LONG_BUFFER: usize = 90_000;
 
 /// Both calls on destinations with the same bytes: the same answer, the same bytes left.
 fn same<A: PartialEq + std::fmt::Debug>(
@@ -14,13 +17,14 @@ fn same<A: PartialEq + std::fmt::Debug>(
     assert_eq!((one(&mut a), &a), (other(&mut b), &b));
 }
 
-fn ask(random: &mut Random, buffer: &[u8], page: &[u8], held: &Entries) {
+fn ask(random: &mut Random, buffer: &[u8], sheet: &[u8], held: &Entries) {
     let name = make::asked(random, held);
     let prefix = &name[..random.below(name.len() + 1)];
     let (position, bucket, k) =
         (make::number(random, held.len()), make::number(random, 3), make::count(random));
-    let whole = random.bytes(70_000);
+    let whole = random.bytes(LONG_BUFFER);
     let dst = &whole[..make::room(random, book::image(held).len())];
+    let lines = &whole[..make::room(random, page::bytes(held).len())];
     let short = &whole[..make::room(random, 53)];
     let answer = &whole[..make::room(random, 53 * k.min(MOST_OFFERED + 1))];
     let ranges = random.pick(&[MOST_OFFERED - 1, MOST_OFFERED]);
@@ -28,7 +32,8 @@ fn ask(random: &mut Random, buffer: &[u8], page: &[u8], held: &Entries) {
     same(dst, |d| plain::set(buffer, &name, 9, d), |d| calls::set(buffer, &name, 9, d));
     same(dst, |d| plain::withdraw(buffer, &name, d), |d| calls::withdraw(buffer, &name, d));
     same(dst, |d| plain::list(buffer, d), |d| calls::list(buffer, d));
-    same(dst, |d| plain::build(page, d), |d| calls::build(page, d));
+    same(dst, |d| plain::build(sheet, d), |d| calls::build(sheet, d));
+    same(lines, |d| plain::page(buffer, d), |d| calls::page(buffer, d));
     same(short, |d| plain::name_at(buffer, position, d), |d| calls::name_at(buffer, position, d));
     same(short, |d| plain::name_of(buffer, &name, d), |d| calls::name_of(buffer, &name, d));
     same(
@@ -71,7 +76,7 @@ fn ask_merge(random: &mut Random, sizes: [usize; 2], shared: usize, names: Names
     let (places, scores) = (random.pick(&PLACES), random.pick(&SCORES));
     let images =
         make::pair(random, sizes, shared, places, names, scores).map(|held| book::image(&held));
-    let whole = random.bytes(70_000);
+    let whole = random.bytes(LONG_BUFFER);
     let needed =
         calls::merge(&images[0], &images[1], &mut whole.clone()).map_or(60_000, |(_, bytes)| bytes);
     for damaged in [[false, false], [true, false], [false, true], [true, true]] {
@@ -112,22 +117,24 @@ fn plain_merges_agree() {
 #[test]
 fn plain_calls_agree() {
     let mut random = Random::new(7);
-    for n in [0, 1, 7, 8, 9, 16, 17, 40, 150] {
+    for n in [0, 1, 7, 8, 9, 16, 17, 40, 128, 129] {
         for names in NAMES {
             for scores in SCORES {
                 let held = make::entries(&mut random, n, names, scores);
-                let (image, page) = (book::image(&held), sheet::image(&held));
+                let (image, sheet) = (book::image(&held), sheet::image(&held));
                 ask_trie(&mut random, &trie::image(&held), &held);
                 for _ in 0..8 {
-                    ask(&mut random, &image, &page, &held);
+                    ask(&mut random, &image, &sheet, &held);
                     let (buffer, paper) =
-                        (make::damaged(&mut random, &image), make::damaged(&mut random, &page));
+                        (make::damaged(&mut random, &image), make::damaged(&mut random, &sheet));
                     ask(&mut random, &buffer, &paper, &held);
                 }
             }
         }
     }
-    let full = make::entries(&mut random, reference::MOST_ENTRIES, NAMES[5], Scores::Any);
-    ask(&mut random, &book::image(&full), &sheet::image(&full), &full);
-    ask_trie(&mut random, &trie::image(&full), &full);
+    for names in [Names::Mixed, Names::Lines] {
+        let full = make::entries(&mut random, reference::MOST_ENTRIES, names, Scores::Any);
+        ask(&mut random, &book::image(&full), &sheet::image(&full), &full);
+        ask_trie(&mut random, &trie::image(&full), &full);
+    }
 }

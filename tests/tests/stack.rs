@@ -11,6 +11,8 @@
 //! - write_trie has the names of a full book in its frame, whatever the book, and calls itself for
 //!   each group of names: 48 deep for names that begin each other up to 48 bytes, and once more
 //!   for the one name that is then left.
+//! - page sorts the positions and calls itself for each half of them: ten deep for more than 512
+//!   names, whatever their scores.
 //! - complete_trie checks the trie before all else, and calls itself for each group below another.
 //!   In a trie these are at most 48, one for each byte of a name; one more is looked at where a
 //!   node at 48 bytes claims to have children, which makes the image none. The search behind it has

@@ -22,7 +22,7 @@ use Rattle.answer.specs.declared.Span.the-variants as span
 use Rattle.answer.specs.declared.Written.{Written}
 use Rattle.answer.specs.declared.Written.the-variants as written
 
--- a call that writes a book, a trie, a sheet or an entry
+-- a call that writes a book, a trie, a sheet, a page or an entry
 abbrev pub writtenOf : Written → Answer WrittenCounts
 writtenOf (written.Refused n) = refused n
 writtenOf (written.Wrote e b) = given (record { entries = e; bytes = b })

@@ -1,7 +1,7 @@
 // The answers of the public calls. Each is a refusal by its number or what the call gives; how it is read as the
 // document's number and counts stands in specs/Reports.antt. The rest of this crate is definitions and laws.
 
-// What a call that writes a book, a trie, a sheet or an entry reports.
+// What a call that writes a book, a trie, a sheet, a page or an entry reports.
 pub enum Written {
     Refused(u8),
     Wrote { entries: usize, bytes: usize },

@@ -1,6 +1,6 @@
 -- The entries of a table, row by row.
 use Prim.Native.Nat.{_*_, _+_, _<_, _≤_, suc, zero, ℕ}
-use mathlib.Core.Path.{_∙_, _≡_, ap, refl}
+use mathlib.Core.Path.{_∙_, _≡_, ap}
 use mathlib.Core.List.{List, [], _∷_, map}
 use lib.ListN.{drop, drop-of-length-le, getD, length, length-drop, length-map}
 use lib.Seq.{drop-cons, getD-drop, getD-take, length-take-le}
@@ -17,14 +17,6 @@ at-count : (f : ℕ → Entry) (i n p : ℕ) → p < n → getD (map f (countFro
 at-count f i zero p h = absurd (not-suc-le-zero h)
 at-count f i (suc n) zero h = rw add-zero
 at-count f i (suc n) (suc p) h = at-count f (suc i) n p (omega arith) ∙ ap f (omega arith)
-
-pub map-count : (f : ℕ → Entry) (i : ℕ) (es : List Entry) → ((p : ℕ) → p < length es → f (i + p) ≡ at es p)
-    → map f (countFrom i (length es)) ≡ es
-map-count f i [] h = refl
-map-count f i (e ∷ es) h =
-    let here : f i ≡ e = ap f (omega arith) ∙ h 0 (omega arith) in
-    let later = map-count f (suc i) es (λ p l. ap f (omega arith) ∙ h (suc p) (omega arith)) in
-    cc
 
 module _ (u m sc : List ℕ) where
   pub entries-length : length (entries u m sc) ≡ length m

@@ -11,8 +11,8 @@ use native.Mathlib.Omega.{arith}
 use borrow.Author.Tests.{ltb-false, ltb-true}
 use Rattle.octets.specs.Lists.{countFrom}
 use Rattle.octets.specs.Octets.{begins}
-use Rattle.octets.proofs.Lists.{at-all}
-use Rattle.octets.proofs.Order.{front-of}
+use Rattle.octets.proofs.Lists.{at-all, map-count}
+use Rattle.octets.proofs.Order.{begins-take, front-of}
 use Rattle.octets.proofs.Stores.{sets-stands, stays}
 use Rattle.octets.proofs.Tests.{by-test}
 use Rattle.entries.specs.Entries.{Entry, at, entry, noEntry}
@@ -25,7 +25,6 @@ use Rattle.book_laws.specs.Held.{Held}
 use Rattle.book_laws.proofs.Held.{held-few, held-stored, held-valid}
 use Rattle.book_read.proofs.Reading.{Given, Reading, read-start}
 use Rattle.book_table.specs.Table.{TableRoom, Unpacked, entries, rowAt}
-use Rattle.book_table.proofs.Rows.{map-count}
 use Rattle.book_read.specs.declared.Parts.{Parts}
 
 -- row p holds the entry at position p
@@ -69,10 +68,10 @@ module _ {book : List ℕ} {n : ℕ} (b : Held book n) where
     -- a turn: the row of the next entry is stored, those before it stay
     pub unpack-turn :
         i < n → {new : List ℕ} {q : Parts} → Given book k i new q → {v : ℕ} → v ≡ scoreAt book i
-        → {u′ : List ℕ} → u′ ≡ sets u (i * longestName) (take (q .kept + q .own) new)
+        → {u′ : List ℕ} → u′ ≡ sets u (i * longestName) new
         → Unpacking book n u₀ m₀ sc₀ u′ (set m i (q .kept + q .own)) (set sc i v) new (k + (q .start + q .own)) (i + 1)
     unpack-turn h {new} {q} s {v} r {u′} w =
-        let e = ap length w ∙ length-sets u (i * longestName) (take (q .kept + q .own) new) in
+        let e = ap length w ∙ length-sets u (i * longestName) new in
         record {
           reading = s .next;
           room = record {
@@ -86,17 +85,17 @@ module _ {book : List ℕ} {n : ℕ} (b : Held book n) where
           rows = λ p z. which p (omega arith);
         }
       where
-        stored : u′ ≡ sets u (i * longestName) (at es i .name)
-        stored = w ∙ rw (s .name)
-
-        fits : i * longestName + length (at es i .name) ≤ length u
-        fits = omega (arith, g .room .rows, short i h)
+        fits : i * longestName + length new ≤ length u
+        fits = omega (arith, g .room .rows, s .next .long)
 
         there : Row es u′ (set m i (q .kept + q .own)) (set sc i v) i
         there =
             record {
               long = getD-set-same m i (q .kept + q .own) 0 (omega (arith, g .room .counted)) ∙ s .long;
-              stands = rw stored (sets-stands u (at es i .name) (i * longestName) fits);
+              stands =
+                  rw (w, ← s .name)
+                  (begins-take (q .kept + q .own) new (drop (i * longestName) (sets u (i * longestName) new))
+                  (sets-stands u new (i * longestName) fits));
               score = getD-set-same sc i v 0 (omega (arith, g .room .scored)) ∙ r
                   ∙ held-stored b .scoredAt i (omega (arith, b .count));
             }
@@ -106,7 +105,7 @@ module _ {book : List ℕ} {n : ℕ} (b : Held book n) where
             let o = g .rows p z in
             record {
               long = getD-set-other m i p (q .kept + q .own) 0 (λ e. omega arith) ∙ o .long;
-              stands = rw stored (stays u (at es i .name) (i * longestName) fits (at es p .name) (p * longestName)
+              stands = rw w (stays u new (i * longestName) fits (at es p .name) (p * longestName)
                   (inl (omega (arith, short p (omega arith)))) (o .stands));
               score = getD-set-other sc i p v 0 (λ e. omega arith) ∙ o .score;
             }
@@ -133,7 +132,7 @@ module _ {book : List ℕ} {n : ℕ} (b : Held book n) where
               };
           same =
               ap (λ k. map (rowAt u (take n m) sc) (countFrom 0 k)) (l ∙ b .count)
-              ∙ map-count (rowAt u (take n m) sc) 0 es
+              ∙ map-count noEntry (rowAt u (take n m) sc) 0 es
               (λ p k. row p (omega (arith, b .count)) (len p (omega (arith, b .count))));
         }
       where

@@ -7,11 +7,11 @@ use mathlib.Core.List.{List, [], _∷_}
 use lib.ListN.{length, length-take, take}
 use native.Mathlib.Omega.{arith}
 use Rattle.octets.specs.Lists.{_∈_}
-use Rattle.octets.proofs.Lists.{sort-length, take-in}
+use Rattle.octets.proofs.Lists.{keep-every, sort-length, take-in}
 use Rattle.octets.proofs.Sorted.{sorted}
 use Rattle.octets.proofs.Tests.{and-intro, and-true, by-test}
-use Rattle.entries.specs.Completion.{TopK, completion, different, inRank, matches}
-use Rattle.entries.specs.Entries.{Entry, outranks, rising}
+use Rattle.entries.specs.Completion.{TopK, begun, completion, different, inRank, matches}
+use Rattle.entries.specs.Entries.{Entry, byRank, outranks, rising}
 use Rattle.entries.proofs.BestList.{ranked, ranked-different, ranked-in, ranked-matches}
 use Rattle.entries.proofs.Rank.{outranks-asym, outranks-irrefl, outranks-total, outranks-trans, rank-sorted}
 
@@ -131,3 +131,10 @@ module _ (es : List Entry) (p : List ℕ) (k : ℕ) (r : rising es ≡ true) whe
       (λ e m. let a = t .among e m in ranked-in es p k r e (a .0) (a .1))
       (t .many ∙ ap (min k) (sym (sort-length outranks (matches p es))))
       (λ e m out f n. let o = ranked-matches es p k r e m in t .highest e (o .0) (o .1) out f n)
+
+-- all entries of a book, in rank
+pub in-rank : (es : List Entry) → rising es ≡ true → inRank (byRank es) ≡ true
+in-rank es r =
+    let every = keep-every (begun []) es (λ e m. refl) in
+    let ranks : inRank (byRank (matches [] es)) ≡ true = strict-rank (order es [] 0 r) (order-strict es [] 0 r) in
+    rw every at ranks

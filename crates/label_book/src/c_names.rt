@@ -10,6 +10,7 @@ ghost use Rattle.merge.specs.Joined.{mergeBooks};
 ghost use Rattle.sheet.specs.Sheet.{buildBook, listBook};
 ghost use Rattle.completion.specs.Complete.{completeBook};
 ghost use Rattle.trie.specs.Calls.{completeTrie, writeTrie};
+ghost use Rattle.page.specs.Page.{writePage};
 ghost use Rattle.panel.specs.Panel.{press};
 ghost use Rattle.script.specs.Run.{runOf};
 ghost use Rattle.abi.specs.Told.{FoundTold, SpanTold, WrittenTold};
@@ -153,6 +154,20 @@ pub extern "C" fn label_book_write_trie(
         (now (dst .exit)) ⌝ }
 {
     abi_values::tell_written(trie_calls::write_trie(book, dst), entries, bytes)
+}
+
+// Lays a book out as a page for the wall.
+#[no_mangle]
+pub extern "C" fn label_book_page(
+    book: &[u8],
+    dst: &mut [u8],
+    entries: &mut usize,
+    bytes: &mut usize,
+) -> u8
+    ensures { λ r. ⌜ Left (writePage (now (book .entry)) (now (dst .entry))) r (now (entries .exit)) (now (bytes .exit))
+        (now (dst .exit)) ⌝ }
+{
+    abi_values::tell_written(page_calls::page(book, dst), entries, bytes)
 }
 
 // The position and score of a name, or that it is absent.

@@ -70,7 +70,7 @@ pub use answer::Completion;
 // An open range: { first, best, score, last }.
 pub use completion::Range;
 
-// Conversions: one image written from another of the same entries.
+// Conversions: an image, or a page, written from an image of the same entries.
 
 // build(sheet: &[u8], dst: &mut [u8]) -> Written
 // Builds a book from a sheet: `buildBook` in `crates/sheet/specs/Sheet.antt`.
@@ -81,6 +81,9 @@ pub use sheet_calls::list;
 // write_trie(book: &[u8], dst: &mut [u8]) -> Written
 // Writes the trie of a book's entries: `writeTrie` in `crates/trie/specs/Calls.antt`.
 pub use trie_calls::write_trie;
+// page(book: &[u8], dst: &mut [u8]) -> Written
+// Lays a book out as a page for the wall: `writePage` in `crates/page/specs/Page.antt`.
+pub use page_calls::page;
 
 // The panel, as defined in `crates/panel/specs/Panel.antt`.
 

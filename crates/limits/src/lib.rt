@@ -70,6 +70,17 @@ pub const KEY_ERASE: u8 = 0x08;
 
 pub const KEY_TAKE: u8 = 0x0D;
 
+// The columns of a page's line, and its bytes with the line feed: `pageColumns`, `lineBytes`.
+pub const PAGE_COLUMNS: usize = 40;
+
+pub const PAGE_LINE: usize = PAGE_COLUMNS + 1;
+// The columns of a page's line that a name has: `nameColumns`.
+pub const NAME_COLUMNS: usize = 28;
+
+// Up to how many names a small table serves for a page: `smallTable`. A whole one takes about 1 µs to clear, which is as
+// long as a page of some twenty names.
+pub const SMALL_TABLE: usize = 128;
+
 // The length of each of the program's two buffers: `bufferLength`.
 pub const BUFFER_LENGTH: usize = 57344;
 // The bytes of a command line that are kept: `keptBytes`.

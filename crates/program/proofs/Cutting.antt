@@ -9,6 +9,7 @@ use lib.Seq.{take-all}
 use native.Mathlib.Omega.{arith}
 use borrow.Author.Tests.{le-leb, leb-false, leb-true, lt-leb}
 use Rattle.program.specs.Program as program
+use Rattle.octets.specs.Decimal.{valueOn}
 use Rattle.octets.specs.Octets.{begins}
 use Rattle.octets.specs.Text.{text}
 use Rattle.octets.proofs.Lists.{drop-take}
@@ -17,7 +18,6 @@ use Rattle.entries.specs.Entries.{Entry}
 use Rattle.entries.specs.Names.{isName, isPrefix}
 use Rattle.ledger.specs.Ledger.{ledgerAnswer, ledgerStep, setName, withdrawName}
 use Rattle.program.specs.Program.{commandOf, digits, edit, hasNumber, heldAfter, isDigit, numbered, printed, top}
-use Rattle.program.specs.Program.{valueOn}
 use Rattle.program.specs.Theorem.{Alike, CutAlike}
 use Rattle.program.specs.Console.{Console, consoleAfter, fedBy, saidAt, saidFor}
 

@@ -9,6 +9,7 @@ use lib.Seq.{take-append-seam}
 use native.Mathlib.Omega.{arith}
 use borrow.Author.Tests.{le-ltb}
 use Rattle.program.specs.Program as program
+use Rattle.octets.specs.Decimal.{valueOn}
 use Rattle.octets.specs.Octets.{begins}
 use Rattle.octets.specs.Text.{text}
 use Rattle.octets.proofs.Tests.{and-intro, and-true, by-test}
@@ -23,7 +24,7 @@ use Rattle.ledger.proofs.History.{Holds, history-answers, history-holds, reads,
 use Rattle.script.specs.Run.{Bench, benchCall, buffersOf, startBench}
 use Rattle.script.proofs.Theorem.{step-buffers}
 use Rattle.program.specs.Program.{bad, bufferLength, commandOf, digits, edit, editLine, hasNumber, heldAfter}
-use Rattle.program.specs.Program.{numbered, outputOf, printed, top, valueOn}
+use Rattle.program.specs.Program.{numbered, outputOf, printed, top}
 use Rattle.program.specs.Console.{leftBy, shownBy, topOf}
 use Rattle.program.specs.Theorem.{BookStands, LinesSay, NeverSeven, heldFor, leftFor, shownFor}
 

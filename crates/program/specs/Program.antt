@@ -1,13 +1,14 @@
 -- The program's command lines (document 01, "Sheet, finding, panel, program"): what a line asks for, what it prints,
 -- and what it does to the entries held.
-use Prim.Native.Nat.{_%_, _*_, _+_, _-_, _/_, _^_, suc, zero, ℕ}
-use mathlib.Core.Bool.{Bool, _&&_, false, not, true}
+use Prim.Native.Nat.{_^_, suc, ℕ}
+use mathlib.Core.Bool.{Bool, _&&_, not}
 use mathlib.Core.List.{List, [], _++_, _∷_}
 use lib.Dec.{eqb, leb, ltb}
 use lib.ListN.{drop, length}
+use Rattle.octets.specs.Decimal.{decimal, valueOn}
 use Rattle.octets.specs.Lists.{concatMap, if_then_else_}
 use Rattle.octets.specs.Octets.{begins}
-use Rattle.octets.specs.Text.{text}
+use Rattle.octets.specs.Text.{lineFeed, text}
 use Rattle.entries.specs.Completion.{completion, maxCount}
 use Rattle.entries.specs.Entries.{Entry}
 use Rattle.entries.specs.Names.{isPrefix}
@@ -20,17 +21,6 @@ use Rattle.ledger.specs.Ledger.{Edit, ledgerAnswer, ledgerStep, setName, withdr
 abbrev pub bufferLength : ℕ
 bufferLength = 57344
 
-abbrev pub lineFeed : List ℕ
-lineFeed = 10 ∷ []
-
--- a number in decimal, of at most d digits
-abbrev pub decimalTo : ℕ → ℕ → List ℕ
-decimalTo zero v = []
-decimalTo (suc d) v = elim (ltb v 10) [ true ↦ (48 + v) ∷ [] | false ↦ decimalTo d (v / 10) ++ ((48 + v % 10) ∷ []) ]
-
-unfoldable pub decimal : ℕ → List ℕ
-decimal v = decimalTo 10 v
-
 abbrev pub isDigit : ℕ → Bool
 isDigit b = leb 48 b && leb b 57
 
@@ -39,13 +29,9 @@ abbrev pub front : (ℕ → Bool) → List ℕ → List ℕ
 front p [] = []
 front p (b ∷ bs) = if p b then (b ∷ front p bs) else []
 
--- the digits at the front, and their value
+-- the digits at the front; `valueOn` gives their number
 abbrev pub digits : List ℕ → List ℕ
 digits bs = front isDigit bs
-
-abbrev pub valueOn : ℕ → List ℕ → ℕ
-valueOn a [] = a
-valueOn a (b ∷ bs) = valueOn (a * 10 + (b - 48)) bs
 
 -- What a line asks for.
 pub data Command : Type 0 where

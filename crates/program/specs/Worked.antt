@@ -3,9 +3,10 @@ use Prim.Native.Nat.{ℕ}
 use mathlib.Core.Path.{_≡_, refl}
 use mathlib.Core.List.{List, [], _++_, _∷_}
 use lib.ListN.{replicate}
+use Rattle.octets.specs.Decimal.{decimal}
 use Rattle.octets.specs.Octets.{be}
 use Rattle.octets.specs.Table.{Row, _gives_, failing}
-use Rattle.octets.specs.Text.{text}
+use Rattle.octets.specs.Text.{lineFeed, text}
 use Rattle.entries.specs.Completion.{completion, rangeStart}
 use Rattle.entries.specs.Entries.{Entry}
 use Rattle.entries.specs.Names.{allowedBytes, isName, isPrefix, micro, ohm}
@@ -15,7 +16,7 @@ use Rattle.frame.specs.Frame.{framed}
 use Rattle.book.specs.Shown.{E, alternating, crowd}
 use Rattle.completion.specs.Machine.{machine, offering, openRange, others, parts}
 use Rattle.ledger.specs.Ledger.{ledgerAnswer, ledgerStep}
-use Rattle.program.specs.Program.{commandOf, decimal, lineFeed, printed, program, refusedLine, topLines}
+use Rattle.program.specs.Program.{commandOf, printed, program, refusedLine, topLines}
 use Rattle.program.specs.Program.{topWithin}
 
 -- document 01's input, without the last line feed, and all that it prints

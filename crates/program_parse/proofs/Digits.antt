@@ -9,9 +9,10 @@ use native.Mathlib.Nat.{pow-le-pow-right}
 use native.Mathlib.Numerals.{add-one}
 use native.Mathlib.Omega.{arith}
 use borrow.Author.Tests.{le-leb, leb-false, leb-true, lt-leb}
+use Rattle.octets.specs.Decimal.{valueOn}
 use Rattle.octets_code.proofs.Loops.{drop-next}
 use Rattle.octets.proofs.Tests.{and-true, by-test}
-use Rattle.program.specs.Program.{digits, front, isDigit, valueOn}
+use Rattle.program.specs.Program.{digits, front, isDigit}
 
 pub digit-low : (b : ℕ) → b < 48 → isDigit b ≡ false
 digit-low b h = rw (lt-leb 48 b h)

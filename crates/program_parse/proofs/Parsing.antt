@@ -8,11 +8,12 @@ use lib.ListN.{drop, length, length-drop}
 use lib.Seq.{drop-drop}
 use native.Mathlib.Omega.{arith}
 use borrow.Author.Tests.{le-leb, le-ltb, lt-leb, lt-ltb}
+use Rattle.octets.specs.Decimal.{valueOn}
 use Rattle.octets.specs.Octets.{begins}
 use Rattle.octets.specs.Text.{text}
 use Rattle.octets.proofs.Order.{begins-length}
 use Rattle.octets.proofs.Tests.{and-true, by-test}
-use Rattle.program.specs.Program.{commandOf, digits, hasNumber, numbered, top, valueOn}
+use Rattle.program.specs.Program.{commandOf, digits, hasNumber, numbered, top}
 use Rattle.program_parse.specs.Parsing.{Asks, makeOf, numberAs}
 use Rattle.program_parse.specs.declared.Number.the-variants as number
 use Rattle.program_parse.specs.declared.ParsedLine.{ParsedLine}

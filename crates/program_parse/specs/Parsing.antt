@@ -5,9 +5,10 @@ use mathlib.Core.Bool.{Bool, false, true}
 use mathlib.Core.List.{List}
 use lib.ListN.{drop, length}
 use Rattle.program.specs.Program as program
+use Rattle.octets.specs.Decimal.{valueOn}
 use Rattle.octets.specs.Lists.{if_then_else_}
 use Rattle.ledger.specs.Ledger.{setName, withdrawName}
-use Rattle.program.specs.Program.{bad, digits, edit, hasNumber, top, valueOn}
+use Rattle.program.specs.Program.{bad, digits, edit, hasNumber, top}
 use Rattle.program_parse.specs.declared.Number.{Number}
 use Rattle.program_parse.specs.declared.Number.the-variants as number
 use Rattle.program_parse.specs.declared.ParsedLine.{ParsedLine}

@@ -4,7 +4,8 @@ use limits::NUMBERS_END;
 ghost use mathlib.Core.Path.{_≡_};
 ghost use Prim.Native.Nat.{_≤_};
 ghost use lib.ListN.{drop, length};
-ghost use Rattle.program.specs.Program.{commandOf, digits, isDigit, numbered, valueOn};
+ghost use Rattle.octets.specs.Decimal.{valueOn};
+ghost use Rattle.program.specs.Program.{commandOf, digits, isDigit, numbered};
 ghost use Rattle.program_parse.specs.Parsing.{Asks, makeOf, numberAs};
 
 // The bytes of a command's word and the space behind it.

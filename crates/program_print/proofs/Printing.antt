@@ -1,18 +1,23 @@
--- Bytes stored one part behind the other; the lines of the entries of an answer, one by one.
+-- A number's digits copied; the lines of the entries of an answer, one by one.
 use Prim.Native.Nat.{_*_, _+_, _-_, _<_, _≤_, suc, ℕ}
 use mathlib.Core.Path.{_∙_, _≡_, ap, refl, sym}
 use mathlib.Core.Bool.{true}
-use mathlib.Core.List.{List, [], _++_, _∷_}
-use lib.ListN.{drop, drop-of-length-le, getD, length, length-append, length-drop, set, take}
-use lib.Seq.{drop-cons, length-sets, sets, take-all}
+use mathlib.Core.List.{List, [], _++_, _∷_, append-assoc, append-nil}
+use lib.ListN.{drop, drop-of-length-le, getD, length, length-append, set, take}
+use lib.Seq.{drop-at, drop-cons, length-take-le, sets, sets-eq, take-all}
 use native.Mathlib.Numerals.{add-one}
 use native.Mathlib.Omega.{arith}
 use Rattle.entries.specs.Entries as entries
+use Rattle.octets_decimal.specs.Digits.{Numbered}
+use Rattle.octets.specs.Decimal.{decimal}
 use Rattle.octets.specs.Lists.{all}
 use Rattle.octets.specs.Octets.{begins, numberAt}
-use Rattle.octets.specs.Text.{text}
+use Rattle.octets.specs.Text.{lineFeed, text}
+use Rattle.octets.proofs.Decimal.{decimal-most}
 use Rattle.octets.proofs.Stores.{sets-append}
 use Rattle.octets.proofs.Tests.{and-true}
+use Rattle.octets_laws.specs.Printed.{Printed}
+use Rattle.octets_laws.proofs.Printed.{put-size}
 use Rattle.entries.specs.Entries.{Entry, entry, isEntry, noEntry}
 use Rattle.entries.specs.Names.{isName, isScore}
 use Rattle.entries.proofs.Valid.{name-length}
@@ -21,46 +26,29 @@ use Rattle.sheet.proofs.Reading.{length-sheetFrom}
 use Rattle.sheet.specs.Sheet.{sheetFrom}
 use Rattle.sheet_write.proofs.Entries.{Here, here}
 use Rattle.sheet_check.proofs.RowLoop.{between}
-use Rattle.program.specs.Program.{decimal, lineFeed}
-use Rattle.program_print.specs.Printing.{Laid, Printed, Shows, entryLine, entryLineRoom, offeredLines}
-use Rattle.program_print.specs.declared.Numeral.{Numeral}
-use Rattle.program_print.proofs.Decimal.{decimal-most}
+use Rattle.program_print.specs.Printing.{Laid, entryLine, entryLineRoom, offeredLines}
 
-put-size : {out : List ℕ} {at : ℕ} {xs : List ℕ} {end : ℕ} {left : List ℕ} → Printed out at xs end left
-    → length left ≡ length out
-put-size {out} {at} {xs} p = rw (p .stored) (length-sets out at xs)
-
-pub put-append :
-    {out : List ℕ} {at : ℕ} {xs ys : List ℕ} {m : ℕ} {mid : List ℕ} {end : ℕ} {left : List ℕ} → Printed out at xs m mid
-    → Printed mid m ys end left
-    → Printed out at (xs ++ ys) end left
-put-append {out} {at} {xs} {ys} p q =
-    record {
-      stored = q .stored ∙ rw (p .stored, p .ends) (sets-append out xs ys at);
-      ends = omega (arith, p .ends, q .ends, length-append xs ys);
-      inside = omega (arith, q .inside, put-size p);
-    }
-
-pub put-byte : (out : List ℕ) (at b : ℕ) → at < length out → Printed out at (b ∷ []) (at + 1) (set out at b)
-put-byte out at b h = record { stored = refl; ends = refl; inside = omega arith }
-
-pub put-part :
-    (out : List ℕ) (at : ℕ) (xs : List ℕ) {left : List ℕ} → at + length xs ≤ length out → left ≡ sets out at xs
-    → Printed out at xs (at + length xs) left
-put-part out at xs h e = record { stored = e; ends = refl; inside = h }
-
--- a number's digits, copied
+-- a number's digits, copied from the ten bytes that they end
 pub put-digits :
-    (out : List ℕ) (at : ℕ) {v : ℕ} {n : Numeral} {left : List ℕ} → at + 10 ≤ length out → Shows v n
-    → left ≡ sets out at (take (10 - n .from) (drop (n .from) (n .bytes)))
-    → Printed out at (decimal v) (at + (10 - n .from)) left
-put-digits out at {v} {n} h s e =
-    let l = ap length (s .digits) in
-    let z = take-all (10 - n .from) (drop (n .from) (n .bytes))
-    (omega (arith, length-drop (n .from) (n .bytes), s .ten)) in
+    (out : List ℕ) (at : ℕ) {v from : ℕ} {blank digits : List ℕ} {left : List ℕ} → at + 10 ≤ length out
+    → length blank ≡ 10 → Numbered blank 10 v from digits → left ≡ sets out at (take (10 - from) (drop from digits))
+    → Printed out at (decimal v) (at + (10 - from)) left
+put-digits out at {v} {from} {blank} {digits} h t n e =
+    let z : drop from digits ≡ decimal v =
+    rw (
+      n .stored,
+      sets-eq (decimal v) blank from (omega (arith, n .ends)),
+      append-assoc (take from blank) (decimal v) (drop (from + length (decimal v)) blank),
+      drop-at (take from blank) (decimal v ++ drop (from + length (decimal v)) blank) from
+          (length-take-le from blank (omega (arith, n .ends))),
+      drop-of-length-le blank {i = from + length (decimal v)} (omega (arith, n .ends)),
+    )
+    (append-nil (decimal v))
+    in
+    let y = take-all (10 - from) (decimal v) (omega (arith, n .ends)) in
     record {
-      stored = e ∙ ap (sets out at) (z ∙ s .digits);
-      ends = omega (arith, length-drop (n .from) (n .bytes), s .ten);
+      stored = e ∙ ap (sets out at) (ap (take (10 - from)) z ∙ y);
+      ends = omega (arith, n .ends);
       inside = omega arith;
     }
 

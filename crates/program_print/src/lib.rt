@@ -4,45 +4,22 @@ use limits::SCORE_BYTES;
 ghost use mathlib.Core.List.{_++_};
 ghost use Prim.Native.Nat.{_*_, _+_, _≤_};
 ghost use lib.ListN.{length};
+ghost use Rattle.octets.specs.Decimal.{decimal};
+ghost use Rattle.octets.specs.Text.{lineFeed};
+ghost use Rattle.octets_laws.specs.Printed.{Printed};
 ghost use Rattle.entries.specs.Entries.{entry};
 ghost use Rattle.sheet.specs.Sheet.{sheetFrom};
-ghost use Rattle.program.specs.Program.{badLine, decimal, lineFeed};
-ghost use Rattle.program_print.specs.Printing.{Laid, Printed, Shows, entryLine, entryLineRoom, offeredLines};
-
-// A number's decimal digits: the bytes from an index on.
-struct Numeral {
-    bytes: [u8; MOST_DIGITS],
-    from: usize,
-}
-
-// The decimal digits of a number, put in from the last.
-fn digits_of(v: u32) -> Numeral
-    ensures { λ r. ⌜ Shows v r ⌝ }
-{
-    let mut bytes = [0u8; MOST_DIGITS];
-    let mut from = MOST_DIGITS - 1;
-    let mut rest = v;
-    while 10 <= rest {
-        bytes[from] = b'0' + (rest % 10) as u8;
-        rest = rest / 10;
-        from -= 1;
-    }
-    bytes[from] = b'0' + rest as u8;
-    Numeral {
-        bytes: bytes,
-        from: from,
-    }
-}
+ghost use Rattle.program.specs.Program.{badLine};
+ghost use Rattle.program_print.specs.Printing.{Laid, entryLine, entryLineRoom, offeredLines};
 
 // Writes a number in decimal: where it ends.
 fn put_decimal(out: &mut [u8], at: usize, v: u32) -> usize
     requires { ⌜ at + 10 ≤ length (now out) ⌝ }
     ensures { λ r. ⌜ Printed (now (out .entry)) at (decimal v) r (now (out .exit)) ⌝ }
 {
-    let n = digits_of(v);
-    let from = n.from;
-    let bytes = n.bytes;
-    octets_code::copy(out, at, &bytes[from..]);
+    let mut digits = [0; MOST_DIGITS];
+    let from = octets_decimal::put_decimal(&mut digits, MOST_DIGITS, v);
+    octets_code::copy(out, at, &digits[from..]);
     at + (MOST_DIGITS - from)
 }
 

@@ -3,9 +3,9 @@ use Prim.Native.Nat.{_+_, _<_, _≤_, ℕ}
 use mathlib.Core.Path.{_≡_}
 use mathlib.Core.List.{List, _++_}
 use lib.ListN.{length, take}
+use Rattle.octets_laws.specs.Printed.{Printed}
 use Rattle.script.specs.Run.{bench}
 use Rattle.program.specs.Program.{front}
-use Rattle.program_print.specs.Printing.{Printed}
 use Rattle.program.specs.Console.{Console, benchLast, console, consoleAfter, inLine, keptBytes, saidFor, saidLast}
 use Rattle.program_step.specs.Step.{lineRoom}
 use Rattle.program_run.specs.declared.Fed.{Fed}

@@ -7,12 +7,15 @@ use lib.Dec.{ltb}
 use lib.ListN.{drop, getD, length}
 use native.Mathlib.Omega.{arith}
 use borrow.Author.Tests.{le-ltb}
+use Rattle.octets.specs.Decimal.{decimal}
 use Rattle.octets.specs.Lists.{all}
 use Rattle.octets.specs.Octets.{overwrite}
-use Rattle.octets.specs.Text.{text}
+use Rattle.octets.specs.Text.{lineFeed, text}
 use Rattle.octets.proofs.Lists.{all-at, all-imp, all-in, get-in}
 use Rattle.octets.proofs.Order.{begins-append}
 use Rattle.octets.proofs.Tests.{and-true, by-test}
+use Rattle.octets_laws.specs.Printed.{Printed}
+use Rattle.octets_laws.proofs.Printed.{put-append}
 use Rattle.entries.specs.Completion.{completion, maxCount}
 use Rattle.entries.specs.Entries.{Entry, isEntry, noEntry, valid}
 use Rattle.entries.specs.Names.{isName, isPrefix, isScore}
@@ -27,9 +30,8 @@ use Rattle.completion.proofs.Limit.{count-within, looks-within}
 use Rattle.sheet.specs.Sheet.{sheetFrom}
 use Rattle.sheet.proofs.Reading.{sheetFrom-of}
 use Rattle.book.proofs.Reading.{valid-in}
-use Rattle.program.specs.Program.{decimal, lineFeed, refusedLine, topLines}
-use Rattle.program_print.specs.Printing.{Laid, Printed, offeredLines}
-use Rattle.program_print.proofs.Printing.{put-append}
+use Rattle.program.specs.Program.{refusedLine, topLines}
+use Rattle.program_print.specs.Printing.{Laid, offeredLines}
 use Rattle.program_step.specs.Step.{Printable, answerLines, answerRoom}
 use Rattle.program.specs.Console.{topOf}
 use Rattle.answer.specs.declared.Completion.{Completion}

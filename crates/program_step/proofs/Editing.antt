@@ -3,15 +3,16 @@ use Prim.Native.Nat.{ℕ}
 use mathlib.Core.Path.{_≡_}
 use mathlib.Core.Bool.{Bool, not}
 use mathlib.Core.List.{List, _++_}
-use Rattle.octets.specs.Text.{text}
+use Rattle.octets.specs.Decimal.{decimal}
+use Rattle.octets.specs.Text.{lineFeed, text}
+use Rattle.octets_laws.specs.Printed.{Printed}
 use Rattle.ledger.specs.Ledger.{Edit}
 use Rattle.answer.specs.Answers.{onAnswer}
 use Rattle.answer.specs.Reports.{writtenOf}
 use Rattle.script_step.specs.Calls.{Performed}
 use Rattle.script.specs.Run.{Bench}
 use Rattle.script_step.proofs.Calling.{performed-bench}
-use Rattle.program.specs.Program.{decimal, edit, editLine, lineFeed, refusedLine}
-use Rattle.program_print.specs.Printing.{Printed}
+use Rattle.program.specs.Program.{edit, editLine, refusedLine}
 use Rattle.program_step.specs.Step.{StepDone}
 use Rattle.answer.specs.declared.Written.{Written}
 use Rattle.answer.specs.declared.Written.the-variants as written

@@ -4,10 +4,10 @@ use mathlib.Core.Path.{_≡_, refl}
 use mathlib.Core.Bool.{Bool, false, true}
 use mathlib.Core.List.{List}
 use lib.ListN.{length}
+use Rattle.octets_laws.specs.Printed.{Printed}
 use Rattle.script.specs.Run.{Bench, bench}
 use Rattle.program.specs.Program.{bad, badLine, commandOf, top}
 use Rattle.program_parse.specs.Parsing.{Asks, commandAs, restOf}
-use Rattle.program_print.specs.Printing.{Printed}
 use Rattle.program_step.specs.Step.{StepDone}
 use Rattle.program.specs.Console.{topOf}
 use Rattle.program_parse.specs.declared.ParsedLine.{ParsedLine}

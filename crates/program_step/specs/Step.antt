@@ -2,6 +2,7 @@
 use Prim.Native.Nat.{_*_, _+_, _≤_, ℕ}
 use mathlib.Core.Path.{_≡_}
 use mathlib.Core.List.{List}
+use Rattle.octets_laws.specs.Printed.{Printed}
 use Rattle.program.specs.Program as program
 use Rattle.entries.specs.Completion.{maxCount}
 use Rattle.completion.specs.Complete.{entryRoom}
@@ -9,7 +10,7 @@ use Rattle.completion.specs.Machine.{mostLooks}
 use Rattle.sheet.specs.Sheet.{sheetFrom}
 use Rattle.script.specs.Run.{Bench, bench}
 use Rattle.program.specs.Program.{refusedLine, topLines}
-use Rattle.program_print.specs.Printing.{Laid, Printed, entryLineRoom}
+use Rattle.program_print.specs.Printing.{Laid, entryLineRoom}
 use Rattle.answer.specs.declared.Completion.{Completion}
 use Rattle.answer.specs.declared.Completion.the-variants as answer
 use Rattle.program_step.specs.declared.LineReport.{LineReport}

@@ -5,11 +5,11 @@ use limits::ENTRY_ROOM;
 use limits::MAX_COUNT;
 ghost use Prim.Native.Nat.{_≤_};
 ghost use lib.ListN.{length};
+ghost use Rattle.octets_laws.specs.Printed.{Printed};
 ghost use Rattle.answer.specs.Reports.{writtenOf};
 ghost use Rattle.script_step.specs.Calls.{Small, editOf};
 ghost use Rattle.script.specs.Run.{bench};
 ghost use Rattle.program.specs.Program.{commandOf, edit, editLine, top};
-ghost use Rattle.program_print.specs.Printing.{Printed};
 ghost use Rattle.program_step.specs.Step.{Printable, StepDone, answerLines, lineRoom};
 ghost use Rattle.program.specs.Console.{topOf};
 

@@ -29,6 +29,9 @@ use Rattle.sheet.specs.Sheet.{buildBook, listBook}
 use Rattle.sheet.proofs.Reading.{sheet-exact}
 use Rattle.sheet.proofs.RoundTrip.{round-trips}
 use Rattle.sheet.proofs.Size.{sheet-length}
+use Rattle.page.specs.Page.{writePage}
+use Rattle.page.proofs.Lines.{page-length}
+use Rattle.page.proofs.Shows.{page-shows}
 use Rattle.panel.specs.Panel.{press}
 use Rattle.panel.proofs.Highlight.{appends-sign, erases-a-sign, holds-its-name, stays-on-its-name}
 use Rattle.panel.proofs.Refused.{press-refused}
@@ -47,7 +50,7 @@ use Rattle.promises.proofs.Writes.{declines, offers, writes}
 
 pub promises : Promises
 unfolding emptyBook setEntry withdrawEntry completeBookWithin writeTrie completeTrieWithin buildBook listBook checkBook
-    find nameAt nameOf prefixRange headLength press mergeBooks runOf
+    find nameAt nameOf prefixRange headLength press mergeBooks runOf writePage
 promises =
     record {
       emptying = writes _ _ _ (λ dst. refl);
@@ -110,4 +113,7 @@ promises =
       looksAtMost = most-looks;
       sameWithin = same-within;
       asUnderSixteen = as-under-sixteen;
+      pageShows = page-shows;
+      paging = λ book. writes _ _ _ (λ dst. refl);
+      pageLength = page-length;
     }

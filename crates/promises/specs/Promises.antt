@@ -1,4 +1,4 @@
--- Every promise on one page: the three demands and requests a to d, in the order and words of documents 01 and 02. One
+-- Every promise on one page: the three demands and requests a to e, in the order and words of documents 01 and 02. One
 -- value proves them all, `promises` in proofs/Promises.antt.
 use Prim.Native.Nat.{_*_, _+_, _≤_, ℕ}
 use mathlib.Core.Path.{_≡_}
@@ -22,6 +22,8 @@ use Rattle.trie.specs.Calls.{completeTrie, writeTrie}
 use Rattle.trie.specs.Reading.{readTrie}
 use Rattle.trie.specs.Trie.{trieImage}
 use Rattle.sheet.specs.Sheet.{RoundTrips, buildBook, inSheet, listBook, readSheet, sheetImage}
+use Rattle.page.specs.Page.{pageImage, writePage}
+use Rattle.page.specs.Shows.{PageShows}
 use Rattle.panel.specs.declared.Panel.{Panel}
 use Rattle.panel.specs.Panel.{appends, isHeld, isListed, isTyped, keyBytes, press}
 use Rattle.panel.specs.Signs.{Appends, ErasesASign}
@@ -188,3 +190,12 @@ pub record Promises : Type 0 where
   -- answers, bytes and looks, and so with nine and with sixteen, the limit before.
   pub sameWithin : (limit limit′ : ℕ) → SameWithin limit limit′
   pub asUnderSixteen : AsUnderSixteen
+  -- REQUEST E. A page is lines of exactly 40 bytes and a line feed: the heading and then the lines of each entry, once
+  -- each, in rank; an entry's name columns, joined and cut to the name's length, are its name, and the right-aligned
+  -- field of its first line, read as a number, is its score.
+  pub pageShows : (es : List Entry) → valid es ≡ true → PageShows es
+  -- A short destination gives 7.
+  pub paging :
+      (book : List ℕ) → Writes (λ dst. noBook book ∷ noRoom dst (pageImage (inBook book)) ∷ []) (writePage book)
+  -- A page never exceeds 84,009 bytes.
+  pub pageLength : (es : List Entry) → valid es ≡ true → length (pageImage es) ≤ 84009

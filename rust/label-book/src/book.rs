@@ -3,7 +3,7 @@ use crate::c::{Panel, Range};
 use crate::calls::{self, Found, Written};
 use crate::entries::{entries, Entries};
 use crate::refusal::Refusal;
-use crate::{BOOK_MAX, COUNT_MAX, ENTRY_MAX, SHEET_MAX, TRIE_MAX};
+use crate::{BOOK_MAX, COUNT_MAX, ENTRY_MAX, PAGE_MAX, SHEET_MAX, TRIE_MAX};
 use std::fmt;
 
 /// A book, with room for every book: an edit writes the new book into a second buffer, and the two
@@ -132,23 +132,40 @@ impl Book {
 
     /// The sheet of its entries.
     pub fn sheet(&self) -> Vec<u8> {
-        self.image_of(SHEET_MAX, calls::list)
+        self.made(SHEET_MAX, calls::list)
+    }
+
+    /// The page of its entries for the wall, as text: the heading line, then the entries in rank,
+    /// in lines of 40 bytes and a line feed. A `µ` or `Ω` may be split over two lines, so not every
+    /// page is UTF-8: write it as bytes.
+    ///
+    /// ```
+    /// let mut book = label_book::Book::new();
+    /// book.set(b"rc", 9)?;
+    /// let heading = "NAME                               SCORE\n";
+    /// let line = "rc                                     9\n";
+    /// assert_eq!(book.page(), [heading, line].concat().as_bytes());
+    /// # Ok::<(), label_book::Refusal>(())
+    /// ```
+    pub fn page(&self) -> Vec<u8> {
+        self.made(PAGE_MAX, calls::page)
     }
 
     /// The trie of its entries.
     pub fn trie(&self) -> Vec<u8> {
-        self.image_of(TRIE_MAX, calls::write_trie)
+        self.made(TRIE_MAX, calls::write_trie)
     }
 
-    fn image_of(
+    /// What a call makes of it, at most so many bytes.
+    fn made(
         &self,
         most: usize,
         call: impl FnOnce(&[u8], &mut [u8]) -> Result<Written, Refusal>,
     ) -> Vec<u8> {
-        let mut image = vec![0; most];
-        let told = call(&self.held, &mut image).expect("it is a book, and its image fits");
-        image.truncate(told.bytes);
-        image
+        let mut made = vec![0; most];
+        let told = call(&self.held, &mut made).expect("it is a book, and what is made of it fits");
+        made.truncate(told.bytes);
+        made
     }
 }
 

@@ -218,6 +218,17 @@ pub fn list(book: &[u8], dst: &mut [u8]) -> Result<Written, Refusal> {
     written(|e, b| unsafe { c::label_book_list(book.as_ptr(), book.len(), at, len, e, b) })
 }
 
+/// Writes the page of a book's entries for the wall, as text: the heading line, then the lines of
+/// each entry, in rank, of 40 bytes and a line feed each; `docs/FORMAT.md` shows one. It has at
+/// most [`PAGE_MAX`](crate::PAGE_MAX) bytes.
+///
+/// # Errors
+/// [`Refusal::NotLaidOut`], [`Refusal::TooShort`].
+pub fn page(book: &[u8], dst: &mut [u8]) -> Result<Written, Refusal> {
+    let (at, len) = (dst.as_mut_ptr(), dst.len());
+    written(|e, b| unsafe { c::label_book_page(book.as_ptr(), book.len(), at, len, e, b) })
+}
+
 /// Writes the trie of a book's entries.
 ///
 /// # Errors

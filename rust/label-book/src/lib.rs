@@ -53,7 +53,7 @@ mod refusal;
 pub use book::{Book, Completion};
 pub use c::{Panel, Range};
 pub use calls::{build, check, complete, complete_trie, empty, find, head, list, merge};
-pub use calls::{name_at, name_of, prefix_range, press, run, set, withdraw, write_trie};
+pub use calls::{name_at, name_of, page, prefix_range, press, run, set, withdraw, write_trie};
 pub use calls::{Found, Offered, Played, Span, Written};
 pub use entries::{entries, Entries, Entry};
 pub use refusal::Refusal;
@@ -77,6 +77,8 @@ pub const BOOK_MAX: usize = 55_559;
 pub const SHEET_MAX: usize = 54_279;
 /// No trie is longer, as `docs/FORMAT.md` argues.
 pub const TRIE_MAX: usize = 70_759;
+/// No page is longer.
+pub const PAGE_MAX: usize = 84_009;
 
 /// The keys of a panel besides 20 to 7E, which append themselves.
 pub mod key {

@@ -17,6 +17,7 @@ pub enum Request {
     Set { file: PathBuf, score: u32, name: Vec<u8> },
     Withdraw { file: PathBuf, name: Vec<u8> },
     Top { file: Source, count: usize, prefix: Vec<u8> },
+    Page { file: Source },
     Merge { file: PathBuf, other: Source },
     MergeInto { file: Source, other: Source, out: Target, force: bool },
     Trie { file: Source, out: Target, force: bool },
@@ -34,7 +35,7 @@ pub struct Command {
     request: fn(Given) -> Result<Request, String>,
 }
 
-pub static COMMANDS: [Command; 8] = [
+pub static COMMANDS: [Command; 9] = [
     command("check", help::CHECK, &["FILE"], check),
     command("list", help::LIST, &["FILE"], list),
     Command {
@@ -45,6 +46,7 @@ pub static COMMANDS: [Command; 8] = [
     command("set", help::SET, &["FILE", "SCORE", "NAME"], set),
     command("withdraw", help::WITHDRAW, &["FILE", "NAME"], withdraw),
     Command { needed: 2, ..command("top", help::TOP, &["FILE", "K", "PREFIX"], top) },
+    command("page", help::PAGE, &["FILE"], page),
     Command {
         takes_out: true,
         takes_force: true,
@@ -214,6 +216,10 @@ fn top(mut given: Given) -> Result<Request, String> {
         format!("K is a whole number from 1 to {}, not {}", label_book::COUNT_MAX, quoted(&text))
     })?;
     Ok(Request::Top { file, count, prefix: given.next_bytes() })
+}
+
+fn page(mut given: Given) -> Result<Request, String> {
+    Ok(Request::Page { file: given.next_source() })
 }
 
 fn merge(mut given: Given) -> Result<Request, String> {

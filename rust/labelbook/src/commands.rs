@@ -20,6 +20,7 @@ pub fn run(request: Request) -> Result<(), Failure> {
         Request::Set { file, score, name } => edit(&file, |book| book.set(&name, score)),
         Request::Withdraw { file, name } => edit(&file, |book| book.withdraw(&name)),
         Request::Top { file, count, prefix } => top(&file, count, &prefix),
+        Request::Page { file } => print(&file.book()?.book.page()),
         Request::Merge { file, other } => merge(&file, &other),
         Request::MergeInto { file, other, out, force } => merge_into(&file, &other, &out, force),
         Request::Trie { file, out, force } => trie(&file, &out, force),

@@ -10,6 +10,7 @@ panel offers the names with the highest scores that begin with what a student ha
   labelbook set FILE SCORE NAME         adds a name, or gives it a new score
   labelbook withdraw FILE NAME          takes a name out
   labelbook top FILE K [PREFIX]         the best K names that begin with PREFIX
+  labelbook page FILE                   the page for the wall: all names, the highest score first
   labelbook merge FILE OTHER [-o OUT]   adds the names of the book OTHER
   labelbook trie FILE OUT               makes the book's trie, for panels that use one
   labelbook help [COMMAND]              this text, or more about a command
@@ -124,6 +125,25 @@ SCORE NAME, the highest score first. Without PREFIX it is the best of all names.
 the trie of one, which gives the same lines. - as FILE is standard input.
 
 Refused: 1, FILE is neither; 2, PREFIX is not allowed; 3, K is not 1 to 9.
+";
+
+pub const PAGE: &str = "\
+labelbook page FILE
+
+Prints the page for the wall: all names of the book in FILE, the highest score first, at equal
+scores the earlier name first.
+
+  NAME                               SCORE
+  rl                                    12
+  rc                                     9
+  rc step                                9
+
+  labelbook page term.book | lp
+
+Every line has 40 bytes: 28 of the name, two spaces, and 10 of the score. A longer name goes on in a
+further line. µ and Ω are two bytes each: a line looks shorter by one sign for each, and where the
+28 bytes end inside one, its halves stand on two lines and cannot be read.
+- as FILE is standard input.
 ";
 
 pub const MERGE: &str = "\

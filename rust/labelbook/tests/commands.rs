@@ -3,13 +3,14 @@ mod common;
 
 use common::{book_of, lines_of, long_names, run_all, Desk, BOOK, EMPTY_BOOK, LINES, TRIE};
 use common::{A_TRIE, FULL, NOT_ALLOWED, NOT_A_BOOK, NOT_A_COUNT, NOT_HELD};
-use label_book::COUNT_MAX;
+use label_book::{COUNT_MAX, PAGE_MAX};
 use label_book_tests::random::Random;
 use std::collections::BTreeMap;
 use std::ffi::{OsStr, OsString};
 use std::os::unix::ffi::{OsStrExt, OsStringExt};
 
-const COMMANDS: [&str; 8] = ["check", "list", "build", "set", "withdraw", "top", "merge", "trie"];
+const COMMANDS: [&str; 9] =
+    ["check", "list", "build", "set", "withdraw", "top", "page", "merge", "trie"];
 
 fn main() {
     run_all(&[
@@ -21,6 +22,8 @@ fn main() {
         ("set", set),
         ("withdraw", withdraw),
         ("top", top),
+        ("page", page),
+        ("page of long names", page_of_long_names),
         ("merge", merge),
         ("merge with bytes behind", merge_with_bytes_behind),
         ("merge into another file", merge_into),
@@ -58,7 +61,7 @@ fn usage(desk: &Desk) {
         wrong_usage(desk, &[command, "--all", "x"], &no_option);
         wrong_usage(desk, &[command], "FILE is missing");
         let extra = match command {
-            "check" | "list" => "1",
+            "check" | "list" | "page" => "1",
             "set" | "top" => "rc step",
             _ => "2",
         };
@@ -254,6 +257,82 @@ fn top(desk: &Desk) {
         desk.prints(&["top", file, "9"], lines_of(&entries[..9]));
         desk.fails(&["top", file, "10"], 3, &format!("{file}: {NOT_A_COUNT}"));
     }
+}
+
+const HEADING: &str = "NAME                               SCORE\n";
+
+/// The page of entries that stand in rank.
+fn page_of<N: AsRef<[u8]>>(entries: &[(u32, N)]) -> Vec<u8> {
+    let mut page = HEADING.as_bytes().to_vec();
+    for (score, name) in entries {
+        let mut score = score.to_string();
+        for part in name.as_ref().chunks(28) {
+            page.extend_from_slice(part);
+            page.extend(std::iter::repeat_n(b' ', 28 - part.len()));
+            page.extend_from_slice(format!("{score:>12}\n").as_bytes());
+            score.clear();
+        }
+    }
+    page
+}
+
+fn page(desk: &Desk) {
+    let lines = [
+        HEADING,
+        "rl                                    12\n",
+        "rc                                     9\n",
+        "rc step                                9\n",
+        "ac                                     5\n",
+    ];
+    let page = lines.concat();
+    desk.write("a.book", &BOOK);
+    desk.prints(&["page", "a.book"], &page);
+    desk.run(&["page", "-"]).input(BOOK).gives(0, &page, "");
+    desk.write("more.book", &[&BOOK[..], b"more"].concat());
+    desk.prints(&["page", "more.book"], &page);
+    desk.write("empty.book", &EMPTY_BOOK);
+    desk.prints(&["page", "empty.book"], HEADING);
+    desk.write("a.trie", &TRIE);
+    desk.fails(&["page", "a.trie"], 1, &format!("a.trie: {NOT_A_BOOK}; {A_TRIE}"));
+    desk.run(&["page", "-"]).input(&page).fails(desk, 1, &format!("standard input: {NOT_A_BOOK}"));
+    desk.fails(&["page", "b.book"], 74, "b.book: No such file or directory (os error 2)");
+    // What the help shows is the front of it.
+    let help = String::from_utf8(desk.run(&["help", "page"]).outcome().out).unwrap();
+    let shown: String = lines[..4].iter().map(|line| format!("  {line}")).collect();
+    assert!(help.contains(&format!("\n\n{shown}\n")), "{help}");
+}
+
+/// Names of 28 bytes have one line, longer ones two; signs are split where the 28 bytes end.
+fn page_of_long_names(desk: &Desk) {
+    let a = "a".repeat(27);
+    let names = [a.clone(), format!("{a}a"), format!("{a}aa"), format!("{a}µF"), format!("{a}aΩ")];
+    let longest = "n".repeat(48);
+    let mut entries: Vec<(u32, &str)> = vec![(u32::MAX, &longest)];
+    entries.extend(names.iter().map(|name| (7, &name[..])));
+    entries.push((0, "10 µF"));
+    desk.write("a.book", book_of(&entries).image());
+    let wanted: [&[u8]; 12] = [
+        HEADING.as_bytes(),
+        b"nnnnnnnnnnnnnnnnnnnnnnnnnnnn  4294967295\n",
+        b"nnnnnnnnnnnnnnnnnnnn                    \n",
+        b"aaaaaaaaaaaaaaaaaaaaaaaaaaa            7\n",
+        b"aaaaaaaaaaaaaaaaaaaaaaaaaaaa           7\n",
+        b"aaaaaaaaaaaaaaaaaaaaaaaaaaaa           7\n",
+        b"a                                       \n",
+        b"aaaaaaaaaaaaaaaaaaaaaaaaaaaa           7\n",
+        b"\xCE\xA9                                      \n",
+        b"aaaaaaaaaaaaaaaaaaaaaaaaaaa\xC2           7\n",
+        b"\xB5F                                      \n",
+        b"10 \xC2\xB5F                                 0\n",
+    ];
+    desk.prints(&["page", "a.book"], wanted.concat());
+
+    let mut entries = long_names(1024);
+    desk.write("full.book", book_of(&entries).image());
+    entries.sort_by_key(|entry| std::cmp::Reverse(entry.0));
+    let page = page_of(&entries);
+    assert_eq!(page.len(), PAGE_MAX);
+    desk.prints(&["page", "full.book"], page);
 }
 
 fn merge(desk: &Desk) {
@@ -485,9 +564,11 @@ fn a_term(desk: &Desk) {
             }
         }
     }
-    let held: Vec<(u32, &String)> = held.iter().map(|entry| (*entry.1, entry.0)).collect();
+    let mut held: Vec<(u32, &String)> = held.iter().map(|entry| (*entry.1, entry.0)).collect();
     desk.prints(&["list", "a.book"], lines_of(&held));
     assert_eq!(desk.read("a.book"), book_of(&held).image());
+    held.sort_by_key(|entry| (std::cmp::Reverse(entry.0), entry.1));
+    desk.prints(&["page", "a.book"], page_of(&held));
 }
 
 /// Words in any order: the program ends with a status that is documented, one line or two of

@@ -57,6 +57,7 @@ fn every_command_refuses(desk: &Desk, image: &[u8]) {
         &["set", "a.book", "1", "rc"],
         &["withdraw", "a.book", "rc"],
         &["top", "a.book", "1"],
+        &["page", "a.book"],
         &["merge", "a.book", "b.book"],
         &["merge", "b.book", "a.book"],
         &["merge", "b.book", "a.book", "-o", "c.book"],
@@ -186,6 +187,7 @@ fn folders_and_pipes(desk: &Desk) {
             &["set", file, "1", "a"],
             &["withdraw", file, "a"],
             &["top", file, "1"],
+            &["page", file],
             &["merge", file, "b.book"],
             &["merge", "b.book", file],
             &["merge", file, "b.book", "-o", "-"],
@@ -308,10 +310,11 @@ fn paths(desk: &Desk) {
 }
 
 /// Commands that write to standard output.
-const PRINTING: [&[&str]; 9] = [
+const PRINTING: [&[&str]; 10] = [
     &["check", "a.book"],
     &["list", "a.book"],
     &["top", "a.book", "1"],
+    &["page", "a.book"],
     &["trie", "a.book", "-"],
     &["merge", "a.book", "a.book", "-o", "-"],
     &["build", "-"],

@@ -350,6 +350,7 @@ fn bytes_read(desk: &Desk) {
     for (arguments, most) in [
         (&["check", "long.book"][..], most),
         (&["list", "long.book"], most),
+        (&["page", "long.book"], most),
         (&["withdraw", "long.book", "zz"], most),
         (&["top", "long.book", "3"], label_book::TRIE_MAX as i64 + 1),
         (&["build", "new.book", "long.book"], 8_192),

@@ -1,7 +1,7 @@
 //! How long each call takes at three sizes, in one run with warm buffers: the static library, the
 //! same call in plain safe Rust over the same image with the same checks (`plain`), and one scan of
 //! the image's bytes.
-use label_book::{key, Panel, Range, COUNT_MAX};
+use label_book::{key, Panel, Range, COUNT_MAX, PAGE_MAX};
 use label_book_tests::calls;
 use label_book_tests::make::{self, Names, Places, Scores};
 use label_book_tests::plain;
@@ -10,7 +10,8 @@ use label_book_tests::reference::{book, sheet, Entries, MOST_ENTRIES};
 use std::hint::black_box;
 use std::time::Instant;
 
-const LONG_BUFFER: usize = 70_000;
+/// As long as the longest page; no image is longer.
+const LONG_BUFFER: usize = PAGE_MAX;
 const BATCHES: usize = 15;
 const BATCH_NANOSECONDS: u128 = 2_000_000;
 
@@ -109,7 +110,7 @@ macro_rules! reads {
 
 fn size(n: usize) {
     let held = make::entries(&mut Random::new(3), n, Names::Mixed, Scores::Any);
-    let (image, page) = (&book::image(&held)[..], &sheet::image(&held)[..]);
+    let (image, sheet) = (&book::image(&held)[..], &sheet::image(&held)[..]);
     let (held_name, new_name) = two_names(&held);
     let (name, prefix) = (&held_name[..], &held_name[..1]);
     let set_name = if n == MOST_ENTRIES { name } else { &new_name };
@@ -123,8 +124,9 @@ fn size(n: usize) {
     writes!(name_of, n, image, image, name);
     reads!(prefix_range, n, image, image, prefix);
     reads!(head, n, image, image, n / 16);
-    writes!(build, n, page, page);
+    writes!(build, n, sheet, sheet);
     writes!(list, n, image, image);
+    writes!(page, n, image, image);
     {
         let mut ranges = [Range::default(); COUNT_MAX];
         let (mut one, mut two) = (vec![0; LONG_BUFFER], vec![0; LONG_BUFFER]);

@@ -1,8 +1,10 @@
 //! The calls again, written straightforwardly in safe Rust over the image where it lies, with the
 //! same checks: what the benchmark compares the static library with. The comparison runs them too.
+mod page;
 mod panel;
 mod trie;
 
+pub use page::page;
 pub use panel::press;
 pub use trie::{complete_trie, write_trie};
 
@@ -293,6 +295,23 @@ impl<'a> Book<'a> {
     ) -> Written {
         write_book(dst, |each| self.each_spliced(place, skip, fresh, each))
     }
+}
+
+/// A name of the book and its score.
+struct Row {
+    name: Name,
+    score: u32,
+}
+
+fn rows_of(book: &Book) -> Vec<Row> {
+    let mut rows = Vec::with_capacity(book.n);
+    let mut name = Name::new();
+    let mut at = records_at(book.n);
+    for i in 0..book.n {
+        at = book.unpack(i, at, &mut name);
+        rows.push(Row { name, score: book.score(i) });
+    }
+    rows
 }
 
 /// A pass over the entries of a book: the position where it stands, the place behind its record,

@@ -215,6 +215,11 @@ pub fn list(book: &[u8], dst: &mut [u8]) -> Written {
     write(entries.len(), &sheet::image(&entries), dst)
 }
 
+pub fn page(book: &[u8], dst: &mut [u8]) -> Written {
+    let entries = book::read(book).ok_or(IMAGE)?;
+    write(entries.len(), &page::bytes(&entries), dst)
+}
+
 pub fn write_trie(book: &[u8], dst: &mut [u8]) -> Written {
     let entries = book::read(book).ok_or(IMAGE)?;
     write(entries.len(), &trie::image(&entries), dst)

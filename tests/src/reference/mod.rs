@@ -4,6 +4,7 @@
 pub mod book;
 pub mod calls;
 pub mod ledger;
+pub mod page;
 pub mod panel;
 pub mod program;
 pub mod script;

@@ -1,5 +1,6 @@
 //! The cases that the documents work out.
 mod counts;
+mod pages;
 mod signs;
 
 use super::calls::*;

@@ -1,4 +1,5 @@
 //! Histories, call by call and whole, and long ones.
+use super::pages::page_of;
 use super::{lists, LONG_BUFFER};
 use label_book_tests::calls::Told;
 use label_book_tests::compare::{told_written, Compare};
@@ -114,6 +115,7 @@ pub fn history(
     assert_eq!(left[..2], played.buffers, "the run's buffers");
     assert!(left[2].starts_with(&played.answers), "the run's answers");
     lists(compare, random, &left[played.turned], &ledger.held);
+    page_of(compare, random, &left[played.turned], &ledger.held);
 }
 
 /// The calls of a history one after the other: each call's answer is the ledger's, and the book is
@@ -176,4 +178,5 @@ pub fn long_history(
     };
     let (_, left) = compare.run_as(&played.script, played.lent(&out), ledgers_run);
     lists(compare, random, &left[played.turned], &ledger.held);
+    page_of(compare, random, &left[played.turned], &ledger.held);
 }

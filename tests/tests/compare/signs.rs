@@ -7,10 +7,6 @@ use label_book_tests::reference::is_prefix;
 const NAMES: [(&str, u32); 6] =
     [("10 µA", 4), ("10 µF", 5), ("4.7 kΩ", 9), ("µ", 2), ("µA", 7), ("Ω", 3)];
 
-fn entries(of: &[(&str, u32)]) -> Entries {
-    of.iter().map(|(name, score)| (name.as_bytes().to_vec(), *score)).collect()
-}
-
 pub fn worked(compare: &mut Compare) {
     names(compare);
     images(compare);

@@ -1,7 +1,7 @@
 //! Books that own their buffers, against the calls on two buffers of the same edits.
 use super::{told, Package};
 use label_book::{entries, Book, Entry, Panel, Range, Refusal};
-use label_book::{BOOK_MAX, COUNT_MAX, ENTRIES_MAX, ENTRY_MAX, SHEET_MAX, TRIE_MAX};
+use label_book::{BOOK_MAX, COUNT_MAX, ENTRIES_MAX, ENTRY_MAX, PAGE_MAX, SHEET_MAX, TRIE_MAX};
 use label_book_tests::calls::{self as raw, Told};
 use label_book_tests::make::{self, Names, Scores, NAMES};
 use label_book_tests::random::Random;
@@ -76,12 +76,14 @@ impl Both {
         let expected = raw::press(&self.held, &mut raw_panel, key);
         package.case((pressed, panel) == (expected, raw_panel), "a key on a book");
         self.complete(package, name, make::count(random));
-        let mut image = vec![0; TRIE_MAX];
-        let (_, [_, bytes, _]) = raw::write_trie(&self.held, &mut image);
-        package.case(self.book.trie() == image[..bytes as usize], "a book's trie");
-        let mut image = vec![0; SHEET_MAX];
-        let (_, [_, bytes, _]) = raw::list(&self.held, &mut image);
-        package.case(self.book.sheet() == image[..bytes as usize], "a book's sheet");
+        let mut wrote = |most: usize, call: fn(&[u8], &mut [u8]) -> Told, bytes: &[u8], what| {
+            let mut dst = vec![0; most];
+            let (number, [_, length, _]) = call(&self.held, &mut dst);
+            package.case(number == 0 && bytes == &dst[..length as usize], what);
+        };
+        wrote(TRIE_MAX, raw::write_trie, &self.book.trie(), "a book's trie");
+        wrote(SHEET_MAX, raw::list, &self.book.sheet(), "a book's sheet");
+        wrote(PAGE_MAX, raw::page, &self.book.page(), "a book's page");
     }
 
     fn complete(&self, package: &mut Package, prefix: &[u8], k: usize) {

@@ -1,7 +1,7 @@
-//! The 17 functions, each against its C name, on books of many sizes and on damaged ones.
+//! The 18 functions, each against its C name, on books of many sizes and on damaged ones.
 use super::Package;
 use label_book::{self as package, Panel, Range, Written};
-use label_book::{BOOK_MAX, COUNT_MAX, ENTRY_MAX, NAME_MAX, SHEET_MAX, TRIE_MAX};
+use label_book::{BOOK_MAX, COUNT_MAX, ENTRY_MAX, NAME_MAX, PAGE_MAX, SHEET_MAX, TRIE_MAX};
 use label_book_tests::calls as raw;
 use label_book_tests::make::{self, NAMES, SCORES};
 use label_book_tests::random::Random;
@@ -40,6 +40,9 @@ fn images(package: &mut Package, random: &mut Random, book: &[u8], sheet: &[u8])
             package.writes("build", room, |d| package::build(sheet, d), |d| raw::build(sheet, d));
         }
         package.writes("list", room, |d| package::list(book, d), |d| raw::list(book, d));
+    }
+    for room in [PAGE_MAX, random.below(42)] {
+        package.writes("page", room, |d| package::page(book, d), |d| raw::page(book, d));
     }
     for room in [TRIE_MAX, random.below(9)] {
         let raw = |d: &mut [u8]| raw::write_trie(book, d);

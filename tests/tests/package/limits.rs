@@ -1,10 +1,10 @@
 //! The package's numbers are the library's: what is just within each is accepted, and what is just
 //! past it is refused.
 use super::Package;
-use label_book::{build, check, complete, complete_trie, key, list, name_at, set, write_trie};
-use label_book::{Book, Panel, Range, Refusal, Written};
+use label_book::{build, check, complete, complete_trie, key, list, name_at, page, set};
+use label_book::{write_trie, Book, Panel, Range, Refusal, Written};
 use label_book::{BOOK_MAX, COUNT_MAX, ENTRIES_MAX, ENTRY_MAX, FRONT, NAME_MAX};
-use label_book::{PANEL_ROWS, SHEET_MAX, TRIE_MAX};
+use label_book::{PAGE_MAX, PANEL_ROWS, SHEET_MAX, TRIE_MAX};
 use label_book_tests::make;
 use label_book_tests::reference::{sheet, Entries};
 
@@ -48,6 +48,7 @@ fn full_book() -> Book {
 fn sums(package: &mut Package) {
     package.case(ENTRY_MAX == 1 + NAME_MAX + 4, "length byte, name, score");
     package.case(SHEET_MAX == FRONT + ENTRY_MAX * ENTRIES_MAX, "a sheet's entries");
+    package.case(PAGE_MAX == 41 * (1 + 2 * ENTRIES_MAX), "the heading, two lines for each entry");
     let (buckets, blocks) = (ENTRIES_MAX / 8, ENTRIES_MAX / 16);
     let records = buckets * (1 + NAME_MAX) + (ENTRIES_MAX - buckets) * (2 + NAME_MAX);
     let tables = 4 * ENTRIES_MAX + 2 * buckets + 2 * blocks;
@@ -129,12 +130,15 @@ fn looks(package: &mut Package) {
     package.case(best.looks() == 2 * COUNT_MAX - 1, "as many looks as can be");
 }
 
-/// Full images of 48-byte names: the longest sheet, and no book or trie too long.
+/// Full images of 48-byte names: the longest sheet and page, and no book or trie too long.
 fn images(package: &mut Package, full: &Book) {
     let sheet = full.sheet();
     package.case(sheet.len() == SHEET_MAX, "the longest sheet");
     let short = list(full.image(), &mut vec![0; SHEET_MAX - 1]);
     package.case(short == Err(Refusal::TooShort), "a byte less than the longest sheet");
+    package.case(full.page().len() == PAGE_MAX, "the longest page");
+    let short = page(full.image(), &mut vec![0; PAGE_MAX - 1]);
+    package.case(short == Err(Refusal::TooShort), "a byte less than the longest page");
     let written = build(&sheet, &mut vec![0; BOOK_MAX]);
     package.case(written == check(full.image()), "room for the book of the longest sheet");
     let trie = write_trie(full.image(), &mut vec![0; TRIE_MAX]);

@@ -2,12 +2,13 @@
 //! damaged tries; every call on them, refused ones included.
 use super::measure::Measure;
 use label_book::{key, Book, Panel, PANEL_ROWS};
-use label_book::{BOOK_MAX, COUNT_MAX, ENTRIES_MAX, ENTRY_MAX, NAME_MAX, SHEET_MAX, TRIE_MAX};
+use label_book::{BOOK_MAX, COUNT_MAX, ENTRIES_MAX, ENTRY_MAX};
+use label_book::{NAME_MAX, PAGE_MAX, SHEET_MAX, TRIE_MAX};
 use label_book_tests::make::{self, NAMES, SCORES};
 use label_book_tests::random::Random;
 use label_book_tests::reference::calls::rows;
 use label_book_tests::reference::script::{self, Call, Kind, ANSWER};
-use label_book_tests::reference::{book, sheet, Entries};
+use label_book_tests::reference::{book, page, sheet, Entries};
 
 const SIZES: [usize; 11] = [0, 1, 2, 7, 8, 9, 16, 17, 129, 1023, 1024];
 const ANSWER_ROOM: usize = COUNT_MAX * ENTRY_MAX;
@@ -22,6 +23,7 @@ pub fn all(measure: &mut Measure, seed: u64) {
     damaged_tries(measure, random);
     places(measure);
     merges(measure, random);
+    pages(measure);
     panels(measure);
     scripts(measure, random);
 }
@@ -72,6 +74,9 @@ fn every_call(measure: &mut Measure, random: &mut Random, held: &Entries, images
     }
     for room in [TRIE_MAX, random.below(TRIE_MAX)] {
         measure.write_trie(book, room);
+    }
+    for room in [PAGE_MAX, random.below(PAGE_MAX)] {
+        measure.page(book, room);
     }
     for _ in 0..4 {
         let name = make::asked(random, held);
@@ -286,6 +291,20 @@ fn merges(measure: &mut Measure, random: &mut Random) {
     let books = nested_books().map(|held| book::image(&held));
     for (first, second) in books.iter().flat_map(|a| books.iter().map(move |b| (a, b))) {
         measure.merge(first, second, BOOK_MAX);
+    }
+}
+
+/// Pages of many names, of one line and of two, with scores of every shape; the destination has
+/// room, or a byte too little.
+fn pages(measure: &mut Measure) {
+    measure.kind = "pages of many names";
+    for (n, length) in [512, 513, 1024].iter().flat_map(|&n| [28, 29, 48].map(|to| (n, to))) {
+        for (_, score) in SHAPES {
+            let held = scored(make::numbers(n, length), |i| score(i, n));
+            let (book, bytes) = (book::image(&held), page::bytes(&held).len());
+            measure.page(&book, bytes);
+            measure.page(&book, bytes - 1);
+        }
     }
 }
 

@@ -11,8 +11,8 @@ pub struct Most {
     pub kind: &'static str,
 }
 
-/// Room for every image, and for the answers of a script of 10,000 calls.
-const ROOM: usize = 71_000;
+/// Room for every image and page, and for the answers of a script of 10,000 calls.
+const ROOM: usize = 85_000;
 
 pub struct Measure {
     stack: Painted,
@@ -149,6 +149,13 @@ impl Measure {
         let given: [&[usize]; 1] = [&source(book)];
         self.writes("label_book_list", c::label_book_list as _, &given, room, |dst| {
             calls::list(book, dst)
+        });
+    }
+
+    pub fn page(&mut self, book: &[u8], room: usize) {
+        let given: [&[usize]; 1] = [&source(book)];
+        self.writes("label_book_page", c::label_book_page as _, &given, room, |dst| {
+            calls::page(book, dst)
         });
     }
 

@@ -26,8 +26,8 @@ begin c = c .before .before .before .before
 abbrev begin-of-records-at : tie.After-records-at Inv-loop μ-loop → tie.Start Inv-loop μ-loop
 begin-of-records-at c = begin (c .before)
 
-abbrev after-copy-arg : tie.After-slice-known4 Inv-loop μ-loop → tie.After-copy-arg Inv-loop μ-loop
-after-copy-arg c = c .before .before .before .before
+abbrev after-put-row-arg : tie.After-slice-known4 Inv-loop μ-loop → tie.After-put-row-arg Inv-loop μ-loop
+after-put-row-arg c = c .before .before .before .before
 
 -- the entry, from the loop's head
 abbrev start : tie.At-loop Inv-loop μ-loop → tie.Start Inv-loop μ-loop
@@ -69,32 +69,25 @@ low r = let k = turn r in omega (arith, k .loop-test .taken, held-few (start (k 
 add-len : tie.Need-add-len Inv-loop μ-loop
 add-len c = omega (arith, given (c .before .before) .small)
 
--- where the name is lent: the record read
-abbrev read : tie.After-copy-arg Inv-loop μ-loop → tie.After-read-name Inv-loop μ-loop
+-- where the row is lent: the record read
+abbrev read : tie.After-put-row-arg Inv-loop μ-loop → tie.After-read-name Inv-loop μ-loop
 read p = p .before .before .before
 
-mul-copy : tie.Need-mul-copy Inv-loop μ-loop
-mul-copy c = omega (arith, low (read c))
+mul-put-row : tie.Need-mul-put-row Inv-loop μ-loop
+mul-put-row c = omega (arith, low (read c))
 
-array-share-prefix-name : tie.Need-array-share-prefix-name Inv-loop μ-loop
-array-share-prefix-name c = omega (arith, given (read c) .small, given (read c) .next .long)
+slice-aggregate-put-row : tie.Need-slice-aggregate-put-row Inv-loop μ-loop
+slice-aggregate-put-row c = search needs
 
--- the name's bytes are as many as its parts say
-taken :
-    (c : tie.After-copy-arg Inv-loop μ-loop)
-    → let p = read c .read-name .result in
-    length (take (p .kept + p .own) (read c .read-name .last .1 .1 .1 .0)) ≡ p .kept + p .own
-taken c = length-take-le _ _ (omega (arith, given (read c) .small, given (read c) .next .long))
+put-row-requires : tie.Need-put-row-requires Inv-loop μ-loop
+put-row-requires c κs =
+    let r = read (c .before) in
+    let k = turn r in
+    (given r .next .long, omega (arith, k .loop-test .taken, k .before .loop .inv .room .rows))
 
-slice-aggregate-copy : tie.Need-slice-aggregate-copy Inv-loop μ-loop
-slice-aggregate-copy c = sym (taken (c .before))
-
-copy-requires : tie.Need-copy-requires Inv-loop μ-loop
-copy-requires c κs = tt
-
--- behind the copy: the record read
+-- behind the row: the record read
 abbrev copied : tie.After-slice-known4 Inv-loop μ-loop → tie.After-read-name Inv-loop μ-loop
-copied k = read (after-copy-arg k)
+copied k = read (after-put-row-arg k)
 
 cast-lens : tie.Need-cast-lens Inv-loop μ-loop
 cast-lens c = omega (arith, given (copied c) .small)
@@ -131,7 +124,7 @@ loop-again c =
     let k = turn r in
     let l = k .before in
     unpack-turn (start l .pre .0) (l .loop .inv) (k .loop-test .taken) (given r) (y .score-at .ensures)
-    (y .before .before .before .copy .ensures)
+    (y .before .before .before .put-row .ensures)
 
 same-length : tie.Need-same-length Inv-loop μ-loop
 same-length c = c .before .loop .inv .sameNames
@@ -156,10 +149,9 @@ unpack-spec =
     slice-aggregate-read-name
     read-name-requires
     add-len
-    mul-copy
-    array-share-prefix-name
-    slice-aggregate-copy
-    copy-requires
+    mul-put-row
+    slice-aggregate-put-row
+    put-row-requires
     cast-lens
     slice-write-lens
     score-at-requires

@@ -1,7 +1,7 @@
 -- `program_print::put_bad` meets its contract: four bytes, copied. No loop, so no invariant. Assumes nothing.
 use borrow.Author.Needs.{needs}
+use Rattle.octets_laws.proofs.Printed.{put-part}
 use Rattle.program.specs.Program.{badLine}
-use Rattle.program_print.proofs.Printing.{put-part}
 use Rattle.program_print.proofs.put_bad.Statement.{statement}
 use Rattle.program_print.proofs.put_bad.Tie as tie
 

@@ -4,8 +4,8 @@ use mathlib.Core.Path.{_∙_}
 use lib.ListN.{length-set}
 use native.Mathlib.Omega.{arith}
 use borrow.Author.Needs.{needs}
-use Rattle.program_print.proofs.Decimal.{decimal-most}
-use Rattle.program_print.proofs.Printing.{put-append, put-byte, put-part}
+use Rattle.octets.proofs.Decimal.{decimal-most}
+use Rattle.octets_laws.proofs.Printed.{put-append, put-byte, put-part}
 use Rattle.program_print.proofs.put_counted.Statement.{statement}
 use Rattle.program_print.proofs.put_counted.Tie as tie
 

@@ -1,16 +1,24 @@
--- `program_print::put_decimal` meets its contract: the digits, copied.
+-- `program_print::put_decimal` meets its contract: the digits, copied from the end of ten bytes.
 -- No loop, so no invariant. Assumes nothing.
+use mathlib.Core.Path.{refl}
+use native.Mathlib.Omega.{arith}
 use borrow.Author.Needs.{needs}
 use Rattle.program_print.proofs.Printing.{put-digits}
 use Rattle.program_print.proofs.put_decimal.Statement.{statement}
 use Rattle.program_print.proofs.put_decimal.Tie as tie
 
 -- places that the proofs below look back to
-abbrev after-digits-of : tie.After-copy → tie.After-digits-of
-after-digits-of c = c .before .before .before .before .before
+abbrev after-put-decimal : tie.After-copy → tie.After-put-decimal
+after-put-decimal c = c .before .before .before .before .before
 
-digits-of-requires : tie.Need-digits-of-requires
-digits-of-requires c κs = search needs
+abbrev begin : tie.After-put-decimal → tie.Start
+begin d = d .before .before .before
+
+slice-aggregate-put-decimal : tie.Need-slice-aggregate-put-decimal
+slice-aggregate-put-decimal c = search needs
+
+put-decimal-requires : tie.Need-put-decimal-requires
+put-decimal-requires c κs = (omega arith, omega arith)
 
 sub-copy : tie.Need-sub-copy
 sub-copy c = search needs
@@ -36,15 +44,16 @@ same-length c = search needs
 returns : tie.Need-returns
 returns c =
     let k = c .before .before in
-    let d = after-digits-of k in
-    let a = d .before .before .args in
-    put-digits (a .out .now) (a .at) (d .before .before .pre) (d .digits-of .ensures) (k .copy .ensures)
+    let d = after-put-decimal k in
+    let a = begin d .args in
+    put-digits (a .out .now) (a .at) (begin d .pre) refl (d .put-decimal .ensures) (k .copy .ensures)
 
 pub put-decimal-spec : {M : Type 1} → statement M
 put-decimal-spec =
     tie.close
     (tie.spec
-    digits-of-requires
+    slice-aggregate-put-decimal
+    put-decimal-requires
     sub-copy
     part-copy-start
     part-copy-end
