@@ -1,23 +1,24 @@
 -- The bytes of a page measured, and its lines stored one behind the other.
 use Prim.Native.Nat.{_*_, _+_, _-_, _/_, _<_, _≤_, min, suc, ℕ}
 use mathlib.Core.Path.{_∙_, _≡_, ap, refl, sym}
-use mathlib.Core.List.{List, [], _++_, append-assoc, map}
+use mathlib.Core.List.{List, [], _++_, _∷_, append-assoc, append-nil, map}
 use lib.Dec.{leb, ltb}
 use lib.ListN.{List·getD-append, drop, drop-of-length-le, getD, getD-replicate, length, length-append, length-drop}
 use lib.ListN.{replicate-append-replicate, set, take}
-use lib.Seq.{drop-drop, drop-length, getD-append-add, getD-take, length-take-le, sets, take-all, take-take}
+use lib.Seq.{drop-cons, drop-drop, drop-length, getD-append-add, getD-take, length-take-le, sets, take-all, take-take}
+use native.Mathlib.Numerals.{add-one}
 use native.Mathlib.Omega.{arith}
 use borrow.Author.Tests.{leb-false, leb-true, ltb-false, ltb-true}
 use Rattle.octets.specs.Decimal.{decimal}
 use Rattle.octets.specs.Lists.{concatMap, if_then_else_}
 use Rattle.octets.specs.Text.{lineFeed}
 use Rattle.octets.proofs.Decimal.{decimal-most}
-use Rattle.octets.proofs.Lists.{drop-take}
+use Rattle.octets.proofs.Lists.{drop-take, take-snoc}
 use Rattle.octets.proofs.Stores.{part-bytes, sets-append, sets-inside}
 use Rattle.octets.proofs.Tests.{by-test}
 use Rattle.octets_laws.specs.Printed.{Printed}
 use Rattle.octets_laws.proofs.Printed.{put-append}
-use Rattle.octets_code.proofs.Loops.{drop-next, sets-end, sets-next}
+use Rattle.octets_code.proofs.Loops.{drop-next}
 use Rattle.octets_decimal.specs.Digits.{Numbered}
 use Rattle.entries.specs.Entries.{entry}
 use Rattle.page.specs.Page.{ended, entryLines, firstLine, furtherLine, lineBytes, nameColumns, onPage, padded}
@@ -70,7 +71,7 @@ pub blank-end : (d : List ℕ) (at : ℕ) {j : ℕ} → j ≤ pageColumns → pa
     → d ≡ sets d (at + j) (spaces (pageColumns - j))
 blank-end d at {j} h k = let z : pageColumns - j ≡ 0 = omega arith in rw z
 
--- the columns of a row's first n bytes, and spaces behind them: a byte of them, a turn that stores it, the end
+-- the columns of a row's first n bytes, and spaces behind them: a byte of them, a turn that puts it in, the end
 column-at :
     (row : List ℕ) (c n j : ℕ) → j < c → n ≤ length row
     → getD (padded c (take n row)) j 0 ≡ (if ltb j n then getD row j 0 else 0x20)
@@ -98,15 +99,20 @@ module _ (row : List ℕ) {n : ℕ} (l : n ≤ pageColumns) (h : pageColumns ≤
   columns-long = length-padded pageColumns (take n row) (omega (arith, length-take-le n row (omega arith)))
 
   pub columns-on :
-      (d : List ℕ) (at j : ℕ) {b : ℕ} → j < pageColumns → b ≡ (if ltb j n then getD row j 0 else 0x20)
-      → sets (set d (at + j) b) (at + (j + 1)) (drop (j + 1) columns) ≡ sets d (at + j) (drop j columns)
-  columns-on d at j k e =
-      ap (λ x. sets (set d (at + j) x) (at + (j + 1)) (drop (j + 1) columns))
-      (e ∙ sym (column-at row pageColumns n j k (omega arith)))
-      ∙ sym (sets-next d at j columns (omega (arith, columns-long)))
+      (line : List ℕ) (j : ℕ) {b : ℕ} → j < pageColumns → length line ≡ pageColumns
+      → b ≡ (if ltb j n then getD row j 0 else 0x20) → take j line ++ drop j columns ≡ columns
+      → take (j + 1) (set line j b) ++ drop (j + 1) columns ≡ columns
+  columns-on line j {b} k m e v =
+      rw (add-one j) (take-snoc line j b (drop (suc j) columns) (omega arith))
+      ∙ ap (λ x. take j line ++ (x ∷ drop (suc j) columns)) (e ∙ sym (column-at row pageColumns n j k (omega arith)))
+      ∙ ap (λ l. take j line ++ l) (sym (drop-cons columns j 0 (omega (arith, columns-long))))
+      ∙ v
 
-  pub columns-end : (d : List ℕ) (at : ℕ) {j : ℕ} → pageColumns ≤ j → d ≡ sets d (at + j) (drop j columns)
-  columns-end d at {j} k = sym (sets-end d at j columns (omega (arith, columns-long)))
+  pub columns-end : (line : List ℕ) {j : ℕ} → pageColumns ≤ j → length line ≡ pageColumns
+      → take j line ++ drop j columns ≡ columns → line ≡ columns
+  columns-end line {j} k m v =
+      sym (append-nil line)
+      ∙ (rw (take-all j line (omega arith), drop-of-length-le columns {i = j} (omega (arith, columns-long))) at v)
 
 -- a line with a part of a name and no score: its columns, a line feed behind them, and the part on a blank line
 columns-line : (part : List ℕ) → length part ≤ nameColumns → padded pageColumns part ≡ furtherLine part
