@@ -25,8 +25,8 @@ abbrev pub counts : {A : Type 0} → A → Answer A → A
 counts zeros (refused n) = zeros
 counts zeros (given a) = a
 
--- what a call that writes a book, a trie, a sheet, a page or an entry reports: the entries in it and its bytes; the check
--- reports the same of the book that it was given
+-- what a call that writes a book, a trie, a sheet, a page or an entry reports: the entries in it and its bytes; the
+-- check reports the same of the book that it was given
 pub record WrittenCounts : Type 0 where
   pub entries : ℕ
   pub bytes : ℕ

@@ -9,8 +9,8 @@ ghost use Rattle.book.specs.Book.{inBook};
 ghost use Rattle.book_laws.specs.Held.{Held};
 ghost use Rattle.book_table.specs.Table.{TableRoom, Unpacked};
 
-// Stores a name's whole array as a row. What stands behind the name does not matter, and 48 bytes are sooner copied than
-// as many as a name has.
+// Stores a name's whole array as a row. What stands behind the name does not matter, and 48 bytes are sooner copied
+// than as many as a name has.
 fn put_row(names: &mut [u8], at: usize, name: &[u8])
     requires { ⌜ (length (now name) ≡ longestName) × (at + longestName ≤ length (now names)) ⌝ }
     ensures { λ _. ⌜ now (names .exit) ≡ sets (now (names .entry)) at (now (name .entry)) ⌝ }

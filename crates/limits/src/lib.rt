@@ -77,8 +77,8 @@ pub const PAGE_LINE: usize = PAGE_COLUMNS + 1;
 // The columns of a page's line that a name has: `nameColumns`.
 pub const NAME_COLUMNS: usize = 28;
 
-// Up to how many names a small table serves for a page: `smallTable`. A whole one takes about 1 µs to clear, which is as
-// long as a page of some twenty names.
+// Up to how many names a small table serves for a page: `smallTable`. A whole one takes about 1 µs to clear, which is
+// as long as a page of some twenty names.
 pub const SMALL_TABLE: usize = 128;
 
 // The length of each of the program's two buffers: `bufferLength`.

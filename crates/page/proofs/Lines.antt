@@ -18,7 +18,8 @@ use Rattle.entries.specs.Entries.{Entry, byRank, outranks, valid}
 use Rattle.entries.specs.Names.{isName}
 use Rattle.entries.proofs.Valid.{name-length, name-some, valid-of}
 use Rattle.page.specs.Page.{ended, entryLines, firstLine, furtherLine, heading, lineBytes, nameColumns, onPage}
-use Rattle.page.specs.Page.{padded, pageColumns, pageImage, pageLines, parts, partsTo, rightAligned, scoreColumns, spaces}
+use Rattle.page.specs.Page.{padded, pageColumns, pageImage, pageLines, parts, partsTo, rightAligned}
+use Rattle.page.specs.Page.{scoreColumns, spaces}
 
 pub length-spaces : (n : ℕ) → length (spaces n) ≡ n
 length-spaces n = length-replicate {A = ℕ} n 0x20

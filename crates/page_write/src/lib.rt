@@ -79,8 +79,8 @@ fn column(b: u8, j: u8, n: u8) -> u8
     if j < n { b } else { b' ' }
 }
 
-// Fills the columns of a line with the first n bytes of a row, and spaces behind them: as many turns for every name, into
-// an array of its own, and the columns counted in a byte, so that the processor does many at a time.
+// Fills the columns of a line with the first n bytes of a row, and spaces behind them: as many turns for every name,
+// into an array of its own, and the columns counted in a byte, so that the processor does many at a time.
 fn put_columns(dst: &mut [u8], at: usize, row: &[u8], n: u8)
     requires { ⌜ (at + pageColumns ≤ length (now dst)) × (pageColumns ≤ length (now row)) × (n ≤ pageColumns) ⌝ }
     ensures { λ _. ⌜ now (dst .exit) ≡ sets (now (dst .entry)) at (padded pageColumns (take n (now (row .entry)))) ⌝ }

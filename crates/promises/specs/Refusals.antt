@@ -67,7 +67,8 @@ pub record Leaves {A : Type 0} (bytes : A → ℕ) (causes : List ℕ → List C
         (dst : List ℕ) (a : A) → call dst .answer ≡ given a
         → (drop (bytes a) (call dst .dest) ≡ drop (bytes a) dst) × (length (call dst .dest) ≡ length dst)
 
--- a call that writes a book, a trie, a sheet, a page or an entry, and one that completes, with the causes of its refusals
+-- a call that writes a book, a trie, a sheet, a page or an entry, and one that completes, with the causes of its
+-- refusals
 abbrev pub Writes : (List ℕ → List Check) → (List ℕ → Outcome WrittenCounts) → Type 0
 Writes causes call = Leaves (λ a. a .bytes) causes call
 

@@ -46,7 +46,8 @@ loop-again c =
     let s = start l .args in (
       omega arith,
       length-set (l .loop .names) _ _ ∙ l .loop .inv .1,
-      sym (sets-next (l .loop .names) (s .at) (l .loop .j) (s .name .now) (omega (arith, start l .pre))) ∙ l .loop .inv .2,
+      sym (sets-next (l .loop .names) (s .at) (l .loop .j) (s .name .now) (omega (arith, start l .pre)))
+          ∙ l .loop .inv .2,
     )
 
 same-length : tie.Need-same-length Inv-loop μ-loop

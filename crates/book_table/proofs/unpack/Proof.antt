@@ -1,9 +1,7 @@
 -- `book_table::unpack` meets its contract. The loop's invariant: the rows before the position reached hold the entries
 -- before it. The measure is the number of entries left. Assumes nothing.
-use Prim.Native.Nat.{_+_, _-_, _≤_}
-use mathlib.Core.Path.{_≡_, sym}
+use Prim.Native.Nat.{_-_, _≤_}
 use lib.ListN.{length, take}
-use lib.Seq.{length-take-le}
 use native.Mathlib.Omega.{arith}
 use borrow.Author.Needs.{needs}
 use Rattle.book_laws.proofs.Held.{held-few}
