@@ -2,9 +2,9 @@
 use Prim.Native.Nat.{_+_, ℕ}
 use mathlib.Core.Path.{_≡_}
 use mathlib.Core.List.{List}
-use lib.ListN.{drop, take}
+use lib.ListN.{drop, length, take}
 use Rattle.answer.specs.Answers.{OfferedCounts, Outcome, WrittenCounts, counts, number, onAnswer}
-use Rattle.book.specs.Book.{inBook, layout21, offset}
+use Rattle.book.specs.Book.{inBook, recordsAt, today}
 use Rattle.lookup.specs.Lookups.{headLength, headName}
 use Rattle.completion.specs.Complete.{Lent}
 use Rattle.completion.specs.declared.Range.{Range}
@@ -38,14 +38,14 @@ pub record RunLeft (f : Finish) (r n t : ℕ) (first second out : List ℕ) : Ty
   pub told : PlayedTold (f .answer) r n t
   pub leaves : (first ≡ f .first) × (second ≡ f .second) × (out ≡ f .out)
 
--- where its head name begins: behind the length byte at the bucket's offset
-abbrev pub headAt : List ℕ → ℕ → ℕ
-headAt book j = offset layout21 (inBook book) j + 1
+-- where the head name of a book with entries begins: behind the common byte and the length of the first record
+abbrev pub headAt : List ℕ → ℕ
+headAt book = recordsAt today (length (inBook book)) + 2
 
 -- a bucket's head name, told by where it begins in the book and its length
 pub record HeadTold (book : List ℕ) (j r s k : ℕ) : Type 0 where
   pub returned : r ≡ number (headLength book j)
-  pub start : s ≡ onAnswer (headLength book j) 0 (headAt book j)
+  pub start : s ≡ onAnswer (headLength book j) 0 (headAt book)
   pub size : k ≡ counts 0 (headLength book j)
   -- that part of the book is the name, and empty with a refusal
   pub part : take k (drop s book) ≡ headName book j

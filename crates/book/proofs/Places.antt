@@ -13,28 +13,29 @@ use Rattle.entries.proofs.Span.{span, span-best}
 use Rattle.entries.proofs.Valid.{length-names}
 use Rattle.book.specs.Records.{bucketSize, lastOr, records}
 use Rattle.book.proofs.Records.{records-append}
-use Rattle.book.specs.Book.{Layout, blockSize, imageIn, offset, peak, recordsAt}
+use Rattle.book.specs.declared.Layout.{Layout}
+use Rattle.book.specs.Book.{blockSize, imageIn, offset, peak, recordsAt}
 use Rattle.book.proofs.Reading.{image-records}
 
 -- the records of the names from a bucket's first on stand at its offset
 pub offset-stands :
     (l : Layout) (es : List Entry) (rest : List ℕ) (j : ℕ) → bucketSize * j ≤ length es
     → drop (offset l es j) (imageIn l es ++ rest)
-    ≡ records (l .isHead) (bucketSize * j) (lastOr [] (take (bucketSize * j) (names es)))
+    ≡ records (l .heads) (bucketSize * j) (lastOr [] (take (bucketSize * j) (names es)))
     (drop (bucketSize * j) (names es)) ++ rest
 unfolding offset
 offset-stands l es rest j h =
     let n = length-names es in
-    let front = records (l .isHead) 0 [] (take (bucketSize * j) (names es)) in
-    let back = records (l .isHead) (bucketSize * j) (lastOr [] (take (bucketSize * j) (names es)))
+    let front = records (l .heads) 0 [] (take (bucketSize * j) (names es)) in
+    let back = records (l .heads) (bucketSize * j) (lastOr [] (take (bucketSize * j) (names es)))
     (drop (bucketSize * j) (names es)) in
     let k : 0 + length (take (bucketSize * j) (names es)) ≡ bucketSize * j =
     rw (length-take-le (bucketSize * j) (names es) (omega arith)) (omega arith)
     in
-    let split : records (l .isHead) 0 [] (names es) ≡ front ++ back =
-    ap (records (l .isHead) 0 []) (sym (take-append-drop (bucketSize * j) (names es)))
-    ∙ records-append (l .isHead) (take (bucketSize * j) (names es)) (drop (bucketSize * j) (names es)) 0 []
-    ∙ ap (λ m. front ++ records (l .isHead) m (lastOr [] (take (bucketSize * j) (names es)))
+    let split : records (l .heads) 0 [] (names es) ≡ front ++ back =
+    ap (records (l .heads) 0 []) (sym (take-append-drop (bucketSize * j) (names es)))
+    ∙ records-append (l .heads) (take (bucketSize * j) (names es)) (drop (bucketSize * j) (names es)) 0 []
+    ∙ ap (λ m. front ++ records (l .heads) m (lastOr [] (take (bucketSize * j) (names es)))
     (drop (bucketSize * j) (names es))) k
     in
     sym (drop-drop (length front) (recordsAt l (length es)) (imageIn l es ++ rest))

@@ -18,9 +18,10 @@ use Rattle.entries.specs.Names.{isScore}
 use Rattle.entries.proofs.Valid.{Valid, length-names}
 use Rattle.book.specs.Records.{records}
 use Rattle.book.proofs.Records.{namesFrom-of}
-use Rattle.book.specs.Book.{Layout, blockSize, bookImage, entriesFrom, entriesIn, imageIn, inBook, isBook}
-use Rattle.book.specs.Book.{layout21, offset, offsets, peak, peaks, readBook, readIn, recordsAt, scores}
-use Rattle.book.specs.Book.{scoresFrom}
+use Rattle.book.specs.declared.Layout.{Layout}
+use Rattle.book.specs.Book.{blockSize, bookImage, buckets, entriesFrom, entriesIn, imageIn, inBook, inBookIn}
+use Rattle.book.specs.Book.{isBook, isBookIn, offset, offsets, peak, peaks, readBook, readIn, recordsAt, scores}
+use Rattle.book.specs.Book.{scoresFrom, today}
 use Rattle.frame.specs.Frame.{Exact, countOf, entriesOf, isRead}
 use Rattle.frame.proofs.Frame.{exact, framed-body, framed-count, framed-length, read-of}
 
@@ -57,14 +58,14 @@ length-peaks es =
 
 -- The parts of an image, in every layout.
 module _ (l : Layout) where
-  pub length-offsets : (es : List Entry) → length (offsets l es) ≡ 2 * l .buckets (length es)
+  pub length-offsets : (es : List Entry) → length (offsets l es) ≡ 2 * buckets (l .heads) (length es)
   unfolding offsets
   length-offsets es =
-      length-fields 2 (offset l es) (countFrom 0 (l .buckets (length es)))
-      ∙ ap (λ m. 2 * m) (length-countFrom 0 (l .buckets (length es)))
+      length-fields 2 (offset l es) (countFrom 0 (buckets (l .heads) (length es)))
+      ∙ ap (λ m. 2 * m) (length-countFrom 0 (buckets (l .heads) (length es)))
 
   pub image-length :
-      (es : List Entry) → length (imageIn l es) ≡ recordsAt l (length es) + length (records (l .isHead) 0 [] (names es))
+      (es : List Entry) → length (imageIn l es) ≡ recordsAt l (length es) + length (records (l .heads) 0 [] (names es))
   unfolding imageIn recordsAt
   image-length es =
       rw (
@@ -92,27 +93,27 @@ module _ (l : Layout) where
   image-body :
       (es : List Entry) (rest : List ℕ)
       → drop 7 (imageIn l es ++ rest) ≡ scores es
-      ++ (offsets l es ++ (peaks es ++ (records (l .isHead) 0 [] (names es) ++ rest)))
+      ++ (offsets l es ++ (peaks es ++ (records (l .heads) 0 [] (names es) ++ rest)))
   unfolding imageIn
   image-body es rest = rw framed-body (simp append-assoc)
 
   pub image-records :
       (es : List Entry) (rest : List ℕ)
-      → drop (recordsAt l (length es)) (imageIn l es ++ rest) ≡ records (l .isHead) 0 [] (names es) ++ rest
+      → drop (recordsAt l (length es)) (imageIn l es ++ rest) ≡ records (l .heads) 0 [] (names es) ++ rest
   image-records es rest =
       rw (
         ← length-fields-of es,
         ← drop-drop (length (fields es)) 7 (imageIn l es ++ rest),
         image-body es rest,
-        ← fields-append es (records (l .isHead) 0 [] (names es) ++ rest),
+        ← fields-append es (records (l .heads) 0 [] (names es) ++ rest),
       )
-      (drop-append-seam (fields es) (records (l .isHead) 0 [] (names es) ++ rest))
+      (drop-append-seam (fields es) (records (l .heads) 0 [] (names es) ++ rest))
 
   image-count : (es : List Entry) (rest : List ℕ) → length es < 65536 → countOf (imageIn l es ++ rest) ≡ length es
   unfolding imageIn
   image-count es rest h =
       framed-count (l .version) (length es) (scores es
-      ++ (offsets l es ++ (peaks es ++ records (l .isHead) 0 [] (names es)))) rest h
+      ++ (offsets l es ++ (peaks es ++ records (l .heads) 0 [] (names es)))) rest h
 
   entriesIn-of : (es : List Entry) (rest : List ℕ) → Valid es → entriesIn l (imageIn l es ++ rest) ≡ es
   unfolding entriesIn scores
@@ -122,31 +123,33 @@ module _ (l : Layout) where
         image-records es rest,
         image-body es rest,
         ← length-names es,
-        namesFrom-of (l .isHead) (names es) 0 [] rest,
+        namesFrom-of (l .heads) (names es) 0 [] rest,
         length-names es,
-        scoresFrom-of es (offsets l es ++ (peaks es ++ (records (l .isHead) 0 [] (names es) ++ rest))) (v .fits),
+        scoresFrom-of es (offsets l es ++ (peaks es ++ (records (l .heads) 0 [] (names es) ++ rest))) (v .fits),
       )
       (entriesFrom-of es)
 
-  exact-in : Exact (readIn l) (imageIn l)
+  pub exact-in : Exact (readIn l) (imageIn l)
   unfolding readIn
   exact-in = exact (entriesIn l) (imageIn l) entriesIn-of
 
+  -- a buffer that is a book is read as its entries
+  pub read-in : (buf : List ℕ) → isBookIn l buf ≡ true → readIn l buf ≡ some (inBookIn l buf)
+  read-in buf h = go (readIn l buf) refl
+    where
+      go : (o : Option (List Entry)) → readIn l buf ≡ o → readIn l buf ≡ some (entriesOf o)
+      go none e = absurd (false≢true (sym (ap isRead e) ∙ h))
+      go (some es) e = e
+
 -- the book of today
 pub book-exact : Exact readBook bookImage
-unfolding readBook bookImage
-book-exact = exact-in layout21
+book-exact = exact-in today
 
 pub readBook-of : (es : List Entry) (rest : List ℕ) → valid es ≡ true → readBook (bookImage es ++ rest) ≡ some es
 readBook-of es rest h = read-of readBook bookImage book-exact es rest h
 
--- a buffer that is a book is read as its entries
 pub book-read : (buf : List ℕ) → isBook buf ≡ true → readBook buf ≡ some (inBook buf)
-book-read buf h = go (readBook buf) refl
-  where
-    go : (o : Option (List Entry)) → readBook buf ≡ o → readBook buf ≡ some (entriesOf o)
-    go none e = absurd (false≢true (sym (ap isRead e) ∙ h))
-    go (some es) e = e
+book-read buf h = read-in today buf h
 
 -- the entries of a book are valid
 pub valid-in : (book : List ℕ) → isBook book ≡ true → valid (inBook book) ≡ true

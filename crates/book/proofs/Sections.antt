@@ -9,14 +9,15 @@ use Rattle.octets.proofs.Order.{begins-at}
 use Rattle.octets.proofs.Tests.{and-true}
 use Rattle.entries.specs.Entries.{Entry, names}
 use Rattle.book.specs.Records.{records}
-use Rattle.book.specs.Book.{Layout, imageIn, offsets, peaks, recordsAt, scores}
+use Rattle.book.specs.declared.Layout.{Layout}
+use Rattle.book.specs.Book.{buckets, imageIn, offsets, peaks, recordsAt, scores}
 use Rattle.frame.proofs.Frame.{framed-parts}
 use Rattle.book.proofs.Reading.{length-offsets, length-peaks, length-scores}
 
 module _ (l : Layout) where
   -- where the peaks begin, behind the offsets at 7 + 4 * n
   abbrev pub peaksAt : ℕ → ℕ
-  peaksAt n = 7 + 4 * n + 2 * l .buckets n
+  peaksAt n = 7 + 4 * n + 2 * buckets (l .heads) n
 
 pub record Sections (l : Layout) (es : List Entry) (s : List ℕ) : Type 0 where
   pub hasVersion : begins (l .version ∷ []) s ≡ true
@@ -25,11 +26,11 @@ pub record Sections (l : Layout) (es : List Entry) (s : List ℕ) : Type 0 where
   pub hasScores : begins (scores es) (drop 7 s) ≡ true
   pub hasOffsets : begins (offsets l es) (drop (7 + 4 * length es) s) ≡ true
   pub hasPeaks : begins (peaks es) (drop (peaksAt l (length es)) s) ≡ true
-  pub hasRecords : begins (records (l .isHead) 0 [] (names es)) (drop (recordsAt l (length es)) s) ≡ true
+  pub hasRecords : begins (records (l .heads) 0 [] (names es)) (drop (recordsAt l (length es)) s) ≡ true
 
 module _ (l : Layout) (es : List Entry) (s : List ℕ) where
   abbrev rs : List ℕ
-  rs = records (l .isHead) 0 [] (names es)
+  rs = records (l .heads) 0 [] (names es)
 
   -- the parts of the body, one behind the other
   body-parts :

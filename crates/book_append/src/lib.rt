@@ -1,4 +1,5 @@
 // A pass over entries that are to stand in a book one after the other: it puts each, or only measures its record.
+use book_write::Slot;
 ghost use mathlib.Core.Path.{_≡_};
 ghost use mathlib.Core.List.{[], _∷_};
 ghost use Prim.Native.Nat.{_+_};
@@ -8,27 +9,28 @@ ghost use Rattle.entries.specs.Names.{longestName};
 ghost use Rattle.book_laws.specs.Cursor.{cursorOf};
 ghost use Rattle.book_append.specs.Append.{AppendDone, Fits, cursorBehind};
 
-// Where an entry is put: as the one at position `index` of a book of n, its record at offset `at`. Without `store` it
-// is only measured.
+// Where an entry is put; without `store` it is only measured.
 pub struct EntryTarget {
-    pub n: usize,
-    pub index: usize,
-    pub at: usize,
+    pub slot: Slot,
     pub store: bool,
 }
 
 // Passes an entry behind the name prev: puts it, or only measures its record. Where the record ends.
 fn pass_entry(dst: &mut [u8], to: EntryTarget, prev: &[u8], name: &[u8], score: u32) -> usize
-    requires { ⌜ Fits (to .store) (to .n) (cursorBehind (to .at) (to .index) (now prev))
+    requires { ⌜ Fits (to .slot .layout) (to .store) (to .slot .n)
+        (cursorBehind (to .slot .at) (to .slot .index) (now prev))
         (entry (now name) score ∷ []) (now dst) ⌝ }
-    ensures { λ r. ⌜ AppendDone (to .store) (to .n) (cursorBehind (to .at) (to .index) (now (prev .entry)))
+    ensures { λ r. ⌜ AppendDone (to .slot .layout) (to .store) (to .slot .n)
+        (cursorBehind (to .slot .at) (to .slot .index) (now (prev .entry)))
         (entry (now (name .entry)) score ∷ []) (now (dst .entry))
-        (cursorBehind r (to .index + 1) (now (name .entry))) (now (dst .exit)) ⌝ }
+        (cursorBehind r (to .slot .index + 1) (now (name .entry))) (now (dst .exit)) ⌝ }
 {
+    let slot = to.slot;
     if to.store {
-        return book_write::put_entry(dst, to.n, to.index, to.at, prev, name, score);
+        return book_write::put_entry(dst, slot, prev, name, score);
     }
-    to.at + book_record_write::record_size(to.index, prev, name)
+    let l = slot.layout;
+    slot.at + book_record_write::record_size(l.heads, slot.index, prev, name)
 }
 
 // Passes an entry behind the name before, the first len bytes of prev; the entry's own name takes its place. Where the
@@ -41,12 +43,14 @@ pub fn pass_next(
     name: &[u8],
     score: u32,
 ) -> usize
-    requires { ⌜ Fits (to .store) (to .n) (cursorOf (to .at) (to .index) (now prev) len)
+    requires { ⌜ Fits (to .slot .layout) (to .store) (to .slot .n)
+        (cursorOf (to .slot .at) (to .slot .index) (now prev) len)
         (entry (now name) score ∷ []) (now dst)
         × (length (now prev) ≡ longestName) ⌝ }
-    ensures { λ r. ⌜ AppendDone (to .store) (to .n) (cursorOf (to .at) (to .index) (now (prev .entry)) len)
+    ensures { λ r. ⌜ AppendDone (to .slot .layout) (to .store) (to .slot .n)
+        (cursorOf (to .slot .at) (to .slot .index) (now (prev .entry)) len)
         (entry (now (name .entry)) score ∷ []) (now (dst .entry))
-        (cursorOf r (to .index + 1) (now (prev .exit)) (length (now (name .entry)))) (now (dst .exit)) ⌝ }
+        (cursorOf r (to .slot .index + 1) (now (prev .exit)) (length (now (name .entry)))) (now (dst .exit)) ⌝ }
 {
     let end = pass_entry(dst, to, &prev[..len], name, score);
     octets_code::copy(prev, 0, name);

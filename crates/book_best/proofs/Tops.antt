@@ -11,7 +11,7 @@ use Rattle.octets.proofs.Tests.{by-test}
 use Rattle.entries.specs.Entries.{Entry, at, outranks}
 use Rattle.entries.proofs.Rank.{not-outranks-trans, outranks-asym, outranks-high, outranks-irrefl}
 use Rattle.entries.proofs.Span.{later-not, span-best, span-top, span-unique}
-use Rattle.book.specs.Book.{blockSize, inBook, peak}
+use Rattle.book.specs.Book.{blockSize, inBook, peak, today}
 use Rattle.book_laws.specs.Check.{betterOf, peakAt, scoreAt}
 use Rattle.book_laws.specs.Held.{Held}
 use Rattle.book_laws.proofs.Held.{held-stored, held-valid}
@@ -47,7 +47,7 @@ module _ {buf : List ℕ} {n : ℕ} (h : Held buf n) where
   es = inBook buf
 
   -- the peak of a block stands in its place
-  pub held-peak : (j : ℕ) → blockSize * j < n → peakAt buf n j ≡ peak es j
+  pub held-peak : (j : ℕ) → blockSize * j < n → peakAt today buf n j ≡ peak es j
   held-peak j l = rw (h .count) (held-stored h .peakAt j (omega (arith, h .count)))
 
   module _ {first end b i : ℕ} (t : Tops es first end b i) (l : end ≤ n) where

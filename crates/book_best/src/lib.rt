@@ -18,7 +18,7 @@ fn peak_of(book: &[u8], n: usize, j: usize) -> usize
     requires { ⌜ Held (now book) n × (blockSize * j < n) ⌝ }
     ensures { λ r. ⌜ r ≡ peak (inBook (now (book .entry))) j ⌝ }
 {
-    book_layout::peak_at(book, n, j)
+    book_layout::peak_at(book, book_layout::today(), n, j)
 }
 
 // The positions to take at once from i on: a block that begins there and ends in the range, else i alone.

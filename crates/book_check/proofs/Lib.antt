@@ -1,3 +1,4 @@
+pub mod FromBook
 pub mod Answer
 pub mod Held
-pub mod Loops
+pub mod Refusing

@@ -1,101 +1,110 @@
-// The check of a book image in one pass: frame, records with their offsets, peaks.
-use book_layout::records_at;
+// The check of a book image in one pass: first bytes, records with their offsets, peaks; and in the same pass the place
+// of a key among its names.
+use book::Layout;
+use book_seek::Seek;
 use frame_code::Ended;
 use frame_code::Frame;
 use frame_code::Image;
-use limits::BLOCK_SIZE;
-use limits::BOOK_VERSION;
-use limits::BUCKET_SIZE;
-use limits::LONGEST_NAME;
+use limits::OLD_BOOK_VERSION;
 ghost use mathlib.Core.Path.{_≡_};
-ghost use mathlib.Core.List.{[]};
-ghost use Prim.Native.Nat.{_<_, _≤_};
-ghost use lib.ListN.{length};
-ghost use Rattle.octets.specs.Lists.{ceil};
-ghost use Rattle.entries.specs.Entries.{maxEntries};
-ghost use Rattle.book.specs.Book.{blockSize, readBook};
-ghost use Rattle.book_laws.specs.Check.{offsetIs, peakIs, peaksAre, recordsEnd};
-ghost use Rattle.frame_code.specs.Image.{endedAs, imageAs};
+ghost use mathlib.Core.Option.{none};
+ghost use Rattle.book.specs.Book.{readIn};
+ghost use Rattle.book.specs.Checks.{isOld};
+ghost use Rattle.frame_code.specs.Image.{imageAs};
+ghost use Rattle.book_check.specs.Checked.{CheckedAs, Located};
 
-// Whether the offset of the bucket whose head is at this position says where its record is.
-fn offset_is(buf: &[u8], n: usize, index: usize, at: usize) -> bool
-    requires { ⌜ (n ≤ maxEntries) × (index < maxEntries) ⌝ }
-    ensures { λ r. ⌜ r ≡ offsetIs n index at (now (buf .entry)) ⌝ }
+// What the check of an image answers, and where the key stands.
+pub struct Reply {
+    pub image: Image,
+    pub seek: Seek,
+}
+
+// What a call is told of a book: the number that it declines with for the book's sake, 0 with none; and then how many
+// entries the book has, and where the key stands among their names.
+pub struct Checked {
+    pub refusal: u8,
+    pub n: usize,
+    pub seek: Seek,
+}
+
+// No book.
+fn damaged() -> Reply
+    ensures { λ r. ⌜ r .image ≡ imageAs none ⌝ }
 {
-    if !book_layout::is_head(index) {
-        return true;
+    Reply {
+        image: Image::Damaged,
+        seek: book_seek::begin(0),
     }
-    book_layout::offset_at(buf, n, index / BUCKET_SIZE) == at
 }
 
-// Where the records of n names end, each a book's, with each head's offset.
-fn records_end(buf: &[u8], n: usize, start: usize) -> Ended
-    requires { ⌜ (n ≤ maxEntries) × (start ≤ length (now buf)) ⌝ }
-    ensures { λ r. ⌜ r ≡ endedAs (recordsEnd n n 0 [] start (now (buf .entry))) ⌝ }
+// Checks the book at the front of a buffer, laid out so, and finds where a key stands among its names.
+pub fn check_in(buf: &[u8], l: Layout, key: &[u8]) -> Reply
+    ensures { λ r. ⌜ (r .image ≡ imageAs (readIn l (now (buf .entry))))
+        × Located l (now (buf .entry)) (now (key .entry)) (r .seek) ⌝ }
 {
-    let mut name = [0u8; LONGEST_NAME];
-    let mut len = 0;
-    let mut at = start;
-    let mut index = 0;
-    while index < n {
-        if !offset_is(buf, n, index, at) {
-            return Ended::Damaged;
-        }
-        let t = book_record_read::read_record(buf, at, index, &mut name, len);
-        if !t.ok {
-            return Ended::Damaged;
-        }
-        at = t.end;
-        len = t.len;
-        index += 1;
-    }
-    Ended::At(at)
-}
-
-// Whether the peak of block j is its best position.
-fn peak_is(buf: &[u8], n: usize, j: usize) -> bool
-    requires { ⌜ (n ≤ maxEntries) × (j < ceil n blockSize) ⌝ }
-    ensures { λ r. ⌜ r ≡ peakIs n j (now (buf .entry)) ⌝ }
-{
-    let peak = book_layout::peak_at(buf, n, j);
-    peak == book_layout::best_between(buf, BLOCK_SIZE * j, book_layout::block_end(n, j))
-}
-
-// Whether each block's peak is its best position.
-fn peaks_are(buf: &[u8], n: usize) -> bool
-    requires { ⌜ n ≤ maxEntries ⌝ }
-    ensures { λ r. ⌜ r ≡ peaksAre (ceil n blockSize) n 0 (now (buf .entry)) ⌝ }
-{
-    let blocks = book_layout::blocks(n);
-    let mut j = 0;
-    while j < blocks {
-        if !peak_is(buf, n, j) {
-            return false;
-        }
-        j += 1;
-    }
-    true
-}
-
-// Checks the book at the front of a buffer.
-pub fn check(buf: &[u8]) -> Image
-    ensures { λ r. ⌜ r ≡ imageAs (readBook (now (buf .entry))) ⌝ }
-{
-    let Frame::Holds { entries, total } = frame_code::check_frame(buf, BOOK_VERSION) else {
-        return Image::Damaged;
+    let Frame::Holds { entries, total } = frame_code::check_frame(buf, l.version) else {
+        return damaged();
     };
-    let start = records_at(entries);
+    let start = book_layout::records_at(l, entries);
     if buf.len() < start {
-        return Image::Damaged;
+        return damaged();
     }
-    let Ended::At(end) = records_end(buf, entries, start) else {
-        return Image::Damaged;
+    let w = book_check_walk::walk(buf, l, entries, start, total, key);
+    let ended = w.ended;
+    let found = w.seek;
+    let Ended::At(end) = ended else {
+        return damaged();
     };
     if end != total {
-        return Image::Damaged;
+        return damaged();
     }
-    if !peaks_are(buf, entries) {
-        return Image::Damaged;
+    if !book_check_peaks::peaks_are(buf, l, entries) {
+        return damaged();
     }
-    Image::Entries(entries)
+    Reply {
+        image: Image::Entries(entries),
+        seek: found,
+    }
+}
+
+// Whether byte 0 is an old version's; an empty buffer has none.
+fn is_old(book: &[u8]) -> bool
+    ensures { λ r. ⌜ r ≡ isOld (now (book .entry)) ⌝ }
+{
+    if book.len() < 1 {
+        return false;
+    }
+    book[0] == OLD_BOOK_VERSION
+}
+
+// A book that a call declines for.
+fn refused(number: u8) -> Checked
+    ensures { λ r. ⌜ r .refusal ≡ number ⌝ }
+{
+    Checked {
+        refusal: number,
+        n: 0,
+        seek: book_seek::begin(0),
+    }
+}
+
+// Checks the book at the front of a buffer, as every call does first, and finds where a key stands among its names: 10
+// for an old book, whatever follows byte 0, and then 1 for one that is damaged.
+pub fn check(book: &[u8], key: &[u8]) -> Checked
+    ensures { λ r. ⌜ CheckedAs (now (book .entry)) (now (key .entry)) r ⌝ }
+{
+    if is_old(book) {
+        return refused(10);
+    }
+    let reply = check_in(book, book_layout::today(), key);
+    let image = reply.image;
+    let found = reply.seek;
+    let Image::Entries(n) = image else {
+        return refused(1);
+    };
+    Checked {
+        refusal: 0,
+        n: n,
+        seek: found,
+    }
 }

@@ -8,57 +8,61 @@ use native.Mathlib.Nat.{add-zero}
 use native.Mathlib.Omega.{arith}
 use Rattle.entries.specs.Entries.{Entry, at, names}
 use Rattle.entries.proofs.Valid.{length-names}
-use Rattle.book.specs.Records.{bucketHead, lastOr, recordOf, records}
+use Rattle.book.specs.Records.{lastOr, recordOf, records}
 use Rattle.book.proofs.Records.{records-append}
-use Rattle.book_laws.specs.Ahead.{InFront, nameBefore, recordAt}
-use Rattle.book.specs.Book.{layout21, recordsAt}
+use Rattle.book_laws.specs.Ahead.{InFrontIn, nameBefore, recordAtIn}
+use Rattle.book.specs.Book.{recordsAt}
+use Rattle.book.specs.declared.Layout.{Layout}
 use Rattle.book_laws.proofs.Ahead.{ahead-first, names-at}
-use Rattle.book_laws.proofs.Stored.{Stored}
+use Rattle.book_laws.proofs.Stored.{StoredIn}
 use Rattle.book_laws.specs.declared.Cursor.{Cursor}
 
+-- names up to a position, and one more
+pub names-next :
+    (es : List Entry) (i : ℕ) → i < length es → take (suc i) (names es) ≡ take i (names es) ++ (at es i .name ∷ [])
+names-next es i h =
+    let n = length-names es in
+    take-suc (names es) i [] (omega arith) ∙ ap (λ v. take i (names es) ++ (v ∷ [])) (names-at es i h)
+
 -- records up to a position, and one more
-module _ (es : List Entry) (i : ℕ) (h : i < length es) where
+module _ (l : Layout) (es : List Entry) (i : ℕ) (h : i < length es) where
   abbrev w : List ℕ
   w = at es i .name
 
   abbrev prev : List ℕ
   prev = nameBefore es i
 
-  names-next : take (suc i) (names es) ≡ take i (names es) ++ (w ∷ [])
-  names-next = let n = length-names es in take-suc (names es) i [] (omega arith)
-      ∙ ap (λ v. take i (names es) ++ (v ∷ [])) (names-at es i h)
-
-  pub records-next : records bucketHead 0 [] (take (suc i) (names es)) ≡ records bucketHead 0 [] (take i (names es))
-      ++ recordOf bucketHead i prev w
+  pub records-next : records (l .heads) 0 [] (take (suc i) (names es)) ≡ records (l .heads) 0 [] (take i (names es))
+      ++ recordOf (l .heads) i prev w
   records-next =
       let n = length-names es in
       let k : 0 + length (take i (names es)) ≡ i = rw (length-take-le i (names es) (omega arith)) (omega arith) in
-      ap (records bucketHead 0 []) names-next
-      ∙ records-append bucketHead (take i (names es)) (w ∷ []) 0 []
-      ∙ rw (k, append-nil (recordOf bucketHead i prev w))
+      ap (records (l .heads) 0 []) (names-next es i h)
+      ∙ records-append (l .heads) (take i (names es)) (w ∷ []) 0 []
+      ∙ rw (k, append-nil (recordOf (l .heads) i prev w))
 
   pub last-next : nameBefore es (suc i) ≡ w
-  last-next = ap (lastOr []) names-next ∙ last-of (take i (names es)) [] w
+  last-next = ap (lastOr []) (names-next es i h) ∙ last-of (take i (names es)) [] w
     where
       last-of : (ws : List (List ℕ)) (p v : List ℕ) → lastOr p (ws ++ (v ∷ [])) ≡ v
       last-of [] p v = refl
       last-of (x ∷ ws) p v = last-of ws x v
 
-  pub record-next : recordAt es (suc i) ≡ recordAt es i + length (recordOf bucketHead i prev w)
+  pub record-next : recordAtIn l es (suc i) ≡ recordAtIn l es i + length (recordOf (l .heads) i prev w)
   record-next =
-      let l = ap length records-next ∙ length-append (records bucketHead 0 [] (take i (names es)))
-      (recordOf bucketHead i prev w) in
+      let z = ap length records-next ∙ length-append (records (l .heads) 0 [] (take i (names es)))
+      (recordOf (l .heads) i prev w) in
       omega arith
 
 -- the cursor at the first record
 pub front-first :
-    (buf : List ℕ) (es : List Entry) → Stored buf es → (c : Cursor) → c .at ≡ recordsAt layout21 (length es)
+    (l : Layout) (buf : List ℕ) (es : List Entry) → StoredIn l buf es → (c : Cursor) → c .at ≡ recordsAt l (length es)
     → c .index ≡ 0 → c .len ≡ 0
-    → InFront es buf 0 c
-front-first buf es s c p q z =
+    → InFrontIn l es buf 0 c
+front-first l buf es s c p q z =
     record {
-      ahead = ahead-first buf es s c p q z;
+      ahead = ahead-first l buf es s c p q z;
       index = q;
-      start = p ∙ sym (add-zero (recordsAt layout21 (length es)));
+      start = p ∙ sym (add-zero (recordsAt l (length es)));
       name = rw z;
     }

@@ -4,18 +4,19 @@ use mathlib.Core.List.{List}
 use native.Mathlib.Omega.{arith}
 use Rattle.entries.specs.Entries.{maxEntries}
 use Rattle.entries.proofs.Valid.{Valid, valid-of}
-use Rattle.book.specs.Book.{inBook}
-use Rattle.book_laws.specs.Held.{Held}
-use Rattle.book_laws.proofs.Stored.{Stored, stored}
-use Rattle.book.proofs.Reading.{book-read}
+use Rattle.book.specs.declared.Layout.{Layout}
+use Rattle.book.specs.Book.{inBookIn}
+use Rattle.book_laws.specs.Held.{HeldIn}
+use Rattle.book_laws.proofs.Stored.{StoredIn, stored}
+use Rattle.book.proofs.Reading.{read-in}
 
 -- a book that was checked
-module _ {buf : List ℕ} {n : ℕ} (h : Held buf n) where
-  pub held-stored : Stored buf (inBook buf)
-  held-stored = stored buf (inBook buf) (book-read buf (h .isIt))
+module _ {l : Layout} {buf : List ℕ} {n : ℕ} (h : HeldIn l buf n) where
+  pub held-stored : StoredIn l buf (inBookIn l buf)
+  held-stored = stored l buf (inBookIn l buf) (read-in l buf (h .isIt))
 
-  pub held-valid : Valid (inBook buf)
-  held-valid = valid-of (inBook buf) (held-stored .ok)
+  pub held-valid : Valid (inBookIn l buf)
+  held-valid = valid-of (inBookIn l buf) (held-stored .ok)
 
   pub held-few : n ≤ maxEntries
   held-few = omega (arith, h .count, held-valid .few)

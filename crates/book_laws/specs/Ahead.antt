@@ -8,29 +8,40 @@ use Rattle.octets.specs.Octets.{below}
 use Rattle.entries.specs.Entries.{Entry, at, names}
 use Rattle.entries.specs.Names.{isPrefix, longestName}
 use Rattle.book_laws.specs.Cursor.{nameIn}
-use Rattle.book.specs.Records.{bucketHead, lastOr, records}
-use Rattle.book.specs.Book.{layout21, recordsAt}
+use Rattle.book.specs.Records.{lastOr, records}
+use Rattle.book.specs.declared.Layout.{Layout}
+use Rattle.book.specs.Book.{recordsAt, today}
 use Rattle.book_laws.specs.declared.Cursor.{Cursor}
 
 -- the cursor stands at the record of the entry at its index
-pub record Ahead (es : List Entry) (s : List ℕ) (c : Cursor) : Type 0 where
+pub record AheadIn (l : Layout) (es : List Entry) (s : List ℕ) (c : Cursor) : Type 0 where
   pub rest : List ℕ
-  pub stands : drop (c .at) s ≡ records bucketHead (c .index) (nameIn c) (drop (c .index) (names es)) ++ rest
+  pub stands : drop (c .at) s ≡ records (l .heads) (c .index) (nameIn c) (drop (c .index) (names es)) ++ rest
   pub above : c .index < length es → below (nameIn c) (at es (c .index) .name) ≡ true
   pub allowed : isPrefix (nameIn c) ≡ true
   pub small : c .len ≤ longestName
   pub inside : c .at ≤ length s
 
 -- where the record of the entry at position i begins, and the name before it
-abbrev pub recordAt : List Entry → ℕ → ℕ
-recordAt es i = recordsAt layout21 (length es) + length (records bucketHead 0 [] (take i (names es)))
+abbrev pub recordAtIn : Layout → List Entry → ℕ → ℕ
+recordAtIn l es i = recordsAt l (length es) + length (records (l .heads) 0 [] (take i (names es)))
 
 abbrev pub nameBefore : List Entry → ℕ → List ℕ
 nameBefore es i = lastOr [] (take i (names es))
 
 -- the cursor stands in front of position i, where its record begins, and has the name before
-pub record InFront (es : List Entry) (s : List ℕ) (i : ℕ) (c : Cursor) : Type 0 where
-  pub ahead : Ahead es s c
+pub record InFrontIn (l : Layout) (es : List Entry) (s : List ℕ) (i : ℕ) (c : Cursor) : Type 0 where
+  pub ahead : AheadIn l es s c
   pub index : c .index ≡ i
-  pub start : c .at ≡ recordAt es i
+  pub start : c .at ≡ recordAtIn l es i
   pub name : nameIn c ≡ nameBefore es i
+
+-- the same in a book of today
+abbrev pub Ahead : List Entry → List ℕ → Cursor → Type 0
+Ahead es s c = AheadIn today es s c
+
+abbrev pub recordAt : List Entry → ℕ → ℕ
+recordAt es i = recordAtIn today es i
+
+abbrev pub InFront : List Entry → List ℕ → ℕ → Cursor → Type 0
+InFront es s i c = InFrontIn today es s i c

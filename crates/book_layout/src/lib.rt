@@ -1,6 +1,9 @@
-// Where things stand in the image of a book of n entries, and the scores, offsets and peaks that stand there; the
-// length that the image says.
+// The layout of today; where things stand in the image of a book of n entries, and the scores, offsets and peaks that
+// stand there; the length that the image says.
+use book::Layout;
 use limits::BLOCK_SIZE;
+use limits::BOOK_HEADS;
+use limits::BOOK_VERSION;
 use limits::BUCKET_SIZE;
 use limits::FRAME_LENGTH;
 use limits::SCORE_BYTES;
@@ -11,8 +14,8 @@ ghost use lib.ListN.{length};
 ghost use Prim.Native.Nat.{_<_, _≤_};
 ghost use Rattle.octets.specs.Lists.{ceil};
 ghost use Rattle.entries.specs.Entries.{maxEntries};
-ghost use Rattle.book.specs.Records.{bucketHead, bucketSize};
-ghost use Rattle.book.specs.Book.{blockSize, bookImage, inBook, isBook, layout21, recordsAt};
+ghost use Rattle.book.specs.Records.{headAt};
+ghost use Rattle.book.specs.Book.{blockSize, bookImage, buckets, inBook, isBook, recordsAt, today};
 ghost use Rattle.book_laws.specs.Check.{bestBetween, betterOf, blockEnd, offsetAt, offsetStart, peakAt, peakStart};
 ghost use Rattle.book_laws.specs.Check.{scoreAt, scoreStart};
 
@@ -29,11 +32,24 @@ pub fn image_length(book: &[u8]) -> usize
     octets_code::read_u32(book, TOTAL_AT) as usize
 }
 
-// How many buckets n entries have, the last perhaps shorter.
-pub fn buckets(n: usize) -> usize
-    requires { ⌜ n ≤ maxEntries ⌝ }
-    ensures { λ r. ⌜ r ≡ ceil n bucketSize ⌝ }
+// The layout that every call reads and writes.
+pub fn today() -> Layout
+    ensures { λ r. ⌜ r ≡ today ⌝ }
 {
+    Layout {
+        version: BOOK_VERSION,
+        heads: BOOK_HEADS,
+    }
+}
+
+// How many bucket offsets a book of n entries has, the last bucket perhaps shorter; none without heads.
+pub fn buckets(heads: bool, n: usize) -> usize
+    requires { ⌜ n ≤ maxEntries ⌝ }
+    ensures { λ r. ⌜ (r ≡ buckets heads n) × (r ≤ maxEntries) ⌝ }
+{
+    if !heads {
+        return 0;
+    }
     (n + BUCKET_SIZE - 1) / BUCKET_SIZE
 }
 
@@ -46,9 +62,12 @@ pub fn blocks(n: usize) -> usize
 }
 
 // Whether the name at a position is a bucket's head.
-pub fn is_head(index: usize) -> bool
-    ensures { λ r. ⌜ r ≡ bucketHead index ⌝ }
+pub fn is_head(heads: bool, index: usize) -> bool
+    ensures { λ r. ⌜ r ≡ headAt heads index ⌝ }
 {
+    if !heads {
+        return false;
+    }
     index % BUCKET_SIZE == 0
 }
 
@@ -78,19 +97,19 @@ pub fn offset_start(n: usize, bucket: usize) -> usize
 }
 
 // Where the peak of block j stands: the peaks are behind the offsets.
-pub fn peak_start(n: usize, j: usize) -> usize
+pub fn peak_start(l: Layout, n: usize, j: usize) -> usize
     requires { ⌜ (n ≤ maxEntries) × (j ≤ maxEntries) ⌝ }
-    ensures { λ r. ⌜ r ≡ peakStart n j ⌝ }
+    ensures { λ r. ⌜ r ≡ peakStart l n j ⌝ }
 {
-    offset_start(n, buckets(n)) + PEAK_BYTES * j
+    offset_start(n, buckets(l.heads, n)) + PEAK_BYTES * j
 }
 
 // Where the records begin: behind the peaks.
-pub fn records_at(n: usize) -> usize
+pub fn records_at(l: Layout, n: usize) -> usize
     requires { ⌜ n ≤ maxEntries ⌝ }
-    ensures { λ r. ⌜ r ≡ recordsAt layout21 n ⌝ }
+    ensures { λ r. ⌜ r ≡ recordsAt l n ⌝ }
 {
-    peak_start(n, blocks(n))
+    peak_start(l, n, blocks(n))
 }
 
 // The score of a position.
@@ -110,11 +129,11 @@ pub fn offset_at(buf: &[u8], n: usize, bucket: usize) -> usize
 }
 
 // The peak of block j.
-pub fn peak_at(buf: &[u8], n: usize, j: usize) -> usize
+pub fn peak_at(buf: &[u8], l: Layout, n: usize, j: usize) -> usize
     requires { ⌜ (n ≤ maxEntries) × (j ≤ maxEntries) ⌝ }
-    ensures { λ r. ⌜ r ≡ peakAt (now (buf .entry)) n j ⌝ }
+    ensures { λ r. ⌜ r ≡ peakAt l (now (buf .entry)) n j ⌝ }
 {
-    octets_code::read_u16(buf, peak_start(n, j)) as usize
+    octets_code::read_u16(buf, peak_start(l, n, j)) as usize
 }
 
 // The better of two positions, of which b is the earlier one. It is the one that outranks the other (`outranks` in

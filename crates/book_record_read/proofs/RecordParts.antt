@@ -1,7 +1,7 @@
 -- The tests of a record's parts are those of a record of a book, whichever positions are heads.
 use Prim.Native.Nat.{_+_, _-_, _<_, _≤_, suc, zero, ℕ}
 use mathlib.Core.Path.{_∙_, _≡_, ap, refl, sym}
-use mathlib.Core.Bool.{Bool, _&&_, and-assoc, and-false, and-true as and-whole, false, true}
+use mathlib.Core.Bool.{Bool, _&&_, and-assoc, and-false, and-true as and-whole, false, false≢true, true}
 use mathlib.Core.List.{List, [], _++_, _∷_}
 use lib.Dec.{eqb, eqb·suc-zero, leb, ltb}
 use lib.ListN.{drop, drop-of-length-le, getD, length, length-append, length-drop, length-take, take}
@@ -18,7 +18,7 @@ use Rattle.entries_laws.proofs.Signs.{CutAt, allowed-append, allowed-half, betw
 use Rattle.entries_laws.proofs.Signs.{inMicro, inOhm, whole-first}
 use Rattle.book_record_read.specs.RecordParts.{goesAbove, headPart, headTest, ownIf, recordPart, tailPart}
 use Rattle.book_record_read.specs.RecordParts.{tailTest}
-use Rattle.book.specs.Records.{recordLength, recordName, recordOf}
+use Rattle.book.specs.Records.{headAt, recordLength, recordName, recordOf}
 use Rattle.book_laws.specs.Cursor.{recordIs}
 use Rattle.book_record_read.specs.declared.Part.the-variants.{Bad, Own}
 use Rattle.book_record_read.proofs.Standing.{head-stands, tail-stands}
@@ -161,54 +161,54 @@ name-kept k prev v h q = go (halfAfter noHalf (take k prev)) (drop k prev) refl 
     go g u e d (inMicro {w}) = name-inside k prev v g 0xB5 w e d refl refl (λ y t. rw (eqb-swap 0xB5 y t))
     go g u e d (inOhm {w}) = name-inside k prev v g 0xA9 w e d refl refl (λ y t. rw (eqb-swap 0xA9 y t))
 
-module _ (isHead : ℕ → Bool) (i : ℕ) (prev : List ℕ) where
+module _ (heads : Bool) (i : ℕ) (prev : List ℕ) where
   -- what the three tests of a record of a book say
   pub record-is :
-      (s : List ℕ) → recordIs isHead i prev s ≡ true
-      → let w = recordName isHead i prev s in
-      (begins (recordOf isHead i prev w) s ≡ true) × (isName w ≡ true) × (below prev w ≡ true)
+      (s : List ℕ) → recordIs heads i prev s ≡ true
+      → let w = recordName heads i prev s in
+      (begins (recordOf heads i prev w) s ≡ true) × (isName w ≡ true) × (below prev w ≡ true)
   unfolding recordIs
   record-is s t =
-      let w = recordName isHead i prev s in
-      let a = and-true (begins (recordOf isHead i prev w) s) (isName w && below prev w) t in
+      let w = recordName heads i prev s in
+      let a = and-true (begins (recordOf heads i prev w) s) (isName w && below prev w) t in
       let b = and-true (isName w) (below prev w) (a .1) in
       (a .0, b .0, b .1)
 
-  head-name : (s : List ℕ) → isHead i ≡ true → recordName isHead i prev s ≡ take (getD s 0 0) (drop 1 s)
+  head-name : (s : List ℕ) → headAt heads i ≡ true → recordName heads i prev s ≡ take (getD s 0 0) (drop 1 s)
   unfolding recordName
   head-name s e = rw e
 
   tail-name :
-      (s : List ℕ) → isHead i ≡ false → recordName isHead i prev s ≡ take (getD s 0 0) prev
+      (s : List ℕ) → headAt heads i ≡ false → recordName heads i prev s ≡ take (getD s 0 0) prev
       ++ take (getD s 1 0) (drop 2 s)
   unfolding recordName
   tail-name s e = rw e
 
-  head-none : isHead i ≡ true → recordIs isHead i prev [] ≡ false
+  head-none : headAt heads i ≡ true → recordIs heads i prev [] ≡ false
   unfolding recordIs recordOf
   head-none e = rw e
 
-  head-test : (s : List ℕ) → isHead i ≡ true → headTest prev s ≡ recordIs isHead i prev s
+  head-test : (s : List ℕ) → headAt heads i ≡ true → headTest prev s ≡ recordIs heads i prev s
   unfolding headTest recordIs
   head-test [] e = sym (head-none e)
   head-test (n ∷ bs) e =
       let z : suc (length bs) - 1 ≡ length bs = omega arith in
-      rw (head-stands isHead i n prev bs e, head-name (n ∷ bs) e, le-leb 1 (suc (length bs)) (omega arith), z)
+      rw (head-stands heads i n prev bs e, head-name (n ∷ bs) e, le-leb 1 (suc (length bs)) (omega arith), z)
 
-  tail-none : (s : List ℕ) → length s < 2 → isHead i ≡ false → recordIs isHead i prev s ≡ false
+  tail-none : (s : List ℕ) → length s < 2 → headAt heads i ≡ false → recordIs heads i prev s ≡ false
   unfolding recordIs recordOf
   tail-none [] h e = rw e
   tail-none (x ∷ []) h e = rw (e, and-false)
   tail-none (x ∷ y ∷ s) h e = absurd (omega arith)
 
-  tail-test : (s : List ℕ) → isHead i ≡ false → isPrefix prev ≡ true → tailTest prev s ≡ recordIs isHead i prev s
+  tail-test : (s : List ℕ) → headAt heads i ≡ false → isPrefix prev ≡ true → tailTest prev s ≡ recordIs heads i prev s
   unfolding tailTest recordIs
   tail-test [] e h = sym (tail-none [] (omega arith) e)
   tail-test (x ∷ []) e h = sym (tail-none (x ∷ []) (omega arith) e)
   tail-test (k ∷ n ∷ bs) e h =
       let z : suc (suc (length bs)) - 2 ≡ length bs = omega arith in
       rw (
-        tail-stands isHead i k n prev bs e,
+        tail-stands heads i k n prev bs e,
         tail-name (k ∷ n
             ∷ bs) e,
         le-leb 2 (suc (suc (length bs))) (omega arith),
@@ -223,22 +223,24 @@ module _ (isHead : ℕ → Bool) (i : ℕ) (prev : List ℕ) where
       (λ u. rw (t, u) (and-false (leb 1 n))))
       (λ t. rw t))
 
-  pub head-part : (s : List ℕ) → isHead i ≡ true → headPart prev s ≡ recordPart isHead i prev s
+  pub head-part : (s : List ℕ) → headAt heads i ≡ true → headPart prev s ≡ recordPart heads i prev s
   unfolding recordPart
   head-part s e = rw (e, head-test s e)
 
-  pub tail-part : (s : List ℕ) → isHead i ≡ false → isPrefix prev ≡ true → tailPart prev s ≡ recordPart isHead i prev s
+  pub tail-part : (s : List ℕ) → headAt heads i ≡ false → isPrefix prev ≡ true
+      → tailPart prev s ≡ recordPart heads i prev s
   unfolding recordPart
   tail-part s e h = rw (e, tail-test s e h)
 
 -- what the parts of a record say of it
-pub record Owned (isHead : ℕ → Bool) (i : ℕ) (prev s : List ℕ) (kept start n : ℕ) : Type 0 where
-  pub is : recordIs isHead i prev s ≡ true
-  pub name : recordName isHead i prev s ≡ take kept prev ++ take n (drop start s)
-  pub long : recordLength isHead i s ≡ start + n
+pub record Owned (heads : Bool) (i : ℕ) (prev s : List ℕ) (kept start n : ℕ) : Type 0 where
+  pub is : recordIs heads i prev s ≡ true
+  pub name : recordName heads i prev s ≡ take kept prev ++ take n (drop start s)
+  pub long : recordLength heads i s ≡ start + n
   pub within : kept ≤ length prev
   pub short : kept + n ≤ longestName
   pub inside : start + n ≤ length s
+  pub shares : headAt heads i ≡ false → kept ≡ common prev (recordName heads i prev s)
 
 own-if : (t : Bool) (a b d : ℕ) {k m n : ℕ} → ownIf t a b d ≡ Own k m n → (t ≡ true) × (a ≡ k) × (b ≡ m) × (d ≡ n)
 own-if true a b d e = (refl, (cc), (cc), (cc))
@@ -248,9 +250,9 @@ own-not : (t : Bool) (a b d : ℕ) → ownIf t a b d ≡ Bad → t ≡ false
 own-not true a b d e = absurd (let z : _≡_ {A = ℕ} 0 1 = cc in omega arith)
 own-not false a b d e = refl
 
-module _ (isHead : ℕ → Bool) (i : ℕ) (prev s : List ℕ) where
+module _ (heads : Bool) (i : ℕ) (prev s : List ℕ) where
   -- found parts are those of a record of a book; no parts, no such record
-  head-owned : isHead i ≡ true → headTest prev s ≡ true → Owned isHead i prev s 0 1 (getD s 0 0)
+  head-owned : headAt heads i ≡ true → headTest prev s ≡ true → Owned heads i prev s 0 1 (getD s 0 0)
   unfolding headTest recordLength
   head-owned e t =
       let w = take (getD s 0 0) (drop 1 s) in
@@ -261,16 +263,26 @@ module _ (isHead : ℕ → Bool) (i : ℕ) (prev s : List ℕ) where
       let y : getD s 0 0 ≤ length s - 1 = leb-true (getD s 0 0) (length s - 1) (b .0) in
       let l : length w ≡ getD s 0 0 = simp (length-take, length-drop) (omega arith) in
       record {
-        is = sym (head-test isHead i prev s e) ∙ t;
-        name = head-name isHead i prev s e;
+        is = sym (head-test heads i prev s e) ∙ t;
+        name = head-name heads i prev s e;
         long = rw e;
         within = omega arith;
         short = omega (arith, name-length w (c .0));
         inside = omega arith;
+        shares = λ f. absurd (false≢true (sym f ∙ e));
       }
 
-  tail-owned : isHead i ≡ false → isPrefix prev ≡ true → tailTest prev s ≡ true
-      → Owned isHead i prev s (getD s 0 0) 2 (getD s 1 0)
+  -- the first byte of a record that is no head says how many bytes are shared
+  first-byte :
+      (bs : List ℕ) → headAt heads i ≡ false → begins (recordOf heads i prev (recordName heads i prev s)) bs ≡ true
+      → getD bs 0 0 ≡ common prev (recordName heads i prev s)
+  unfolding recordOf
+  first-byte [] e h = absurd (false≢true (rw e at h))
+  first-byte (x ∷ bs) e h =
+      sym (eqb-true _ x (and-true (eqb (common prev (recordName heads i prev s)) x) _ (rw e at h) .0))
+
+  tail-owned : headAt heads i ≡ false → isPrefix prev ≡ true → tailTest prev s ≡ true
+      → Owned heads i prev s (getD s 0 0) 2 (getD s 1 0)
   unfolding tailTest recordLength
   tail-owned e h t =
       let a = and-true (leb 2 (length s)) _ t in
@@ -281,29 +293,30 @@ module _ (isHead : ℕ → Bool) (i : ℕ) (prev s : List ℕ) where
       let x : 2 ≤ length s = leb-true 2 (length s) (a .0) in
       let y : getD s 1 0 ≤ length s - 2 = leb-true (getD s 1 0) (length s - 2) (d .0) in
       record {
-        is = sym (tail-test isHead i prev s e h) ∙ t;
-        name = tail-name isHead i prev s e;
+        is = sym (tail-test heads i prev s e h) ∙ t;
+        name = tail-name heads i prev s e;
         long = rw e;
         within = leb-true (getD s 0 0) (length prev) (b .0);
         short = leb-true (getD s 0 0 + getD s 1 0) longestName (f .0);
         inside = omega arith;
+        shares = λ o. first-byte s e (record-is heads i prev s (sym (tail-test heads i prev s e h) ∙ t) .0);
       }
 
   pub part-own :
-      (kept start n : ℕ) → isPrefix prev ≡ true → recordPart isHead i prev s ≡ Own kept start n
-      → Owned isHead i prev s kept start n
+      (kept start n : ℕ) → isPrefix prev ≡ true → recordPart heads i prev s ≡ Own kept start n
+      → Owned heads i prev s kept start n
   part-own kept start n h q =
-      by-test (isHead i)
+      by-test (headAt heads i)
       (λ e.
-      let x = own-if (headTest prev s) 0 1 (getD s 0 0) (head-part isHead i prev s e ∙ q) in
+      let x = own-if (headTest prev s) 0 1 (getD s 0 0) (head-part heads i prev s e ∙ q) in
       rw (← (x .1), ← (x .2), ← (x .3)) (head-owned e (x .0)))
       (λ e.
-      let x = own-if (tailTest prev s) (getD s 0 0) 2 (getD s 1 0) (tail-part isHead i prev s e h ∙ q) in
+      let x = own-if (tailTest prev s) (getD s 0 0) 2 (getD s 1 0) (tail-part heads i prev s e h ∙ q) in
       rw (← (x .1), ← (x .2), ← (x .3)) (tail-owned e h (x .0)))
 
-  pub part-bad : recordPart isHead i prev s ≡ Bad → recordIs isHead i prev s ≡ false
+  pub part-bad : recordPart heads i prev s ≡ Bad → recordIs heads i prev s ≡ false
   unfolding recordPart
   part-bad q =
-      by-test (isHead i)
-      (λ e. own-not (recordIs isHead i prev s) 0 1 (getD s 0 0) (rw e at q))
-      (λ e. own-not (recordIs isHead i prev s) (getD s 0 0) 2 (getD s 1 0) (rw e at q))
+      by-test (headAt heads i)
+      (λ e. own-not (recordIs heads i prev s) 0 1 (getD s 0 0) (rw e at q))
+      (λ e. own-not (recordIs heads i prev s) (getD s 0 0) 2 (getD s 1 0) (rw e at q))

@@ -12,13 +12,13 @@ use Rattle.octets.specs.Octets.{begins, common}
 use Rattle.octets.proofs.Coding.{common-grows, common-most}
 use Rattle.octets.proofs.Order.{begins-front}
 use Rattle.octets.proofs.Tests.{and-false, by-test, eqb-self}
-use Rattle.book.specs.Records.{recordName, recordOf}
+use Rattle.book.specs.Records.{headAt, recordName, recordOf}
 
-module _ (isHead : ℕ → Bool) where
+module _ (heads : Bool) where
   -- one record: a head stands where its bytes are there
   pub head-stands :
-      (i len : ℕ) (prev bs : List ℕ) → isHead i ≡ true
-      → begins (recordOf isHead i prev (recordName isHead i prev (len ∷ bs))) (len ∷ bs) ≡ leb len (length bs)
+      (i len : ℕ) (prev bs : List ℕ) → headAt heads i ≡ true
+      → begins (recordOf heads i prev (recordName heads i prev (len ∷ bs))) (len ∷ bs) ≡ leb len (length bs)
   unfolding recordOf recordName
   head-stands i len prev bs e =
       let l = length-take len bs in
@@ -28,8 +28,8 @@ module _ (isHead : ℕ → Bool) where
       (λ t. let q = leb-false len (length bs) t in rw (e, t, ne-eqb (length (take len bs)) len (λ z. omega arith)))
 
   tail-form :
-      (i c len : ℕ) (prev bs : List ℕ) → isHead i ≡ false
-      → begins (recordOf isHead i prev (recordName isHead i prev (c ∷ len ∷ bs))) (c ∷ len ∷ bs)
+      (i c len : ℕ) (prev bs : List ℕ) → headAt heads i ≡ false
+      → begins (recordOf heads i prev (recordName heads i prev (c ∷ len ∷ bs))) (c ∷ len ∷ bs)
       ≡ (eqb (common prev (take c prev ++ take len bs)) c
       && (eqb (length (take c prev ++ take len bs) - common prev (take c prev ++ take len bs)) len
       && begins (drop (common prev (take c prev ++ take len bs)) (take c prev ++ take len bs)) bs))
@@ -38,8 +38,8 @@ module _ (isHead : ℕ → Bool) where
 
   -- another stands where its common byte is within the name before, its bytes are there, and no further byte is shared
   pub tail-stands :
-      (i c len : ℕ) (prev bs : List ℕ) → isHead i ≡ false
-      → begins (recordOf isHead i prev (recordName isHead i prev (c ∷ len ∷ bs))) (c ∷ len ∷ bs)
+      (i c len : ℕ) (prev bs : List ℕ) → headAt heads i ≡ false
+      → begins (recordOf heads i prev (recordName heads i prev (c ∷ len ∷ bs))) (c ∷ len ∷ bs)
       ≡ (leb c (length prev) && (leb len (length bs) && eqb (common (drop c prev) (take len bs)) 0))
   tail-stands i c len prev bs e =
       let w = take c prev ++ take len bs in

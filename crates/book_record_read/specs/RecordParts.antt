@@ -1,14 +1,16 @@
 -- The parts of a record: how many bytes it keeps of the name before, where its own bytes start, and how many they are.
 -- They are found by tests of the record's own bytes; only a head's name is compared as a whole with the name before.
-use Prim.Native.Nat.{_+_, _-_, ℕ}
+use Prim.Native.Nat.{_+_, _-_, _≤_, ℕ}
+use mathlib.Core.Path.{_≡_}
 use mathlib.Core.Bool.{Bool, _&&_, false, not, true}
 use mathlib.Core.List.{List}
 use lib.Dec.{leb, ltb}
 use lib.ListN.{drop, getD, length, take}
 use Rattle.octets.specs.Lists.{if_then_else_}
-use Rattle.octets.specs.Octets.{below}
+use Rattle.octets.specs.Octets.{below, common}
 use Rattle.entries.specs.Names.{isName, isPrefix, longestName}
 use Rattle.entries_laws.specs.Signs.{isTail}
+use Rattle.book.specs.Records.{headAt}
 use Rattle.book_laws.specs.Cursor.{Step, cursorOf, recordIs}
 use Rattle.book_record_read.specs.declared.Part.{Part}
 use Rattle.book_record_read.specs.declared.Part.the-variants.{Bad, Own}
@@ -20,11 +22,11 @@ ownIf true kept start n = Own kept start n
 ownIf false kept start n = Bad
 
 -- the parts of the record at the front of s, at position i behind the name prev
-unfoldable pub recordPart : (ℕ → Bool) → ℕ → List ℕ → List ℕ → Part
-recordPart isHead i prev s =
-    if isHead i
-    then ownIf (recordIs isHead i prev s) 0 1 (getD s 0 0)
-    else ownIf (recordIs isHead i prev s) (getD s 0 0) 2 (getD s 1 0)
+unfoldable pub recordPart : Bool → ℕ → List ℕ → List ℕ → Part
+recordPart heads i prev s =
+    if headAt heads i
+    then ownIf (recordIs heads i prev s) 0 1 (getD s 0 0)
+    else ownIf (recordIs heads i prev s) (getD s 0 0) 2 (getD s 1 0)
 
 -- The tests, in the code's order. A head: the length byte, that many bytes, a name, above the one before.
 unfoldable pub headTest : List ℕ → List ℕ → Bool
@@ -58,3 +60,8 @@ tailPart prev s = ownIf (tailTest prev s) (getD s 0 0) 2 (getD s 1 0)
 -- the step that the reading of the record at index i tells, with the name that it left
 abbrev pub stepOf : ℕ → Reading → List ℕ → Step
 stepOf i r name = record { ok = r .ok; next = cursorOf (r .end) (i + 1) name (r .len) }
+
+-- what the record at position i keeps of the name before is within its name w and, where it is no head, all that w
+-- shares with that name
+abbrev pub Keeps : Bool → ℕ → List ℕ → Reading → List ℕ → Type 0
+Keeps heads i prev r w = r .ok ≡ true → (r .kept ≤ r .len) × (headAt heads i ≡ false → r .kept ≡ common prev w)

@@ -4,16 +4,17 @@ use limits::MICRO_TAIL;
 use limits::OHM_TAIL;
 ghost use mathlib.Core.Path.{_≡_};
 ghost use mathlib.Core.Bool.{true};
-ghost use lib.ListN.{length};
+ghost use lib.ListN.{length, take};
 ghost use Rattle.entries.specs.Names.{isPrefix, longestName};
-ghost use Rattle.book.specs.Records.{bucketHead};
-ghost use Rattle.book_record_read.specs.RecordParts.{goesAbove, headPart, recordPart, stepOf, tailPart};
+ghost use Rattle.book_record_read.specs.RecordParts.{Keeps, goesAbove, headPart, recordPart, stepOf, tailPart};
 ghost use Rattle.book_laws.specs.Cursor.{Sound, Stepped, cursorOf};
 
-// Whether a record of a book stands at an index, where it ends, and the length of its name.
+// Whether a record of a book stands at an index, where it ends, how many bytes it keeps of the name before, and the
+// length of its name.
 pub struct Reading {
     pub ok: bool,
     pub end: usize,
+    pub kept: usize,
     pub len: usize,
 }
 
@@ -96,11 +97,11 @@ fn tail_part(prev: &[u8], s: &[u8]) -> Part
 }
 
 // The parts of the record at the front of s, at a position behind the name prev.
-fn part_at(index: usize, prev: &[u8], s: &[u8]) -> Part
+fn part_at(heads: bool, index: usize, prev: &[u8], s: &[u8]) -> Part
     requires { ⌜ isPrefix (now prev) ≡ true ⌝ }
-    ensures { λ r. ⌜ r ≡ recordPart bucketHead index (now (prev .entry)) (now (s .entry)) ⌝ }
+    ensures { λ r. ⌜ r ≡ recordPart heads index (now (prev .entry)) (now (s .entry)) ⌝ }
 {
-    if book_layout::is_head(index) {
+    if book_layout::is_head(heads, index) {
         head_part(prev, s)
     } else {
         tail_part(prev, s)
@@ -109,25 +110,37 @@ fn part_at(index: usize, prev: &[u8], s: &[u8]) -> Part
 
 // Reads the record at index at, at a position behind the name in the first len bytes of a lent array; its name takes
 // that one's place. For a pass over a whole book: the name stays where it is.
-pub fn read_record(src: &[u8], at: usize, index: usize, name: &mut [u8], len: usize) -> Reading
+pub fn read_record(
+    src: &[u8],
+    heads: bool,
+    at: usize,
+    index: usize,
+    name: &mut [u8],
+    len: usize,
+) -> Reading
     requires { ⌜ Sound (now src) (cursorOf at index (now name) len) × (length (now name) ≡ longestName) ⌝ }
-    ensures { λ r. ⌜ Stepped (now (src .entry)) (cursorOf at index (now (name .entry)) len)
-        (stepOf index r (now (name .exit))) ⌝ }
+    ensures { λ r. ⌜ Stepped heads (now (src .entry)) (cursorOf at index (now (name .entry)) len)
+        (stepOf index r (now (name .exit)))
+        × Keeps heads index (take len (now (name .entry))) r (take (r .len) (now (name .exit))) ⌝ }
 {
     let s = &src[at..];
-    let part = part_at(index, &name[..len], s);
+    let part = part_at(heads, index, &name[..len], s);
     match part {
         Part::Bad => Reading {
             ok: false,
             end: at,
+            kept: 0,
             len: len,
         },
         Part::Own(kept, start, n) => {
             octets_code::copy(name, kept, &s[start..start + n]);
+            let end = at + start + n;
+            let long = kept + n;
             Reading {
                 ok: true,
-                end: at + start + n,
-                len: kept + n,
+                end: end,
+                kept: kept,
+                len: long,
             }
         }
     }

@@ -9,25 +9,25 @@ use lib.Seq.{sets}
 use native.Mathlib.Numerals.{add-one, add-two}
 use native.Mathlib.Omega.{arith}
 use Rattle.octets.specs.Octets.{common}
-use Rattle.book.specs.Records.{recordOf}
+use Rattle.book.specs.Records.{headAt, recordOf}
 use Rattle.book_record_write.specs.Written.{headRecord, tailRecord}
 use Rattle.octets.proofs.Stores.{to-end}
 
-module _ (isHead : ℕ → Bool) (i : ℕ) (prev w : List ℕ) where
-  pub record-head : isHead i ≡ true → recordOf isHead i prev w ≡ headRecord w
+module _ (heads : Bool) (i : ℕ) (prev w : List ℕ) where
+  pub record-head : headAt heads i ≡ true → recordOf heads i prev w ≡ headRecord w
   unfolding recordOf
   record-head e = rw e
 
-  pub record-tail : isHead i ≡ false → recordOf isHead i prev w ≡ tailRecord prev w
+  pub record-tail : headAt heads i ≡ false → recordOf heads i prev w ≡ tailRecord prev w
   unfolding recordOf
   record-tail e = rw e
 
 -- a head does not depend on the name before
 pub same-record :
-    (isHead : ℕ → Bool) (i : ℕ) (prev other w : List ℕ) → (prev ≡ other) ⊎ (isHead i ≡ true)
-    → recordOf isHead i prev w ≡ recordOf isHead i other w
-same-record isHead i prev other w (inl e) = rw e
-same-record isHead i prev other w (inr e) = record-head isHead i prev w e ∙ sym (record-head isHead i other w e)
+    (heads : Bool) (i : ℕ) (prev other w : List ℕ) → (prev ≡ other) ⊎ (headAt heads i ≡ true)
+    → recordOf heads i prev w ≡ recordOf heads i other w
+same-record heads i prev other w (inl e) = rw e
+same-record heads i prev other w (inr e) = record-head heads i prev w e ∙ sym (record-head heads i other w e)
 
 pub tail-length : (prev w : List ℕ) → length (tailRecord prev w) ≡ 2 + (length w - common prev w)
 tail-length prev w = omega (arith, length-drop (common prev w) w)

@@ -2,7 +2,7 @@
 ghost use Prim.Native.Nat.{_≤_};
 ghost use lib.ListN.{length};
 ghost use Rattle.entries.specs.Names.{longestName};
-ghost use Rattle.book.specs.Records.{bucketHead, recordOf};
+ghost use Rattle.book.specs.Records.{recordOf};
 ghost use Rattle.book_record_write.specs.Written.{RecordPut, RecordRoom, Sized, headRecord, tailRecord};
 
 // Writes a head at index at, and answers where it ends: the name's length, the name.
@@ -30,12 +30,19 @@ fn put_tail(dst: &mut [u8], at: usize, prev: &[u8], name: &[u8]) -> usize
 }
 
 // Writes the record of a name, at a position behind the name prev, and answers where it ends.
-pub fn put_record(dst: &mut [u8], at: usize, index: usize, prev: &[u8], name: &[u8]) -> usize
-    requires { ⌜ RecordRoom (now dst) at (recordOf bucketHead index (now prev) (now name)) (now name) ⌝ }
+pub fn put_record(
+    dst: &mut [u8],
+    at: usize,
+    heads: bool,
+    index: usize,
+    prev: &[u8],
+    name: &[u8],
+) -> usize
+    requires { ⌜ RecordRoom (now dst) at (recordOf heads index (now prev) (now name)) (now name) ⌝ }
     ensures { λ r. ⌜ RecordPut (now (dst .entry)) (now (dst .exit)) at
-        (recordOf bucketHead index (now (prev .entry)) (now (name .entry))) r ⌝ }
+        (recordOf heads index (now (prev .entry)) (now (name .entry))) r ⌝ }
 {
-    if book_layout::is_head(index) {
+    if book_layout::is_head(heads, index) {
         put_head(dst, at, name)
     } else {
         put_tail(dst, at, prev, name)
@@ -43,11 +50,11 @@ pub fn put_record(dst: &mut [u8], at: usize, index: usize, prev: &[u8], name: &[
 }
 
 // How many bytes the record of a name takes.
-pub fn record_size(index: usize, prev: &[u8], name: &[u8]) -> usize
+pub fn record_size(heads: bool, index: usize, prev: &[u8], name: &[u8]) -> usize
     requires { ⌜ length (now name) ≤ longestName ⌝ }
-    ensures { λ r. ⌜ Sized (recordOf bucketHead index (now (prev .entry)) (now (name .entry))) r ⌝ }
+    ensures { λ r. ⌜ Sized (recordOf heads index (now (prev .entry)) (now (name .entry))) r ⌝ }
 {
-    if book_layout::is_head(index) {
+    if book_layout::is_head(heads, index) {
         1 + name.len()
     } else {
         2 + (name.len() - octets_code::common_prefix(prev, name))

@@ -19,7 +19,7 @@ use Rattle.entries.specs.Entries.{Entry, at, entry, noEntry}
 use Rattle.entries.specs.Names.{isName, longestName}
 use Rattle.entries.proofs.Same.{entry-eq}
 use Rattle.entries.proofs.Valid.{name-length}
-use Rattle.book.specs.Book.{inBook, layout21, recordsAt}
+use Rattle.book.specs.Book.{inBook, today, recordsAt}
 use Rattle.book_laws.specs.Check.{scoreAt}
 use Rattle.book_laws.specs.Held.{Held}
 use Rattle.book_laws.proofs.Held.{held-few, held-stored, held-valid}
@@ -45,7 +45,7 @@ pub record Unpacking (book : List ℕ) (n : ℕ) (u₀ m₀ sc₀ u m sc name : 
 pub unpack-start :
     {book : List ℕ} {n k : ℕ} {u m sc : List ℕ} (name : List ℕ) → Held book n
     → TableRoom n (length u) (length m) (length sc)
-    → k ≡ recordsAt layout21 n → length name ≡ longestName → Unpacking book n u m sc u m sc name k 0
+    → k ≡ recordsAt today n → length name ≡ longestName → Unpacking book n u m sc u m sc name k 0
 unpack-start name b r e l =
     record {
       reading = read-start name b e l;

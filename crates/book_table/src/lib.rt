@@ -1,4 +1,5 @@
 // The names and scores of a book that was checked, unpacked into the rows of a table.
+use limits::BOOK_HEADS;
 use limits::LONGEST_NAME;
 ghost use mathlib.Core.Path.{_≡_};
 ghost use Prim.Native.Nat.{_+_, _≤_};
@@ -29,10 +30,10 @@ pub fn unpack(book: &[u8], n: usize, names: &mut [u8], lens: &mut [u8], scores: 
         (now (scores .exit)) ⌝ }
 {
     let mut name = [0; LONGEST_NAME];
-    let mut at = book_layout::records_at(n);
+    let mut at = book_layout::records_at(book_layout::today(), n);
     let mut i = 0;
     while i < n {
-        let p = book_read::read_name(book, at, i, &mut name);
+        let p = book_read::read_name(book, at, BOOK_HEADS, i, &mut name);
         let len = p.kept + p.own;
         put_row(names, i * LONGEST_NAME, &name);
         lens[i] = len as u8;

@@ -8,24 +8,26 @@ use borrow.Author.Tests.{le-ltb, lt-ltb}
 use Rattle.octets.specs.Octets.{overwrite}
 use Rattle.entries.specs.Entries.{Entry}
 use Rattle.answer.specs.Answers.{writing, writingImage}
-use Rattle.book.specs.Book.{bookImage}
 use Rattle.answer.specs.Reports.{Answered}
-use Rattle.book_write.specs.Whole.{wholeBook}
+use Rattle.book.specs.declared.Layout.{Layout}
+use Rattle.book.specs.Book.{imageIn}
+use Rattle.book_write.specs.Whole.{wholeIn}
 use Rattle.answer.specs.declared.Written.the-variants as written
 
 -- a whole book, refused or written
-pub whole-refused : (es : List Entry) (dst : List ℕ) → length dst < length (bookImage es)
-    → Answered (wholeBook es dst) (written.Refused 7) dst
+pub whole-refused :
+    (l : Layout) (es : List Entry) (dst : List ℕ) {total : ℕ} → total ≡ length (imageIn l es) → length dst < total
+    → Answered (wholeIn l es dst) (written.Refused 7) dst
 unfolding writingImage writing
-whole-refused es dst l =
-    let t = lt-ltb (length dst) (length (bookImage es)) l in
+whole-refused l es dst e h =
+    let t = lt-ltb (length dst) (length (imageIn l es)) (omega arith) in
     record { answer = rw t; left = rw t }
 
 pub whole-written :
-    (es : List Entry) (dst left : List ℕ) {n total : ℕ} → n ≡ length es → total ≡ length (bookImage es)
-    → total ≤ length dst
-    → left ≡ overwrite dst (bookImage es) → Answered (wholeBook es dst) (written.Wrote n total) left
+    (l : Layout) (es : List Entry) (dst left : List ℕ) {n total : ℕ} → n ≡ length es
+    → total ≡ length (imageIn l es) → total ≤ length dst → left ≡ overwrite dst (imageIn l es)
+    → Answered (wholeIn l es dst) (written.Wrote n total) left
 unfolding writingImage writing
-whole-written es dst left m t l e =
-    let u = le-ltb (length dst) (length (bookImage es)) (omega arith) in
+whole-written l es dst left m t h e =
+    let u = le-ltb (length dst) (length (imageIn l es)) (omega arith) in
     record { answer = rw (u, m, t); left = rw u e }

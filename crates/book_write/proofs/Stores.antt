@@ -5,25 +5,27 @@ use mathlib.Core.List.{List}
 use lib.Seq.{sets}
 use Rattle.octets.specs.Lists.{ceil}
 use Rattle.octets.specs.Octets.{be}
-use Rattle.book.specs.Records.{bucketHead, recordOf}
 use Rattle.frame_code.specs.Stored.{putFrame}
 use Rattle.book_record_write.specs.Written.{RecordPut}
-use Rattle.book.specs.Book.{blockSize, layout21}
+use Rattle.book.specs.declared.Layout.{Layout}
+use Rattle.book.specs.Book.{blockSize}
 use Rattle.book_laws.specs.Check.{scoreStart}
-use Rattle.book_write.specs.Calls.{EntryPut}
+use Rattle.book_write.specs.Calls.{EntryPut, slotRecord}
+use Rattle.book_write.specs.declared.Slot.{Slot}
 use Rattle.book_write.specs.Writing.{finished, putEntry, putOffset, putPeaks}
 
 pub entry-put :
-    (d : List ℕ) {d₁ d₂ d₃ : List ℕ} (n i at : ℕ) (prev w : List ℕ) (s : ℕ) {place end : ℕ}
-    → place ≡ scoreStart i → d₁ ≡ sets d place (be 4 s)
-    → d₂ ≡ putOffset n i at d₁ → RecordPut d₂ d₃ at (recordOf bucketHead i prev w) end
-    → EntryPut d d₃ n i at prev w s end
+    (slot : Slot) (d : List ℕ) {d₁ d₂ d₃ : List ℕ} (prev w : List ℕ) (s : ℕ) {place end : ℕ}
+    → place ≡ scoreStart (slot .index) → d₁ ≡ sets d place (be 4 s)
+    → d₂ ≡ putOffset (slot .layout) (slot .n) (slot .index) (slot .at) d₁
+    → RecordPut d₂ d₃ (slot .at) (slotRecord slot prev w) end
+    → EntryPut slot d d₃ prev w s end
 unfolding putEntry
-entry-put d n i at prev w s there scored pointed recorded =
+entry-put slot d prev w s there scored pointed recorded =
     record { bytes = rw (recorded .bytes, pointed, scored, there); end = recorded .end }
 
 pub book-finished :
-    (d : List ℕ) {d₁ d₂ : List ℕ} (n total : ℕ) → d₁ ≡ putPeaks (ceil n blockSize) n 0 d
-    → d₂ ≡ putFrame (layout21 .version) total n d₁ → d₂ ≡ finished total n d
+    (l : Layout) (d : List ℕ) {d₁ d₂ : List ℕ} (n total : ℕ) → d₁ ≡ putPeaks l (ceil n blockSize) n 0 d
+    → d₂ ≡ putFrame (l .version) total n d₁ → d₂ ≡ finished l total n d
 unfolding finished
-book-finished d n total ps f = rw (f, ps)
+book-finished l d n total ps f = rw (f, ps)

@@ -5,29 +5,30 @@ use lib.Seq.{sets}
 use Rattle.octets.specs.Lists.{ceil, if_then_else_}
 use Rattle.octets.specs.Octets.{be}
 use Rattle.entries.specs.Entries.{Entry}
-use Rattle.book.specs.Records.{bucketHead, bucketSize, recordOf}
-use Rattle.book.specs.Book.{blockSize, layout21}
+use Rattle.book.specs.Records.{bucketSize, headAt, recordOf}
+use Rattle.book.specs.declared.Layout.{Layout}
+use Rattle.book.specs.Book.{blockSize}
 use Rattle.book_laws.specs.Check.{bestBetween, blockEnd, offsetStart, peakStart, scoreStart}
 use Rattle.frame_code.specs.Stored.{putFrame}
 
 -- the offset of a bucket, where its head is at position i and index `at`
-unfoldable pub putOffset : ℕ → ℕ → ℕ → List ℕ → List ℕ
-putOffset n i at d = if bucketHead i then sets d (offsetStart n (i / bucketSize)) (be 2 at) else d
+unfoldable pub putOffset : Layout → ℕ → ℕ → ℕ → List ℕ → List ℕ
+putOffset l n i at d = if headAt (l .heads) i then sets d (offsetStart n (i / bucketSize)) (be 2 at) else d
 
 -- the entry at position i of n, its record at index `at` behind the name prev
-unfoldable pub putEntry : ℕ → ℕ → List ℕ → ℕ → Entry → List ℕ → List ℕ
-putEntry n i prev at e d =
-    sets (putOffset n i at (sets d (scoreStart i) (be 4 (e .score)))) at (recordOf bucketHead i prev (e .name))
+unfoldable pub putEntry : Layout → ℕ → ℕ → List ℕ → ℕ → Entry → List ℕ → List ℕ
+putEntry l n i prev at e d =
+    sets (putOffset l n i at (sets d (scoreStart i) (be 4 (e .score)))) at (recordOf (l .heads) i prev (e .name))
 
 -- the peak of block j, computed from the scores that stand in the buffer
-abbrev pub putPeak : ℕ → ℕ → List ℕ → List ℕ
-putPeak n j d = sets d (peakStart n j) (be 2 (bestBetween d (blockSize * j) (blockEnd n j)))
+abbrev pub putPeak : Layout → ℕ → ℕ → List ℕ → List ℕ
+putPeak l n j d = sets d (peakStart l n j) (be 2 (bestBetween d (blockSize * j) (blockEnd n j)))
 
 -- the peaks of m blocks from block j on
-abbrev pub putPeaks : ℕ → ℕ → ℕ → List ℕ → List ℕ
-putPeaks zero n j d = d
-putPeaks (suc m) n j d = putPeaks m n (suc j) (putPeak n j d)
+abbrev pub putPeaks : Layout → ℕ → ℕ → ℕ → List ℕ → List ℕ
+putPeaks l zero n j d = d
+putPeaks l (suc m) n j d = putPeaks l m n (suc j) (putPeak l n j d)
 
 -- what is left to do once all entries are put
-unfoldable pub finished : ℕ → ℕ → List ℕ → List ℕ
-finished total n d = putFrame (layout21 .version) total n (putPeaks (ceil n blockSize) n 0 d)
+unfoldable pub finished : Layout → ℕ → ℕ → List ℕ → List ℕ
+finished l total n d = putFrame (l .version) total n (putPeaks l (ceil n blockSize) n 0 d)

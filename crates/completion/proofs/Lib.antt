@@ -1,2 +1,3 @@
+pub mod Layouts
 pub mod Limit
 pub mod Machine

@@ -2,14 +2,16 @@
 use Prim.Native.Nat.{_*_, ℕ}
 use mathlib.Core.Path.{_≡_}
 use mathlib.Core.Bool.{Bool, _||_, not}
-use mathlib.Core.List.{List, [], _∷_}
+use mathlib.Core.List.{List, [], _++_, _∷_}
 use lib.Dec.{eqb, ltb}
 use lib.ListN.{length}
 use Rattle.entries.specs.Completion.{completion, maxCount}
 use Rattle.entries.specs.Entries.{Entry}
 use Rattle.entries.specs.Names.{isPrefix}
-use Rattle.answer.specs.Answers.{Answer, OfferedCounts, Outcome, _when_, entriesBytes, given, refused, writing}
-use Rattle.book.specs.Book.{inBook, isBook}
+use Rattle.answer.specs.Answers.{Answer, Check, OfferedCounts, Outcome, _when_, entriesBytes, given, refused, writing}
+use Rattle.book.specs.declared.Layout.{Layout}
+use Rattle.book.specs.Book.{inBook, inBookIn, isBookIn}
+use Rattle.book.specs.Checks.{bookChecks}
 use Rattle.completion.specs.Machine.{machine}
 use Rattle.answer.specs.declared.Completion.{Completion}
 use Rattle.answer.specs.declared.Completion.the-variants as answer
@@ -28,24 +30,33 @@ badCount limit k = eqb k 0 || ltb limit k
 abbrev pub offeredAs : List Entry → ℕ → OfferedCounts
 offeredAs l looks = record { offered = length l; bytes = length (entriesBytes l); looks = looks }
 
--- completion from a book, for counts up to a limit; `ranges` is how many ranges are lent
-unfoldable pub completeBookWithin : ℕ → List ℕ → List ℕ → ℕ → List ℕ → ℕ → Outcome OfferedCounts
-completeBookWithin limit book p k dst ranges =
-    let es = inBook book in
+-- completion from the entries of a book, for counts up to a limit, behind the checks of the book; `ranges` is how many
+-- ranges are lent
+unfoldable pub completeFrom : List Check → ℕ → List Entry → List ℕ → ℕ → List ℕ → ℕ → Outcome OfferedCounts
+completeFrom checks limit es p k dst ranges =
     let l = completion es p k in
     writing
-    (1 when not (isBook book)
-    ∷ 2 when not (isPrefix p)
+    (checks
+    ++ (2 when not (isPrefix p)
     ∷ 3 when badCount limit k
     ∷ 7 when (ltb (length dst) (entryRoom * k) || ltb ranges k)
-    ∷ [])
+    ∷ []))
     (offeredAs l (machine es p k .looks))
     (entriesBytes l)
     dst
 
+abbrev pub completeBookWithin : ℕ → List ℕ → List ℕ → ℕ → List ℕ → ℕ → Outcome OfferedCounts
+completeBookWithin limit book p k dst ranges =
+    completeFrom (bookChecks (book ∷ [])) limit (inBook book) p k dst ranges
+
 -- completion from a book, as the call has it
 abbrev pub completeBook : List ℕ → List ℕ → ℕ → List ℕ → ℕ → Outcome OfferedCounts
 completeBook book p k dst ranges = completeBookWithin maxCount book p k dst ranges
+
+-- completion from a book in any layout, which no call has: 1 where it is not laid out so
+abbrev pub completeIn : Layout → List ℕ → List ℕ → ℕ → List ℕ → ℕ → Outcome OfferedCounts
+completeIn l book p k dst ranges =
+    completeFrom (1 when not (isBookIn l book) ∷ []) maxCount (inBookIn l book) p k dst ranges
 
 -- The lent ranges before and after a call: as they were after a refusal, free after an answer.
 abbrev pub Lent : {A R : Type 0} → Answer A → List R → List R → Type 0

@@ -1,3 +1,4 @@
 pub mod Complete
+pub mod Layouts
 pub mod Machine
 pub mod Worked

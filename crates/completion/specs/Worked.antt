@@ -11,12 +11,13 @@ use Rattle.entries.specs.Entries.{Entry, entry, valid}
 use Rattle.entries.specs.Names.{allowedBytes, isName, isPrefix, isScore, micro}
 use Rattle.book.specs.Records.{recordLength, recordName, recordOf}
 use Rattle.answer.specs.Answers.{entriesBytes, entryBytes, writing}
-use Rattle.book.specs.Book.{bookImage, entriesIn, imageIn, offset, offsets, peak, peaks, readBook, readIn, recordsAt}
+use Rattle.book.specs.Book.{bookImage, entriesIn, imageIn, offset, offsets, peak, peaks, readIn, recordsAt}
 use Rattle.book.specs.Book.{scores}
 use Rattle.frame.specs.Frame.{countOf, framed, readAs}
+use Rattle.book.specs.Old.{P3old}
 use Rattle.book.specs.Shown.{E, P1, P3, alternating, answerEntry, answerFor, changed, fullName, kΩ, letters}
 use Rattle.book.specs.Shown.{nineOffered, shownOffered, signedBook, spare, µA, µF}
-use Rattle.completion.specs.Complete.{completeBook, completeBookWithin}
+use Rattle.completion.specs.Complete.{completeBook, completeBookWithin, completeFrom}
 use Rattle.completion.specs.Machine.{machine, mostLooks, offering, openRange, others, parts}
 
 -- the looks, then the positions offered
@@ -116,9 +117,15 @@ refusing =
     ∷ (shownOffered (completeBook signedBook (0xC2 ∷ []) 0 [] 0) gives (2 ∷ 0 ∷ 0 ∷ 0 ∷ []))
     ∷ (shownOffered (completeBook P3 (replicate 47 0x72 ++ (0xC2 ∷ [])) 1 (spare 53) 1)
     gives (2 ∷ 0 ∷ 0 ∷ 0 ∷ spare 53))
-    -- 1 before all
-    ∷ (shownOffered (completeBook (take 43 P3) (0x1F ∷ []) 0 [] 0) gives (1 ∷ 0 ∷ 0 ∷ 0 ∷ []))
-    ∷ (shownOffered (completeBook (changed P3 26 (1 ∷ [])) [] 1 (spare 53) 1) gives (1 ∷ 0 ∷ 0 ∷ 0 ∷ spare 53))
+    -- 1 before these
+    ∷ (shownOffered (completeBook (take 42 P3) (0x1F ∷ []) 0 [] 0) gives (1 ∷ 0 ∷ 0 ∷ 0 ∷ []))
+    ∷ (shownOffered (completeBook (changed P3 24 (1 ∷ [])) [] 1 (spare 53) 1) gives (1 ∷ 0 ∷ 0 ∷ 0 ∷ spare 53))
+    -- an old book, whole, cut off, damaged and of one byte: 10 before all; an empty buffer is no book
+    ∷ (shownOffered (completeBook P3old (text "r") 1 (spare 53) 1) gives (10 ∷ 0 ∷ 0 ∷ 0 ∷ spare 53))
+    ∷ (shownOffered (completeBook (take 43 P3old) (text "r") 1 (spare 53) 1) gives (10 ∷ 0 ∷ 0 ∷ 0 ∷ spare 53))
+    ∷ (shownOffered (completeBook (changed P3 0 (0x21 ∷ [])) [] 10 [] 0) gives (10 ∷ 0 ∷ 0 ∷ 0 ∷ []))
+    ∷ (shownOffered (completeBook (0x21 ∷ []) (0x1F ∷ []) 0 [] 0) gives (10 ∷ 0 ∷ 0 ∷ 0 ∷ []))
+    ∷ (shownOffered (completeBook [] (0x1F ∷ []) 0 [] 0) gives (1 ∷ 0 ∷ 0 ∷ 0 ∷ []))
     ∷ []
 
 abbrev table : List Row
@@ -126,6 +133,6 @@ table = looking ++ completing ++ refusing
 
 worked : failing 0 table ≡ []
 unfolding be fromBe allowedBytes isPrefix isName isScore valid completion rangeStart recordOf recordName recordLength
-    framed countOf readAs scores peak peaks recordsAt offset offsets imageIn entriesIn readIn bookImage readBook
-    writing entryBytes entriesBytes openRange others parts offering machine completeBookWithin
+    framed countOf readAs scores peak peaks recordsAt offset offsets imageIn entriesIn readIn writing entryBytes
+    entriesBytes openRange others parts offering machine completeFrom
 worked = refl

@@ -3,31 +3,38 @@ use Prim.Native.Nat.{_*_, _+_, _<_, _≤_, ℕ}
 use mathlib.Core.Path.{_∙_, _≡_, ap, refl, sym}
 use mathlib.Core.Logic.{_⊎_, inl, inr}
 use mathlib.Core.Bool.{Bool, _||_, false, false≢true, not, true}
-use mathlib.Core.List.{List, [], _∷_}
+use mathlib.Core.List.{List, [], _++_, _∷_}
 use lib.Dec.{eqb, ltb}
-use lib.ListN.{length, length-map, length-take, set, take}
+use lib.ListN.{length, length-map, length-take, replicate, set, take}
 use lib.Seq.{length-take-le}
 use native.Mathlib.Omega.{arith}
 use borrow.Author.Tests.{ltb-false, ltb-true, ne-eqb}
 use Rattle.octets.specs.Lists.{_∈_, all}
+use Rattle.octets.proofs.Lists.{in-map}
 use Rattle.octets.proofs.Tests.{and-true, by-test}
 use Rattle.entries.specs.Completion.{completion, matches, maxCount, rangeStart}
-use Rattle.entries.specs.Entries.{Entry, at, byRank, rising}
+use Rattle.entries.specs.Entries.{Entry, at, byRank, names, rising}
 use Rattle.entries.specs.Names.{isPrefix}
+use Rattle.entries.proofs.TopK.{top-k}
 use Rattle.entries_laws.specs.Place.{place}
-use Rattle.entries_laws.proofs.Place.{place-first, place-matches}
+use Rattle.entries_laws.proofs.Place.{place-first, place-matches, place-most}
 use Rattle.answer.specs.Answers.{Answer, Check, OfferedCounts, _when_, given, refused, unless, writing}
-use Rattle.book.specs.Book.{inBook, isBook}
+use Rattle.book.specs.Book.{inBook, isBook, recordsAt, today}
+use Rattle.book.specs.Checks.{bookChecks}
+use Rattle.book_laws.specs.Ahead.{recordAt}
 use Rattle.book_laws.specs.Held.{Held}
 use Rattle.answer.proofs.Answers.{clear}
 use Rattle.book_laws.proofs.Held.{held-valid}
+use Rattle.book_seek.specs.Seek.{Seeking}
+use Rattle.book_seek.specs.declared.Seek.{Seek}
+use Rattle.book_seek.proofs.Found.{seeking-past, seeking-place}
 use Rattle.completion.specs.declared.Range.{Range}
-use Rattle.completion.specs.Complete.{badCount, completeBook, completeBookWithin, entryRoom, offeredAs}
-use Rattle.completion.specs.Machine.{machine, openRange, run}
+use Rattle.completion.specs.Complete.{badCount, completeBook, completeFrom, entryRoom, offeredAs}
+use Rattle.completion.specs.Machine.{machine, noRange, openRange, run}
 use Rattle.completion.proofs.Machine.{machine-inside, machine-promise, open-length, stop-fits}
 use Rattle.completion_turn.specs.declared.Progress.{Progress}
-use Rattle.completion_book.specs.Offers.{Offers, Writable, asked, begunAs, entriesAt, idleOf, matchRange}
-use Rattle.completion_book.specs.Offers.{outcomeOf, startOf}
+use Rattle.completion_book.specs.Offers.{Begins, Offers, Sought, Writable, asked, begunAs, entriesAt}
+use Rattle.completion_book.specs.Offers.{idleOf, matchRange, outcomeOf, startOf}
 use Rattle.completion_turn.specs.Slots.{waiting}
 use Rattle.completion_turn.specs.Turns.{Ran, Ready, Runnable, soFar}
 use Rattle.completion_turn.proofs.Ranges.{open-inside, open-none}
@@ -65,12 +72,69 @@ module _ (es : List Entry) (p : List ℕ) where
       go (r ∷ []) e h = inr (r, e)
       go (r ∷ t ∷ l) e h = absurd (omega arith)
 
--- a machine at its start may turn over any slots, k of them at least
-module _ (es : List Entry) (p : List ℕ) (n k : ℕ) (xs : List Range) where
-  abbrev first : Progress
-  first = startOf n k (matchRange es p)
+-- the machine before its first turn, from where a prefix stands
+module _ {book : List ℕ} {n : ℕ} (held : Held book n) where
+  -- the places of a key that was sought
+  module _ {p : List ℕ} {s : Seek} (g : Seeking p (recordsAt today n) (names (inBook book)) s) where
+    placed : s .place ≡ place false p (inBook book)
+    placed = seeking-place (inBook book) g
 
-  opened : (r : Range) → matchRange es p ≡ r ∷ [] → 0 < length xs → waiting xs (startOf n k (r ∷ [])) ≡ matchRange es p
+    past : s .past ≡ place true p (inBook book)
+    past = seeking-past (inBook book) g
+
+    from : s .at ≡ recordAt (inBook book) (place false p (inBook book))
+    from = g .index ∙ rw (held .count, placed)
+
+  pub sought-most : {s : Seek} → Sought book n s → s .past ≤ n
+  sought-most q = omega (arith, past (q .located), place-most true (q .key) (inBook book), held .count)
+
+  pub begins-none :
+      (k : ℕ) {s : Seek} → s .past ≤ s .place → {m : Progress} → m ≡ idleOf n 0
+      → Begins book n s k (record {
+        turns = m .turns;
+        at0 = m .at0;
+        r0 = m .r0;
+        at1 = m .at1;
+        r1 = m .r1;
+        filled = m .filled;
+        offered = m .offered;
+        count = m .count;
+        looks = m .looks;
+        entries = m .entries;
+        refusal = m .refusal;
+        first = s .place;
+        from = s .at;
+      })
+  begins-none k l e p g =
+      rw (e, match-none (inBook book) p (omega (arith, l, placed g, past g)), held .count, placed g, from g)
+
+  pub begins-some :
+      (k : ℕ) {s : Seek} → s .place < s .past → {r : Range} → openRange (inBook book) (s .place) (s .past) ≡ r ∷ []
+      → Begins book n s k (record {
+        turns = k;
+        at0 = 0;
+        r0 = r;
+        at1 = 0;
+        r1 = r;
+        filled = 1;
+        offered = replicate maxCount 0;
+        count = 0;
+        looks = 1;
+        entries = n;
+        refusal = 0;
+        first = s .place;
+        from = s .at;
+      })
+  begins-some k l o p g =
+      rw (begun-some (inBook book) p (held-valid held .order) (placed g) (past g) l o, held .count, placed g, from g)
+
+-- a machine at its start may turn over any slots, k of them at least
+module _ (es : List Entry) (p : List ℕ) (k : ℕ) (xs : List Range) where
+  abbrev first : Progress
+  first = startOf es p k (matchRange es p)
+
+  opened : (r : Range) → matchRange es p ≡ r ∷ [] → 0 < length xs
+      → waiting xs (startOf es p k (r ∷ [])) ≡ matchRange es p
   opened r e l = rw e (one xs l)
     where
       one : (ys : List Range) → 0 < length ys → take 1 (set (set ys 0 r) 0 r) ≡ r ∷ []
@@ -104,11 +168,11 @@ module _ (es : List Entry) (p : List ℕ) (n k : ℕ) (xs : List Range) where
     where
       go : (matchRange es p ≡ []) ⊎ ((r : Range) × (matchRange es p ≡ r ∷ [])) → Offers es p k s
       go (inl e) =
-          let ran′ : Ran es xs (startOf n k []) s = rw e at ran in
+          let ran′ : Ran es xs (startOf es p k []) s = rw e at ran in
           let w : run k es [] ≡ record { offered = []; looks = 0 } = run-none k es in
           record { offered = rw (e, w) (ran′ .offered); looks = rw (e, w) (ran′ .looks); few = ran′ .few (omega arith) }
       go (inr (r, e)) =
-          let ran′ : Ran es xs (startOf n k (r ∷ [])) s = rw e at ran in
+          let ran′ : Ran es xs (startOf es p k (r ∷ [])) s = rw e at ran in
           let o = opened r e l in
           record {
             offered = rw o at (ran′ .offered);
@@ -136,28 +200,45 @@ decided (c ∷ cs) a b h =
     (λ t. inl (c .number, ltb-true 0 (c .number) (u .0), rw t, rw t))
     (λ t. rw t (decided cs a b (u .1)))
 
-start-entries : (n k : ℕ) (rs : List Range) → startOf n k rs .entries ≡ n
-start-entries n k [] = refl
-start-entries n k (r ∷ rs) = refl
+-- what the machine knows at its start
+module _ (es : List Entry) (p : List ℕ) (k : ℕ) where
+  start-entries : (rs : List Range) → startOf es p k rs .entries ≡ length es
+  start-entries [] = refl
+  start-entries (r ∷ rs) = refl
 
-start-accepts : (n k : ℕ) (rs : List Range) → startOf n k rs .refusal ≡ 0
-start-accepts n k [] = refl
-start-accepts n k (r ∷ rs) = refl
+  start-accepts : (rs : List Range) → startOf es p k rs .refusal ≡ 0
+  start-accepts [] = refl
+  start-accepts (r ∷ rs) = refl
 
-begun-places : (n k : ℕ) (a : Answer (List Range)) → length (begunAs n k a .offered) ≡ maxCount
-begun-places n k (refused c) = refl
-begun-places n k (given []) = refl
-begun-places n k (given (r ∷ rs)) = refl
+  start-first : (rs : List Range) → startOf es p k rs .first ≡ place false p es
+  start-first [] = refl
+  start-first (r ∷ rs) = refl
+
+  start-from : (rs : List Range) → startOf es p k rs .from ≡ recordAt es (place false p es)
+  start-from [] = refl
+  start-from (r ∷ rs) = refl
+
+  begun-places : (a : Answer (List Range)) → length (begunAs es p k a .offered) ≡ maxCount
+  begun-places (refused c) = refl
+  begun-places (given []) = refl
+  begun-places (given (r ∷ rs)) = refl
 
 -- from its start on it may run
 pub start-runs :
     {book : List ℕ} (p : List ℕ) {n k : ℕ} (xs : List Range) → Held book n → k ≤ maxCount → k ≤ length xs
-    → Runnable book xs (startOf n k (matchRange (inBook book) p))
+    → Runnable book xs (startOf (inBook book) p k (matchRange (inBook book) p))
 start-runs {book} p {n} {k} xs h few l =
     record {
-      held = λ t. rw (start-entries n k (matchRange (inBook book) p)) h;
-      ready = start-ready (inBook book) p n k xs (held-valid h .order) l few;
+      held = λ t. record { isIt = h .isIt; count = start-entries (inBook book) p k (matchRange (inBook book) p) };
+      ready = start-ready (inBook book) p k xs (held-valid h .order) l few;
     }
+
+-- the same of a machine and slots that are told by equations
+pub start-runs-as :
+    {book : List ℕ} (p : List ℕ) {n k : ℕ} → Held book n → k ≤ maxCount → {m : Progress}
+    → m ≡ startOf (inBook book) p k (matchRange (inBook book) p) → {xs : List Range} → xs ≡ replicate maxCount noRange
+    → Runnable book xs m
+start-runs-as p h few e f = rw (e, f) (start-runs p (replicate maxCount noRange) h few few)
 
 -- the answer of a machine that has run from its start
 module _ (book p : List ℕ) (k : ℕ) (dst : List ℕ) (lent : ℕ) (xs : List Range) where
@@ -166,8 +247,9 @@ module _ (book p : List ℕ) (k : ℕ) (dst : List ℕ) (lent : ℕ) (xs : List 
 
   abbrev checks : List Check
   checks =
-      1 when not (isBook book) ∷ 2 when not (isPrefix p) ∷ 3 when badCount maxCount k
-      ∷ 7 when (ltb (length dst) (entryRoom * k) || ltb lent k) ∷ []
+      bookChecks (book ∷ [])
+      ++ (2 when not (isPrefix p) ∷ 3 when badCount maxCount k
+      ∷ 7 when (ltb (length dst) (entryRoom * k) || ltb lent k) ∷ [])
 
   abbrev answer : OfferedCounts
   answer = offeredAs (completion es p k) (machine es p k .looks)
@@ -186,54 +268,58 @@ module _ (book p : List ℕ) (k : ℕ) (dst : List ℕ) (lent : ℕ) (xs : List 
     clean = clear checks (matchRange es p) (matchRange es p) e
 
     held : Held book (length es)
-    held = record { isIt = not-false-true (isBook book) (clean _ (inl refl)); count = refl }
+    held = record {
+      isIt = not-false-true (isBook book) (or-left (not (isBook book)) _ (clean _ (inr (inl refl))));
+      count = refl;
+    }
       where
         not-false-true : (b : Bool) → not b ≡ false → b ≡ true
         not-false-true true h = refl
         not-false-true false h = absurd (false≢true (sym h))
 
-    names : rising es ≡ true
-    names = held-valid held .order
+    rises : rising es ≡ true
+    rises = held-valid held .order
 
     few : k ≤ maxCount
-    few = ltb-false maxCount k (or-right (eqb k 0) _ (clean _ (inr (inr (inl refl)))))
+    few = ltb-false maxCount k (or-right (eqb k 0) _ (clean _ (inr (inr (inr (inl refl))))))
 
     room : entryRoom * k ≤ length dst
-    room = ltb-false (length dst) (entryRoom * k) (or-left _ _ (clean _ (inr (inr (inr (inl refl))))))
+    room = ltb-false (length dst) (entryRoom * k) (or-left _ _ (clean _ (inr (inr (inr (inr (inl refl)))))))
 
     slots : k ≤ lent
-    slots = ltb-false lent k (or-right (ltb (length dst) (entryRoom * k)) _ (clean _ (inr (inr (inr (inl refl))))))
+    slots = ltb-false lent k (or-right (ltb (length dst) (entryRoom * k)) _
+        (clean _ (inr (inr (inr (inr (inl refl)))))))
 
   -- a machine that was asked for may run, where there are as many slots as ranges that may wait, or as can be asked for
   pub asked-runs :
       (k ≤ lent → k ≤ maxCount → k ≤ length xs)
-      → Runnable book xs (begunAs (length es) k (asked book p k (length dst) lent))
+      → Runnable book xs (begunAs es p k (asked book p k (length dst) lent))
   asked-runs l = go both
     where
-      go : Both → Runnable book xs (begunAs (length es) k (asked book p k (length dst) lent))
+      go : Both → Runnable book xs (begunAs es p k (asked book p k (length dst) lent))
       go (inl (c, pos, e, f)) = rw e (record { held = λ t. absurd (omega arith); ready = λ t. absurd (omega arith) })
       go (inr (e, f)) = rw e (start-runs p xs (held e) (few e) (l (slots e) (few e)))
 
   module _ (s : Progress) (some : 0 < length xs)
-      (ran : Ran es xs (begunAs (length es) k (asked book p k (length dst) lent)) s) where
+      (ran : Ran es xs (begunAs es p k (asked book p k (length dst) lent)) s) where
     long : length (s .offered) ≡ maxCount
-    long = ran .places ∙ begun-places (length es) k (asked book p k (length dst) lent)
+    long = ran .places ∙ begun-places es p k (asked book p k (length dst) lent)
 
     module _ (e : unless checks (matchRange es p) ≡ given (matchRange es p)) where
       offers : Offers es p k s
-      offers = start-offers es p (length es) k xs some (rw e at ran)
+      offers = start-offers es p k xs some (rw e at ran)
 
       entries : s .entries ≡ length es
-      entries = let r : Ran es xs (startOf (length es) k (matchRange es p)) s = rw e at ran in r .entries
-          ∙ start-entries (length es) k (matchRange es p)
+      entries = let r : Ran es xs (startOf es p k (matchRange es p)) s = rw e at ran in r .entries
+          ∙ start-entries es p k (matchRange es p)
 
       none-refused : s .refusal ≡ 0
-      none-refused = let r : Ran es xs (startOf (length es) k (matchRange es p)) s = rw e at ran in r .refusal
-          ∙ start-accepts (length es) k (matchRange es p)
+      none-refused = let r : Ran es xs (startOf es p k (matchRange es p)) s = rw e at ran in r .refusal
+          ∙ start-accepts es p k (matchRange es p)
 
       -- the entries offered are the completion
       listed : entriesAt es (soFar s) ≡ completion es p k
-      listed = rw (offers .offered) (machine-promise es p k (names e) .completes)
+      listed = rw (offers .offered) (machine-promise es p k (rises e) .completes)
 
       at-most : length (completion es p k) ≤ k
       unfolding completion
@@ -246,26 +332,32 @@ module _ (book p : List ℕ) (k : ℕ) (dst : List ℕ) (lent : ℕ) (xs : List 
           let c = ap length listed in
           omega (arith, at-most)
 
-      writable : Writable book dst s
+      writable : Writable book p dst s
       writable =
+          let r : Ran es xs (startOf es p k (matchRange es p)) s = rw e at ran in
+          let f : s .first ≡ place false p es = r .first ∙ start-first es p k (matchRange es p) in
           record {
             held = record { isIt = held e .isIt; count = entries };
-            inside = λ i m. machine-inside es p k (names e) i (rw (offers .offered) at m);
+            inside = λ i m. machine-inside es p k (rises e) i (rw (offers .offered) at m);
+            matching = λ i m.
+                top-k es p k (rises e) .among (at es i) (rw listed at (in-map (at es) i (soFar s) m)) .1;
+            first = f;
+            from = rw f (r .from ∙ start-from es p k (matchRange es p));
             few = offers .few;
             room = omega (arith, counted, room e);
           }
 
     -- what is to be known before the answer is written
-    pub answerable : s .refusal ≡ 0 → Writable book dst s
+    pub answerable : s .refusal ≡ 0 → Writable book p dst s
     answerable z = go both
       where
-        go : Both → Writable book dst s
+        go : Both → Writable book p dst s
         go (inl (c, pos, e, f)) = let r : Ran es xs (idleOf 0 c) s = rw e at ran in absurd (omega (arith, r .refusal))
         go (inr (e, f)) = writable e
 
     -- the answer and the destination are those of completion
     pub complete-is : outcomeOf es s dst ≡ completeBook book p k dst lent
-    unfolding completeBookWithin writing
+    unfolding completeFrom writing
     complete-is = go both
       where
         go : Both → outcomeOf es s dst ≡ completeBook book p k dst lent

@@ -42,6 +42,8 @@ ran-more a r =
       places = r .places ∙ a .places;
       entries = r .entries ∙ a .entries;
       refusal = r .refusal ∙ a .refusal;
+      first = r .first ∙ a .first;
+      from = r .from ∙ a .from;
     }
 
 few-next :
@@ -116,23 +118,28 @@ ran-somewhere {book} {xs} {m} {s} ok r = go (m .turns) refl
         places = r .places;
         entries = r .entries;
         refusal = r .refusal;
+        first = r .first;
+        from = r .from;
       },
     )
     go (suc n) e = (xs, omega (arith, ok .ready (omega arith) .first), r)
 
 -- a machine at its start has turns only where nothing is refused
-begun-idle : (n k : ℕ) (a : Answer (List Range)) → (begunAs n k a .refusal ≡ 0) ⊎ (begunAs n k a .turns ≡ 0)
-begun-idle n k (refused c) = inr refl
-begun-idle n k (given []) = inl refl
-begun-idle n k (given (r ∷ rs)) = inl refl
+begun-idle :
+    (es : List Entry) (p : List ℕ) (k : ℕ) (a : Answer (List Range))
+    → (begunAs es p k a .refusal ≡ 0) ⊎ (begunAs es p k a .turns ≡ 0)
+begun-idle es p k (refused c) = inr refl
+begun-idle es p k (given []) = inl refl
+begun-idle es p k (given (r ∷ rs)) = inl refl
 
 begun-few :
-    {book : List ℕ} {xs : List Range} (n k : ℕ) (a : Answer (List Range)) → Runnable book xs (begunAs n k a)
-    → begunAs n k a .filled + begunAs n k a .turns ≤ maxCount + 1
-begun-few n k (refused c) ok = omega arith
-begun-few n k (given []) ok = omega arith
-begun-few n zero (given (r ∷ rs)) ok = omega arith
-begun-few n (suc k) (given (r ∷ rs)) ok = omega (arith, ok .ready (omega arith) .few)
+    {book : List ℕ} {xs : List Range} (es : List Entry) (p : List ℕ) (k : ℕ) (a : Answer (List Range))
+    → Runnable book xs (begunAs es p k a)
+    → begunAs es p k a .filled + begunAs es p k a .turns ≤ maxCount + 1
+begun-few es p k (refused c) ok = omega arith
+begun-few es p k (given []) ok = omega arith
+begun-few es p zero (given (r ∷ rs)) ok = omega arith
+begun-few es p (suc k) (given (r ∷ rs)) ok = omega (arith, ok .ready (omega arith) .few)
 
 -- a completion over the lent slots xs, from its start to its answer
 module _ (book p : List ℕ) (k : ℕ) (dst : List ℕ) (xs : List Range) where
@@ -140,16 +147,16 @@ module _ (book p : List ℕ) (k : ℕ) (dst : List ℕ) (xs : List Range) where
   question = asked book p k (length dst) (length xs)
 
   abbrev pub begun : Progress
-  begun = begunAs (length (inBook book)) k question
+  begun = begunAs (inBook book) p k question
 
   runs : Runnable book xs begun
   runs = asked-runs book p k dst (length xs) xs (λ l few. l)
 
   pub begun-runs : MayRun book xs begun
-  begun-runs = record { runs = runs; few = begun-few (length (inBook book)) k question runs }
+  begun-runs = record { runs = runs; few = begun-few (inBook book) p k question runs }
 
   module _ {zs : List Range} {s : Progress} (r : RanOver (inBook book) xs zs begun s) where
-    pub writable : s .refusal ≡ 0 → Writable book dst s
+    pub writable : s .refusal ≡ 0 → Writable book p dst s
     writable = let w = ran-somewhere runs (r .ran) in answerable book p k dst (length xs) (w .0) s (w .1) (w .2)
 
     answer-is : outcomeOf (inBook book) s dst ≡ completeBook book p k dst (length xs)
@@ -157,7 +164,7 @@ module _ (book p : List ℕ) (k : ℕ) (dst : List ℕ) (xs : List Range) where
 
     -- a refusal's machine had no turn
     idle : (s .refusal ≡ 0 → ⊥) → begun .turns ≡ 0
-    idle f = go (begun-idle (length (inBook book)) k question)
+    idle f = go (begun-idle (inBook book) p k question)
       where
         go : (begun .refusal ≡ 0) ⊎ (begun .turns ≡ 0) → begun .turns ≡ 0
         go (inl e) = absurd (f (r .ran .refusal ∙ e))

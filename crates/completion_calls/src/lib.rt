@@ -40,5 +40,5 @@ pub fn complete(
 {
     let m = completion_book::start_machine(book, prefix, k, dst.len(), ranges.len());
     let s = run(book, ranges, m);
-    completion_book::write_answer(book, s, dst)
+    completion_book::write_answer(book, prefix, s, dst)
 }

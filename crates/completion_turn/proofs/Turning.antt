@@ -104,6 +104,8 @@ pub record GoesOn (es : List Entry) (xs : List Range) (p : Progress) (ys : List 
   pub places : length (s .offered) ≡ length (p .offered)
   pub entries : s .entries ≡ p .entries
   pub refusal : s .refusal ≡ p .refusal
+  pub first : s .first ≡ p .first
+  pub from : s .from ≡ p .from
 
 module _ {es : List Entry} (ri : rising es ≡ true) {xs : List Range} {p : Progress} (g : Going es xs p)
     (turning : 0 < p .turns) where
@@ -176,6 +178,8 @@ module _ {es : List Entry} (ri : rising es ≡ true) {xs : List Range} {p : Prog
         places = length-set (p .offered) (p .count) (b .range .best);
         entries = refl;
         refusal = refl;
+        first = refl;
+        from = refl;
       }
 
   module _ (q : RangeParts) (split : Split es (b .range) q) (many : 1 < p .turns) where
@@ -261,6 +265,8 @@ module _ {es : List Entry} (ri : rising es ≡ true) {xs : List Range} {p : Prog
           places = length-set (p .offered) (p .count) (b .range .best);
           entries = refl;
           refusal = refl;
+          first = refl;
+          from = refl;
         }
 
   pub turns-less : {s : Progress} → Turned es p (b .range) s → s .turns < p .turns
@@ -284,6 +290,8 @@ goes-start r = record {
   places = refl;
   entries = refl;
   refusal = refl;
+  first = refl;
+  from = refl;
 }
 
 pub goes-turn :
@@ -300,6 +308,8 @@ goes-turn a b =
       places = b .places ∙ a .places;
       entries = b .entries ∙ a .entries;
       refusal = b .refusal ∙ a .refusal;
+      first = b .first ∙ a .first;
+      from = b .from ∙ a .from;
     }
 
 pub goes-end : {es : List Entry} {xs ys : List Range} {p s : Progress} → GoesOn es xs p ys s → s .turns ≡ 0
@@ -313,4 +323,6 @@ goes-end {es} {xs} {ys} {p} {s} a t =
       places = a .places;
       entries = a .entries;
       refusal = a .refusal;
+      first = a .first;
+      from = a .from;
     }

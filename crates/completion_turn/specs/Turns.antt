@@ -47,6 +47,8 @@ lastOf p r =
       looks = p .looks;
       entries = p .entries;
       refusal = p .refusal;
+      first = p .first;
+      from = p .from;
     }
 
 -- another is offered: its parts are to be put behind the open ranges that are left, one look each
@@ -65,6 +67,8 @@ nextOf p r q =
       looks = p .looks + q .count;
       entries = p .entries;
       refusal = p .refusal;
+      first = p .first;
+      from = p .from;
     }
 
 -- s is p after the turn that takes r
@@ -109,3 +113,5 @@ pub record Ran (es : List Entry) (xs : List Range) (p s : Progress) : Type 0 whe
   pub places : length (s .offered) ≡ length (p .offered)
   pub entries : s .entries ≡ p .entries
   pub refusal : s .refusal ≡ p .refusal
+  pub first : s .first ≡ p .first
+  pub from : s .from ≡ p .from

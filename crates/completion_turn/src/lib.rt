@@ -43,6 +43,9 @@ pub struct Progress {
     // the book's entries, and the refusal where there is one, else 0
     pub entries: usize,
     pub refusal: u8,
+    // the position of the first match, and where its record begins
+    pub first: usize,
+    pub from: usize,
 }
 
 // Whether the best of one range is ranked before the best of another, as document 01's `outranks` says: higher score
@@ -144,6 +147,8 @@ pub fn turn(book: &[u8], p: Progress, r: completion::Range) -> Progress
             looks: p.looks,
             entries: p.entries,
             refusal: p.refusal,
+            first: p.first,
+            from: p.from,
         };
     }
     let parts = parts_of(book, p.entries, r);
@@ -162,5 +167,7 @@ pub fn turn(book: &[u8], p: Progress, r: completion::Range) -> Progress
         looks: p.looks + parts.count,
         entries: p.entries,
         refusal: p.refusal,
+        first: p.first,
+        from: p.from,
     }
 }

@@ -12,8 +12,8 @@ use Rattle.book.specs.Book.{bookImage, imageIn, offsets, peaks, scores}
 use Rattle.frame.specs.Frame.{framed}
 use Rattle.edit.specs.Edits.{emptyBook}
 
-empty-bytes : bookImage [] ≡ 0x21 ∷ 0 ∷ 0 ∷ 0 ∷ 7 ∷ 0 ∷ 0 ∷ []
-unfolding bookImage imageIn framed be scores offsets peaks
+empty-bytes : bookImage [] ≡ 0x22 ∷ 0 ∷ 0 ∷ 0 ∷ 7 ∷ 0 ∷ 0 ∷ []
+unfolding imageIn framed be scores offsets peaks
 empty-bytes = refl
 
 pub empty-length : length (bookImage []) ≡ 7

@@ -1,10 +1,7 @@
 // The edits: empty, set and withdraw. Each writes the new book at the front of another buffer.
-use answer::Found;
 use answer::Written;
-use frame_code::Image;
 use limits::FRAME_LENGTH;
 use limits::MAX_ENTRIES;
-use lookup_find::Spot;
 ghost use Rattle.edit.specs.Edits.{emptyBook, setEntry, withdrawEntry};
 ghost use Rattle.answer.specs.Reports.{Answered};
 
@@ -15,7 +12,7 @@ pub fn empty(dst: &mut [u8]) -> Written
     if dst.len() < FRAME_LENGTH {
         return Written::Refused(7);
     }
-    book_write::finish(dst, 0, FRAME_LENGTH);
+    book_write::finish(dst, book_layout::today(), 0, FRAME_LENGTH);
     Written::Wrote {
         entries: 0,
         bytes: FRAME_LENGTH,
@@ -27,22 +24,21 @@ pub fn set(book: &[u8], name: &[u8], score: u32, dst: &mut [u8]) -> Written
     ensures { λ r. ⌜ Answered (setEntry (now (book .entry)) (now (name .entry)) score (now (dst .entry))) r
         (now (dst .exit)) ⌝ }
 {
-    let Image::Entries(n) = book_check::check(book) else {
-        return Written::Refused(1);
-    };
+    let c = book_check::check(book, name);
+    if c.refusal != 0 {
+        return Written::Refused(c.refusal);
+    }
     if !entries_check::is_name(name) {
         return Written::Refused(2);
     }
-    let place = lookup_find::look_up(book, n, name);
-    match place {
-        Spot::Held(i) => edit_write::write_score(book, n, i, score, dst),
-        Spot::Gap(i) => {
-            if MAX_ENTRIES <= n {
-                return Written::Refused(5);
-            }
-            edit_write::write_edit(book, n, i, true, name, score, dst)
-        }
+    let found = c.seek;
+    if found.same {
+        return edit_rescore::write_score(book, c.n, found.place, score, dst);
     }
+    if MAX_ENTRIES <= c.n {
+        return Written::Refused(5);
+    }
+    edit_copy::write_with(book_layout::today(), book, c.n, found, name, score, dst)
 }
 
 // Removes a name: the result stands at the front of another buffer.
@@ -50,14 +46,16 @@ pub fn withdraw(book: &[u8], name: &[u8], dst: &mut [u8]) -> Written
     ensures { λ r. ⌜ Answered (withdrawEntry (now (book .entry)) (now (name .entry)) (now (dst .entry))) r
         (now (dst .exit)) ⌝ }
 {
-    let Image::Entries(n) = book_check::check(book) else {
-        return Written::Refused(1);
-    };
+    let c = book_check::check(book, name);
+    if c.refusal != 0 {
+        return Written::Refused(c.refusal);
+    }
     if !entries_check::is_name(name) {
         return Written::Refused(2);
     }
-    let Found::At { position, score: _ } = lookup_find::find_in(book, n, name) else {
+    let found = c.seek;
+    if !found.same {
         return Written::Refused(4);
-    };
-    edit_write::write_edit(book, n, position, false, name, 0, dst)
+    }
+    edit_copy::write_without(book_layout::today(), book, c.n, found, name, dst)
 }

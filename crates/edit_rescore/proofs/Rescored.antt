@@ -1,4 +1,4 @@
--- Another score at one position: the entries are as many, their names, offsets and records the same, and so is the peak
+-- Another score at one position: the entries are as many, their names and records the same, and so is the peak
 -- of every other block.
 use Prim.Native.Nat.{_*_, _+_, _-_, _/_, _<_, _^_, _≤_, ℕ}
 use mathlib.Core.Path.{_∙_, _≡_, ap, refl, sym}
@@ -20,20 +20,10 @@ use Rattle.entries.specs.Names.{isName, isScore}
 use Rattle.entries_laws.proofs.Place.{position-at}
 use Rattle.entries_laws.proofs.Splice.{with-held}
 use Rattle.entries.proofs.Valid.{rising-names, valid-all, valid-intro, valid-of}
-use Rattle.book.specs.Records.{bucketHead, bucketSize, records}
-use Rattle.book.specs.Book.{blockSize, bookImage, layout21, offset, offsets, peak, recordsAt}
+use Rattle.book.specs.Records.{bucketSize, records}
+use Rattle.book.specs.Book.{blockSize, bookImage, offsets, peak, today}
 use Rattle.book.proofs.Reading.{image-length}
 use Rattle.edit_rescore.specs.Rescored.{rescored}
-
--- offsets, from the number of entries and their names
-abbrev offsetsBy : ℕ → List (List ℕ) → List ℕ
-offsetsBy n ws =
-    concatMap (λ j. be 2 (recordsAt layout21 n + length (records bucketHead 0 [] (take (bucketSize * j) ws))))
-    (countFrom 0 (ceil n bucketSize))
-
-offsets-by : (es : List Entry) → offsets layout21 es ≡ offsetsBy (length es) (names es)
-unfolding offsets offset
-offsets-by es = refl
 
 -- what lies in front of an element that is set, or behind it
 set-part :
@@ -55,14 +45,14 @@ module _ (es : List Entry) (i s : ℕ) where
   pub rescored-names : names (rescored es i s) ≡ names es
   rescored-names = map-set-same (λ (e : Entry). e .name) es i new noEntry refl
 
-  pub rescored-offsets : offsets layout21 (rescored es i s) ≡ offsets layout21 es
-  rescored-offsets = offsets-by (rescored es i s) ∙ rw (rescored-length, rescored-names) (sym (offsets-by es))
+  pub rescored-offsets : offsets today (rescored es i s) ≡ offsets today es
+  unfolding offsets
+  rescored-offsets = refl
 
   pub rescored-image : length (bookImage (rescored es i s)) ≡ length (bookImage es)
-  unfolding bookImage
   rescored-image = rw (
-    image-length layout21 (rescored es i s),
-    image-length layout21 es,
+    image-length today (rescored es i s),
+    image-length today es,
     rescored-length,
     rescored-names,
   )

@@ -20,8 +20,8 @@ use Rattle.octets.proofs.Stores.{sets-behind, sets-overwrite, sets-stands, stay
 use Rattle.octets.proofs.Tests.{by-test}
 use Rattle.entries.specs.Entries.{Entry, at, entry, names, noEntry, valid}
 use Rattle.entries.proofs.Valid.{valid-of}
-use Rattle.book.specs.Records.{bucketHead, records}
-use Rattle.book.specs.Book.{blockSize, bookImage, imageIn, inBook, layout21, offsets, peak, peaks, recordsAt, scores}
+use Rattle.book.specs.Records.{records}
+use Rattle.book.specs.Book.{blockSize, bookImage, imageIn, inBook, offsets, peak, peaks, recordsAt, scores, today}
 use Rattle.book_laws.specs.Check.{bestBetween, blockEnd, peakStart, peaksStart, scoreStart}
 use Rattle.book_laws.specs.Held.{Held}
 use Rattle.book_laws.proofs.Held.{held-stored}
@@ -35,7 +35,7 @@ use Rattle.edit_rescore.proofs.Rescored.{rescored-peak, rescored-there,
 
 module _
     (es : List Entry) (ok : valid es ≡ true) (i s : ℕ) (h : i < length es) (small : s < 4294967296) (d : List ℕ)
-    (stand : begins (imageIn layout21 es) d ≡ true)
+    (stand : begins (imageIn today es) d ≡ true)
   where
     abbrev n : ℕ
     n = length es
@@ -47,19 +47,18 @@ module _
     fs = rescored es i s
 
     abbrev T : ℕ
-    T = length (imageIn layout21 es)
+    T = length (imageIn today es)
 
-    parts : Sections layout21 es d
-    parts = sections-of layout21 es d stand
+    parts : Sections today es d
+    parts = sections-of today es d stand
 
     fits : T ≤ length d
-    fits = begins-length (imageIn layout21 es) d stand
+    fits = begins-length (imageIn today es) d stand
 
     as-long : length fs ≡ n
     as-long = rescored-length es i s
 
-    image-same : length (imageIn layout21 fs) ≡ T
-    unfolding bookImage
+    image-same : length (imageIn today fs) ≡ T
     image-same = rescored-image es i s
 
     -- the score
@@ -68,7 +67,7 @@ module _
 
     score-inside : scoreStart i + 4 ≤ T
     unfolding recordsAt
-    score-inside = let g = image-long es in omega arith
+    score-inside = let g = image-long today es in omega arith
 
     score-room : scoreStart i + length (be 4 s) ≤ length d
     score-room = let f = fits in let g = score-inside in rw length-be (omega arith)
@@ -97,25 +96,25 @@ module _
     top = be 2 (peak fs j)
 
     abbrev place : ℕ
-    place = peakStart n j
+    place = peakStart today n j
 
     computed : bestBetween e (blockSize * j) (blockEnd n j) ≡ peak fs j
     computed =
         let m = as-long in
         let f = fits in
         rw as-long at
-        (peak-computed fs (valid-of fs (rescored-valid es i s h ok small)) e (rw (image-same, long-e) f) scored j
+        (peak-computed today fs (valid-of fs (rescored-valid es i s h ok small)) e (rw (image-same, long-e) f) scored j
         (rw as-long (omega arith)))
 
     abbrev e′ : List ℕ
     e′ = sets e place top
 
-    peak-inside : place + 2 ≤ recordsAt layout21 n
+    peak-inside : place + 2 ≤ recordsAt today n
     unfolding recordsAt
     peak-inside = omega arith
 
     peak-room : place + length top ≤ length e
-    peak-room = let f = fits in let g = image-long es in let p = peak-inside in rw (length-be, long-e) (omega arith)
+    peak-room = let f = fits in let g = image-long today es in let p = peak-inside in rw (length-be, long-e) (omega arith)
 
     -- what stands elsewhere stays
     kept :
@@ -125,7 +124,7 @@ module _
     kept x k a b t = stays e top place peak-room x k (rw length-be b)
         (stays d (be 4 s) (scoreStart i) score-room x k (rw length-be a) t)
 
-    peaked : (k : ℕ) → k < ceil n blockSize → begins (be 2 (peak fs k)) (drop (peakStart n k) e′) ≡ true
+    peaked : (k : ℕ) → k < ceil n blockSize → begins (be 2 (peak fs k)) (drop (peakStart today n k) e′) ≡ true
     unfolding peaks
     peaked k l =
         by-test (eqb k j)
@@ -135,20 +134,20 @@ module _
         let c = counted-at (ceil n blockSize) k 0 l in
         let m = length-countFrom 0 (ceil n blockSize) in
         rw (rescored-peak es i s k q)
-        (kept (be 2 (peak es k)) (peakStart n k) (inr (omega arith))
+        (kept (be 2 (peak es k)) (peakStart today n k) (inr (omega arith))
         (by-test (ltb k j)
         (λ u. let r = ltb-true k j u in inl (rw length-be (omega arith)))
         (λ u. let r = ltb-false k j u in inr (omega arith)))
-        (rw c at (fields-each 2 (peak es) 0 (countFrom 0 (ceil n blockSize)) d (peaksStart n) (parts .hasPeaks) k
+        (rw c at (fields-each 2 (peak es) 0 (countFrom 0 (ceil n blockSize)) d (peaksStart today n) (parts .hasPeaks) k
         (omega arith)))))
 
-    sections : Sections layout21 fs e′
+    sections : Sections today fs e′
     unfolding scores peaks recordsAt
     sections =
-        let o = length-offsets layout21 es in
+        let o = length-offsets today es in
         let m = length-countFrom 0 (ceil n blockSize) in
         record {
-          hasVersion = kept (layout21 .version ∷ []) 0 (inl (omega arith)) (inl (omega arith)) (parts .hasVersion);
+          hasVersion = kept (today .version ∷ []) 0 (inl (omega arith)) (inl (omega arith)) (parts .hasVersion);
           hasTotal = rw image-same (kept (be 4 T) 1 (inl (rw length-be (omega arith)))
               (inl (rw length-be (omega arith))) (parts .hasTotal));
           hasCount = rw as-long (kept (be 2 n) 5 (inl (rw length-be (omega arith))) (inl (rw length-be (omega arith)))
@@ -159,23 +158,23 @@ module _
               stays e top place peak-room (be 4 (at fs k .score)) (scoreStart k) (inl (rw length-be (omega arith)))
               (scored k l));
           hasOffsets = rw (rescored-offsets es i s, as-long)
-              (kept (offsets layout21 es) (7 + 4 * n) (inr (omega arith)) (inl (omega arith)) (parts .hasOffsets));
+              (kept (offsets today es) (7 + 4 * n) (inr (omega arith)) (inl (omega arith)) (parts .hasOffsets));
           hasPeaks = rw as-long
-              (fields-join 2 (peak fs) 0 (countFrom 0 (ceil n blockSize)) e′ (peaksStart n)
+              (fields-join 2 (peak fs) 0 (countFrom 0 (ceil n blockSize)) e′ (peaksStart today n)
               (λ k l. rw (counted-at (ceil n blockSize) k 0 (omega arith)) (peaked k (omega arith))));
           hasRecords = rw (rescored-names es i s, as-long)
-              (kept (records bucketHead 0 [] (names es)) (recordsAt layout21 n) (inr (omega arith)) (inr (omega arith))
+              (kept (records (today .heads) 0 [] (names es)) (recordsAt today n) (inr (omega arith)) (inr (omega arith))
               (parts .hasRecords));
         }
 
-    image-put : putPeak n j e ≡ imageIn layout21 fs ++ drop T d
+    image-put : putPeak today n j e ≡ imageIn today fs ++ drop T d
     image-put =
-        let g = image-long es in
+        let g = image-long today es in
         let p = peak-inside in
         let q = score-inside in
         rw computed
-        (begins-split (imageIn layout21 fs) e′ (of-sections layout21 fs e′ sections)
-        ∙ ap (λ l. imageIn layout21 fs ++ l)
+        (begins-split (imageIn today fs) e′ (of-sections today fs e′ sections)
+        ∙ ap (λ l. imageIn today fs ++ l)
         (rw image-same
         (sets-behind e top place peak-room T (rw length-be (omega arith))
         ∙ sets-behind d (be 4 s) (scoreStart i) score-room T (rw length-be (omega arith)))))
@@ -185,26 +184,25 @@ pub rescored-whole :
     (book d₀ : List ℕ) {d₁ d₂ d₃ : List ℕ} {n : ℕ} (i s : ℕ) {total place : ℕ} → Held book n → i < n
     → total ≡ length (bookImage (inBook book)) → total ≤ length d₀
     → s < 4294967296 → d₁ ≡ sets d₀ 0 (take total book) → place ≡ scoreStart i → d₂ ≡ sets d₁ place (be 4 s)
-    → d₃ ≡ putPeak n (i / blockSize) d₂
+    → d₃ ≡ putPeak today n (i / blockSize) d₂
     → d₃ ≡ overwrite d₀ (bookImage (rescored (inBook book) i s))
-unfolding bookImage
 rescored-whole book d₀ {d₁} {d₂} i s held h t room small copied there stored again =
     let es = inBook book in
-    let image = imageIn layout21 (inBook book) in
+    let image = imageIn today (inBook book) in
     let st = held-stored held in
     let c = held .count in
-    let front : d₁ ≡ overwrite d₀ (imageIn layout21 (inBook book)) =
-    copied ∙ rw (t, front-of (imageIn layout21 (inBook book)) book (st .front))
-    (sets-overwrite d₀ (imageIn layout21 (inBook book)) (omega arith))
+    let front : d₁ ≡ overwrite d₀ (imageIn today (inBook book)) =
+    copied ∙ rw (t, front-of (imageIn today (inBook book)) book (st .front))
+    (sets-overwrite d₀ (imageIn today (inBook book)) (omega arith))
     in
-    let stand : begins (imageIn layout21 (inBook book)) d₁ ≡ true = rw front
+    let stand : begins (imageIn today (inBook book)) d₁ ≡ true = rw front
     (begins-append image (drop (length image) d₀)) in
-    let past : drop (length (imageIn layout21 (inBook book))) d₁ ≡ drop
-    (length (imageIn layout21 (rescored (inBook book) i s))) d₀ =
+    let past : drop (length (imageIn today (inBook book))) d₁ ≡ drop
+    (length (imageIn today (rescored (inBook book) i s))) d₀ =
     rw (front, rescored-image (inBook book) i s) (drop-append-seam image (drop (length image) d₀))
     in
     again
-    ∙ ap (λ m. putPeak m (i / blockSize) d₂) c
-    ∙ ap (putPeak (length es) (i / blockSize)) (stored ∙ ap (λ p. sets d₁ p (be 4 s)) there)
+    ∙ ap (λ m. putPeak today m (i / blockSize) d₂) c
+    ∙ ap (putPeak today (length es) (i / blockSize)) (stored ∙ ap (λ p. sets d₁ p (be 4 s)) there)
     ∙ image-put (inBook book) (st .ok) i s (omega arith) small d₁ stand
-    ∙ ap (λ l. imageIn layout21 (rescored (inBook book) i s) ++ l) past
+    ∙ ap (λ l. imageIn today (rescored (inBook book) i s) ++ l) past

@@ -130,7 +130,7 @@ named-at w es r h j l =
     false≢true (sym t ∙ s))))
 
 -- the matches of a prefix stand between its two places
-begun-not-below : (p w : List ℕ) → begins p w ≡ true → below w p ≡ false
+pub begun-not-below : (p w : List ℕ) → begins p w ≡ true → below w p ≡ false
 begun-not-below [] w h = below-nil w
   where
     below-nil : (v : List ℕ) → below v [] ≡ false

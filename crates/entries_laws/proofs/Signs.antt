@@ -3,12 +3,12 @@ use Prim.Native.Nat.{_+_, _-_, suc, zero, ℕ}
 use mathlib.Core.Path.{_∙_, _≡_, ap, refl, sym}
 use mathlib.Core.Bool.{Bool, _&&_, and-true, false, or-false, true}
 use mathlib.Core.List.{List, [], _++_, _∷_}
-use lib.Dec.{eqb}
+use lib.Dec.{eqb, leb}
 use lib.ListN.{drop, take, take-append-drop}
 use native.Mathlib.Omega.{arith}
-use borrow.Author.Tests.{eqb-true, ne-eqb}
-use Rattle.octets.proofs.Tests.{by-test}
-use Rattle.octets.specs.Lists.{if_then_else_}
+use borrow.Author.Tests.{eqb-true, leb-true, ne-eqb}
+use Rattle.octets.proofs.Tests.{and-true as and-parts, by-test}
+use Rattle.octets.specs.Lists.{all, if_then_else_}
 use Rattle.entries.specs.Names.{allowedBytes, isPair, isPlain}
 use Rattle.entries_laws.specs.Signs.{brokenHalf, halfAfter, halfStep, isTail, microHalf, noHalf, ohmHalf}
 
@@ -120,3 +120,17 @@ whole-first x w e =
         by-test (eqb y 0xB5)
         (λ s. rw (eqb-true y 0xB5 s))
         (λ s. let q = eqb-true y 0xA9 (rw s at t) in rw q)
+
+-- bytes that are signs by themselves are allowed, and none is the other half of a pair
+pub plain-allowed : (w : List ℕ) → all isPlain w ≡ true → allowedBytes w ≡ true
+unfolding allowedBytes
+plain-allowed [] h = refl
+plain-allowed (a ∷ []) h = and-parts (isPlain a) true h .0
+plain-allowed (a ∷ b ∷ w) h =
+    let p = and-parts (isPlain a) (all isPlain (b ∷ w)) h in
+    first-sign a b w true (p .0) ∙ plain-allowed (b ∷ w) (p .1)
+
+pub plain-whole : (b : ℕ) → isPlain b ≡ true → isTail b ≡ false
+plain-whole b t =
+    let q = leb-true b 0x7E (and-parts (leb 0x20 b) (leb b 0x7E) t .1) in
+    rw (ne-eqb b 0xB5 (λ z. omega arith), ne-eqb b 0xA9 (λ z. omega arith))

@@ -13,14 +13,6 @@ use Rattle.octets.proofs.Tests.{and-false, and-true}
 use Rattle.frame_laws.specs.Test.{endsAt, frameIs}
 use Rattle.entries.specs.Entries.{maxEntries}
 
-pub version-stands : (v : ℕ) → 0 < v → (buf : List ℕ) → getD buf 0 0 ≡ v → begins (v ∷ []) buf ≡ true
-version-stands v p [] h = absurd (omega arith)
-version-stands v p (x ∷ buf) h = rw (eq-eqb v x (sym h))
-
-pub version-there : (v : ℕ) (buf : List ℕ) → begins (v ∷ []) buf ≡ true → getD buf 0 0 ≡ v
-version-there v [] h = absurd (false≢true h)
-version-there v (x ∷ buf) h = sym (eqb-true v x (and-true (eqb v x) true h .0))
-
 pub ends-some : (total : ℕ) (o : Option ℕ) → endsAt total o ≡ true → o ≡ some total
 ends-some total none h = absurd (false≢true h)
 ends-some total (some end) h = ap some (eqb-true end total h)
@@ -31,6 +23,10 @@ pub record FrameTests (v : ℕ) (buf : List ℕ) : Type 0 where
   pub version : getD buf 0 0 ≡ v
   pub few : numberAt 2 buf 5 ≤ maxEntries
   pub fits : numberAt 4 buf 1 ≤ length buf
+
+pub version-stands : (v : ℕ) (buf : List ℕ) → FrameTests v buf → begins (v ∷ []) buf ≡ true
+version-stands v [] t = let long = t .long in absurd (omega arith)
+version-stands v (x ∷ buf) t = rw (eq-eqb v x (sym (t .version)))
 
 module _ (v : ℕ) (buf : List ℕ) where
   pub frame-tests : frameIs v buf ≡ true → FrameTests v buf

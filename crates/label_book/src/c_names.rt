@@ -3,7 +3,9 @@
 use answer::HeadLength;
 use limits::COUNT_AT;
 ghost use mathlib.Core.Path.{_≡_};
+ghost use mathlib.Core.Bool.{true};
 ghost use lib.ListN.{length};
+ghost use Rattle.book.specs.Book.{isBook};
 ghost use Rattle.lookup.specs.Lookups.{checkBook, find, nameAt, nameOf, prefixRange};
 ghost use Rattle.edit.specs.Edits.{emptyBook, setEntry, withdrawEntry};
 ghost use Rattle.merge.specs.Joined.{mergeBooks};
@@ -14,7 +16,6 @@ ghost use Rattle.page.specs.Page.{writePage};
 ghost use Rattle.panel.specs.Panel.{press};
 ghost use Rattle.script.specs.Run.{runOf};
 ghost use Rattle.abi.specs.Told.{FoundTold, SpanTold, WrittenTold};
-ghost use Rattle.label_book.specs.HeadStart.{HasBucket};
 ghost use Rattle.abi.specs.Left.{HeadTold, Left, OfferedLeft, OfferedOver, PanelLeft, RunLeft, headAt};
 
 // Writes the book of no entries.
@@ -199,13 +200,13 @@ pub extern "C" fn label_book_prefix_range(
     abi_values::tell_span(lookup_name_calls::prefix_range(book, prefix), first, count)
 }
 
-// Where the head name of a bucket begins: behind the length byte at the bucket's offset.
-fn head_start(book: &[u8], bucket: usize) -> usize
-    requires { ⌜ HasBucket (now book) bucket ⌝ }
-    ensures { λ r. ⌜ r ≡ headAt (now (book .entry)) bucket ⌝ }
+// Where the head name of a book with entries begins.
+fn head_start(book: &[u8]) -> usize
+    requires { ⌜ isBook (now book) ≡ true ⌝ }
+    ensures { λ r. ⌜ r ≡ headAt (now (book .entry)) ⌝ }
 {
     let n = octets_code::read_u16(book, COUNT_AT) as usize;
-    book_layout::offset_at(book, n, bucket) + 1
+    lookup_head_calls::head_start(n)
 }
 
 // Where in the book the head name of a bucket begins, and its length.
@@ -223,7 +224,7 @@ pub extern "C" fn label_book_head(
     match lookup_head_calls::head_length(book, bucket) {
         HeadLength::Refused(n) => n,
         HeadLength::Bytes(k) => {
-            *start = head_start(book, bucket);
+            *start = head_start(book);
             *length = k;
             0
         }

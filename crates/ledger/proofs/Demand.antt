@@ -15,13 +15,14 @@ use Rattle.entries.specs.Entries.{Entry, at, valid}
 use Rattle.entries.specs.Names.{isPrefix}
 use Rattle.entries.proofs.BestList.{best-list}
 use Rattle.entries.proofs.Valid.{valid-of}
-use Rattle.answer.specs.Answers.{WrittenCounts, given, writing}
+use Rattle.answer.specs.Answers.{WrittenCounts, given, writing, writingImage}
 use Rattle.book.specs.Book.{bookImage, readBook}
-use Rattle.answer.proofs.Converting.{converted}
+use Rattle.book.proofs.Checks.{read-not-old}
+use Rattle.frame.specs.Frame.{isRead}
 use Rattle.frame.proofs.Frame.{read-of}
 use Rattle.edit.specs.Edits.{emptyBook}
 use Rattle.edit.proofs.Empty.{empty-refused}
-use Rattle.completion.specs.Complete.{completeBook, completeBookWithin, entryRoom}
+use Rattle.completion.specs.Complete.{completeBook, completeFrom, entryRoom}
 use Rattle.completion.specs.Machine.{machine}
 use Rattle.trie.specs.Calls.{completeTrie, completeTrieWithin, writeTrie}
 use Rattle.trie.specs.Reading.{readTrie}
@@ -37,9 +38,10 @@ completes :
     (book : List ℕ) (es : List Entry) → readBook book ≡ some es → (p : List ℕ) (k : ℕ) (dst : List ℕ) (ranges : ℕ)
     → isPrefix p ≡ true → 1 ≤ k → k ≤ maxCount → entryRoom * k ≤ length dst → k ≤ ranges
     → completeBook book p k dst ranges ≡ offersOf es p k (machine es p k .looks) dst
-unfolding completeBookWithin writing
+unfolding completeFrom writing
 completes book es r p k dst ranges hp lo hi long enough =
     rw (
+      read-not-old book (ap isRead r),
       r,
       hp,
       ne-eqb k 0 (λ z. omega arith),
@@ -61,9 +63,9 @@ trie-completes trie es r p k dst hp lo hi long =
 trie-reads :
     (book : List ℕ) (es : List Entry) (space : List ℕ) → readBook book ≡ some es → valid es ≡ true
     → length (trieImage es) ≤ length space → readTrie (writeTrie book space .dest) ≡ some es
-unfolding writeTrie
+unfolding writeTrie writingImage writing
 trie-reads book es space r ok room =
-    rw (converted readBook trieImage book space es r room)
+    rw (read-not-old book (ap isRead r), r, le-ltb (length space) (length (trieImage es)) room)
     (read-of readTrie trieImage trie-exact es (drop (length (trieImage es)) space) ok)
 
 -- a buffer that is read as es offers the best list of es
@@ -77,7 +79,7 @@ offers-best es book r ok =
     }
 
 -- "empty" was accepted only where it fits
-empty-fits : (a : List ℕ) (x : WrittenCounts) → emptyBook a .answer ≡ given x → 7 ≤ length a
+pub empty-fits : (a : List ℕ) (x : WrittenCounts) → emptyBook a .answer ≡ given x → 7 ≤ length a
 empty-fits a x h =
     by-test (ltb (length a) 7)
     (λ t.

@@ -16,14 +16,17 @@ use Rattle.entries.specs.Entries.{Entry, entry, valid, with, without}
 use Rattle.entries.specs.Names.{isName}
 use Rattle.entries.proofs.Edits.{valid-with, valid-without}
 use Rattle.answer.specs.Answers.{Answer, WrittenCounts, given, onAnswer, refused, writing, writingImage}
-use Rattle.book.specs.Book.{bookImage, readBook, reported}
+use Rattle.book.specs.Book.{bookImage, inBook, isBook, readBook, reported}
+use Rattle.book.specs.Checks.{bookChecks}
+use Rattle.frame.specs.Frame.{isRead}
 use Rattle.answer.proofs.Answers.{clear}
+use Rattle.book.proofs.Checks.{read-not-old}
 use Rattle.book.proofs.Reading.{readBook-of}
 use Rattle.edit.specs.Edits.{setEntry, withdrawEntry}
 use Rattle.edit.proofs.Empty.{empty-given, empty-length, empty-valid}
 use Rattle.ledger.specs.History.{Buffers, answers, buffersAfter, call, callStep, started}
 use Rattle.ledger.specs.Ledger.{Edit, held, ledgerAnswer, ledgerAnswers, ledgerChecks, ledgerStep}
-use Rattle.ledger.specs.Ledger.{result, scoreFits, setName, withdrawName}
+use Rattle.ledger.specs.Ledger.{refusals, result, scoreFits, setName, withdrawName}
 
 -- buffers of L bytes of which the first holds the book of the entries es
 pub record Holds (L : ℕ) (es : List Entry) (b : Buffers) : Type 0 where
@@ -36,6 +39,19 @@ pub record Holds (L : ℕ) (es : List Entry) (b : Buffers) : Type 0 where
 pub reads : (L : ℕ) (es : List Entry) (b : Buffers) → Holds L es b → readBook (b .book) ≡ some es
 reads L es b h = rw (h .front) (readBook-of es (h .rest) (h .ok))
 
+pub is-book : (L : ℕ) (es : List Entry) (b : Buffers) → Holds L es b → isBook (b .book) ≡ true
+is-book L es b h = ap isRead (reads L es b h)
+
+-- what every call is: the checks of the book, its own refusals, and the image of its result
+pub call-is :
+    (c : Edit) (b : Buffers)
+    → call c b
+    ≡ writingImage (bookChecks (b .book ∷ []) ++ refusals c (inBook (b .book))) (result c (inBook (b .book)))
+    (bookImage (result c (inBook (b .book)))) (b .other)
+unfolding setEntry withdrawEntry
+call-is (setName w s) b = refl
+call-is (withdrawName w) b = refl
+
 -- a call answers and writes as the ledger says
 call-as :
     (L : ℕ) (c : Edit) (es : List Entry) (b : Buffers) → Holds L es b
@@ -44,9 +60,8 @@ call-as :
       answer = ledgerAnswer L c es;
       dest = onAnswer (ledgerAnswer L c es) (b .other) (overwrite (b .other) (bookImage (result c es)));
     }
-unfolding setEntry withdrawEntry writingImage writing ledgerAnswer
-call-as L (setName w s) es b h = rw (reads L es b h, h .otherSize)
-call-as L (withdrawName w) es b h = rw (reads L es b h, h .otherSize)
+unfolding writingImage writing ledgerAnswer
+call-as L c es b h = rw (call-is c b, read-not-old (b .book) (is-book L es b h), reads L es b h, h .otherSize)
 
 -- an accepted edit: its result is a valid list, and its image fits
 accepted :
@@ -121,6 +136,5 @@ start-holds L a b p q h =
 
 -- a refused call changes neither buffer, whatever these hold
 pub refused-unchanged : (c : Edit) (b : Buffers) (n : ℕ) → call c b .answer ≡ refused n → callStep c b ≡ b
-unfolding callStep setEntry withdrawEntry writingImage writing
-refused-unchanged (setName w s) b n h = rw h
-refused-unchanged (withdrawName w) b n h = rw h
+unfolding callStep writingImage writing
+refused-unchanged c b n h = rw (h, call-is c b, rw (call-is c b) at h)

@@ -1,13 +1,14 @@
 -- The ledger (document 01, "The ledger"): what a history of calls is to answer and to leave, by entries alone.
 use Prim.Native.Nat.{ℕ}
-use mathlib.Core.Bool.{Bool, _&&_, not, true}
+use mathlib.Core.Bool.{Bool, true}
 use mathlib.Core.List.{List, [], _++_, _∷_}
-use lib.Dec.{leb, ltb}
+use lib.Dec.{ltb}
 use lib.ListN.{length}
-use Rattle.entries.specs.Entries.{Entry, entry, holds, maxEntries, with, without}
-use Rattle.entries.specs.Names.{isName, isScore}
+use Rattle.entries.specs.Entries.{Entry, entry, with, without}
+use Rattle.entries.specs.Names.{isScore}
 use Rattle.answer.specs.Answers.{Answer, Check, WrittenCounts, _when_, onAnswer, unless}
 use Rattle.book.specs.Book.{bookImage, reported}
+use Rattle.edit.specs.Edits.{setRefusals, withdrawRefusals}
 
 -- One call of a history with its arguments other than the buffers: a set of a name and a score, or a withdraw of a
 -- name.
@@ -27,8 +28,8 @@ result (withdrawName w) es = without w es
 
 -- its refusals: 2, 4 and 5, and 7 where the result's book image is longer than L
 abbrev pub refusals : Edit → List Entry → List Check
-refusals (setName w s) es = 2 when not (isName w) ∷ 5 when (not (holds w es) && leb maxEntries (length es)) ∷ []
-refusals (withdrawName w) es = 2 when not (isName w) ∷ 4 when not (holds w es) ∷ []
+refusals (setName w s) es = setRefusals w es
+refusals (withdrawName w) es = withdrawRefusals w es
 
 abbrev pub ledgerChecks : ℕ → Edit → List Entry → List Check
 ledgerChecks L c es = refusals c es ++ (7 when ltb L (length (bookImage (result c es))) ∷ [])

@@ -1,6 +1,7 @@
 -- The cases that document 01 marks P1 to P10, and the unmarked line behind them ("Shown on the bench"): one table,
--- shown to agree with the definitions by one proposition. E and the images P1 to P4 are written out in
--- `Rattle.book.specs.Shown`.
+-- shown to agree with the definitions by one proposition. The books are worked again for version 22 (document 02,
+-- request f); as printed, for version 21, they are worked in `Rattle.book.specs.Old`. E, the images P1 to P4 and the
+-- entries of P9 and P10 are written out in `Rattle.book.specs.Shown`.
 use Prim.Native.Nat.{ℕ}
 use mathlib.Core.Path.{_≡_, refl}
 use mathlib.Core.List.{List, [], _++_, _∷_}
@@ -17,10 +18,10 @@ use Rattle.answer.specs.Answers.{entriesBytes, entryBytes, writing, writingImag
 use Rattle.book.specs.Book.{bookImage, entriesIn, imageIn, offset, offsets, peak, peaks, readBook, readIn, recordsAt}
 use Rattle.book.specs.Book.{scores}
 use Rattle.frame.specs.Frame.{countOf, framed, readAs}
-use Rattle.book.specs.Shown.{E, P1, P2, P3, P4, answerEntry, letters, listed, shownOffered, shownRead, shownWritten}
-use Rattle.book.specs.Shown.{spare}
+use Rattle.book.specs.Shown.{E, P1, P10, P2, P3, P4, P9, answerEntry, letters, listed, shownOffered}
+use Rattle.book.specs.Shown.{shownRead, shownWritten, spare}
 use Rattle.edit.specs.Edits.{emptyBook, setEntry, withdrawEntry}
-use Rattle.completion.specs.Complete.{completeBook, completeBookWithin}
+use Rattle.completion.specs.Complete.{completeBook, completeFrom}
 use Rattle.completion.specs.Machine.{machine, offering, openRange, others, parts}
 use Rattle.trie.specs.Calls.{completeTrie, completeTrieWithin, writeTrie}
 use Rattle.trie.specs.Reading.{behindSibling, childSize, labelLength, lastMark, readTrie, scoreSize, siblingOf}
@@ -41,28 +42,22 @@ leftBy h = buffersAfter h (started (spare 60) (spare 60)) .book
 abbrev P8 : List Entry
 P8 = letters 0x61 (1 ∷ 9 ∷ 1 ∷ [])
 
--- P9: names 1 to 8, 47 letters x, 48 letters x; the 47 are a bucket's head. P10: without "1", the 48 are
-abbrev P9 : List Entry
-P9 = letters 0x31 (replicate 8 0) ++ (entry (replicate 47 0x78) 0 ∷ entry (replicate 48 0x78) 0 ∷ [])
-
-abbrev P10 : List Entry
-P10 = letters 0x32 (replicate 7 0) ++ (entry (replicate 47 0x78) 0 ∷ entry (replicate 48 0x78) 0 ∷ [])
-
+-- the books of P9 and P10: each name but the last shares nothing with the one before it
 abbrev P9book : List ℕ
 P9book =
-    (0x21 ∷ 0x00 ∷ 0x00 ∷ 0x00 ∷ 127 ∷ 0x00 ∷ 10 ∷ replicate 40 0x00)
-    ++ (0x00 ∷ 53 ∷ 0x00 ∷ 76 ∷ 0x00 ∷ 0 ∷ [])
-    ++ (1 ∷ 0x31 ∷ concatMap (λ c. 0 ∷ 1 ∷ c ∷ []) (countFrom 0x32 7))
-    ++ (47 ∷ replicate 47 0x78)
+    (0x22 ∷ 0x00 ∷ 0x00 ∷ 0x00 ∷ 125 ∷ 0x00 ∷ 10 ∷ replicate 40 0x00)
+    ++ (0x00 ∷ 0 ∷ [])
+    ++ concatMap (λ c. 0 ∷ 1 ∷ c ∷ []) (countFrom 0x31 8)
+    ++ (0 ∷ 47 ∷ replicate 47 0x78)
     ++ (47 ∷ 1 ∷ 0x78 ∷ [])
 
 abbrev P10book : List ℕ
 P10book =
-    (0x21 ∷ 0x00 ∷ 0x00 ∷ 0x00 ∷ 167 ∷ 0x00 ∷ 9 ∷ replicate 36 0x00)
-    ++ (0x00 ∷ 49 ∷ 0x00 ∷ 118 ∷ 0x00 ∷ 0 ∷ [])
-    ++ (1 ∷ 0x32 ∷ concatMap (λ c. 0 ∷ 1 ∷ c ∷ []) (countFrom 0x33 6))
+    (0x22 ∷ 0x00 ∷ 0x00 ∷ 0x00 ∷ 118 ∷ 0x00 ∷ 9 ∷ replicate 36 0x00)
+    ++ (0x00 ∷ 0 ∷ [])
+    ++ concatMap (λ c. 0 ∷ 1 ∷ c ∷ []) (countFrom 0x32 7)
     ++ (0 ∷ 47 ∷ replicate 47 0x78)
-    ++ (48 ∷ replicate 48 0x78)
+    ++ (47 ∷ 1 ∷ 0x78 ∷ [])
 
 -- the ledger's answer as numbers: the refusal or 0, then the counts
 abbrev ledgerSays : ℕ → Edit → List Entry → List ℕ
@@ -81,7 +76,7 @@ images =
     -- P3, also as the book that sets leave
     ∷ (bookImage E gives P3)
     ∷ (shownRead (readBook P3) gives listed E)
-    ∷ (take 44 (leftBy setsOfE) gives P3)
+    ∷ (take 43 (leftBy setsOfE) gives P3)
     -- P4
     ∷ (trieImage E gives P4)
     ∷ (shownWritten (writeTrie P3 (spare 28)) gives (0 ∷ 4 ∷ 28 ∷ P4))
@@ -112,28 +107,30 @@ abbrev lengths : List Row
 lengths =
     -- P9
     (bookImage P9 gives P9book)
-    ∷ (length P9book ∷ [] gives (127 ∷ []))
+    ∷ (length P9book ∷ [] gives (125 ∷ []))
     -- P10
     ∷ (bookImage P10 gives P10book)
-    ∷ (length P10book ∷ [] gives (167 ∷ []))
-    -- P10 by a withdrawal from P9: in 130 bytes and in 166 it gives 7, in 167 it is accepted
-    ∷ (shownWritten (withdrawEntry P9book (text "1") (spare 130)) gives (7 ∷ 0 ∷ 0 ∷ spare 130))
-    ∷ (shownWritten (withdrawEntry P9book (text "1") (spare 166)) gives (7 ∷ 0 ∷ 0 ∷ spare 166))
-    ∷ (shownWritten (withdrawEntry P9book (text "1") (spare 167)) gives (0 ∷ 9 ∷ 167 ∷ P10book))
-    ∷ (ledgerSays 130 (withdrawName (text "1")) P9 gives (7 ∷ 0 ∷ 0 ∷ []))
-    ∷ (ledgerSays 166 (withdrawName (text "1")) P9 gives (7 ∷ 0 ∷ 0 ∷ []))
-    ∷ (ledgerSays 167 (withdrawName (text "1")) P9 gives (0 ∷ 9 ∷ 167 ∷ []))
+    ∷ (length P10book ∷ [] gives (118 ∷ []))
+    -- P10 by a withdrawal from P9: in 130 bytes, in the 125 of P9 and in 118 it is accepted, in 117 it gives 7
+    ∷ (shownWritten (withdrawEntry P9book (text "1") (spare 130)) gives (0 ∷ 9 ∷ 118 ∷ P10book ++ spare 12))
+    ∷ (shownWritten (withdrawEntry P9book (text "1") (spare 125)) gives (0 ∷ 9 ∷ 118 ∷ P10book ++ spare 7))
+    ∷ (shownWritten (withdrawEntry P9book (text "1") (spare 118)) gives (0 ∷ 9 ∷ 118 ∷ P10book))
+    ∷ (shownWritten (withdrawEntry P9book (text "1") (spare 117)) gives (7 ∷ 0 ∷ 0 ∷ spare 117))
+    ∷ (ledgerSays 130 (withdrawName (text "1")) P9 gives (0 ∷ 9 ∷ 118 ∷ []))
+    ∷ (ledgerSays 125 (withdrawName (text "1")) P9 gives (0 ∷ 9 ∷ 118 ∷ []))
+    ∷ (ledgerSays 118 (withdrawName (text "1")) P9 gives (0 ∷ 9 ∷ 118 ∷ []))
+    ∷ (ledgerSays 117 (withdrawName (text "1")) P9 gives (7 ∷ 0 ∷ 0 ∷ []))
     ∷ []
 
 abbrev bounds : List Row
 bounds =
     -- a name of 48 bytes is accepted, 49 gives 2
-    (shownWritten (setEntry P1 (replicate 48 0x78) 1 (spare 64))
-    gives (0 ∷ 1 ∷ 64 ∷ 0x21 ∷ 0x00 ∷ 0x00 ∷ 0x00 ∷ 64 ∷ 0x00 ∷ 1 ∷ 0x00 ∷ 0x00 ∷ 0x00 ∷ 1 ∷ 0x00 ∷ 15 ∷ 0x00 ∷ 0 ∷ 48
+    (shownWritten (setEntry P1 (replicate 48 0x78) 1 (spare 63))
+    gives (0 ∷ 1 ∷ 63 ∷ 0x22 ∷ 0x00 ∷ 0x00 ∷ 0x00 ∷ 63 ∷ 0x00 ∷ 1 ∷ 0x00 ∷ 0x00 ∷ 0x00 ∷ 1 ∷ 0x00 ∷ 0 ∷ 0 ∷ 48
     ∷ replicate 48 0x78))
-    ∷ (shownWritten (setEntry P1 (replicate 49 0x78) 1 (spare 65)) gives (2 ∷ 0 ∷ 0 ∷ spare 65))
-    ∷ (ledgerSays 64 (setName (replicate 48 0x78) 1) [] gives (0 ∷ 1 ∷ 64 ∷ []))
-    ∷ (ledgerSays 65 (setName (replicate 49 0x78) 1) [] gives (2 ∷ 0 ∷ 0 ∷ []))
+    ∷ (shownWritten (setEntry P1 (replicate 49 0x78) 1 (spare 64)) gives (2 ∷ 0 ∷ 0 ∷ spare 64))
+    ∷ (ledgerSays 63 (setName (replicate 48 0x78) 1) [] gives (0 ∷ 1 ∷ 63 ∷ []))
+    ∷ (ledgerSays 64 (setName (replicate 49 0x78) 1) [] gives (2 ∷ 0 ∷ 0 ∷ []))
     -- a prefix likewise
     ∷ (shownOffered (completeBook P3 (replicate 48 0x78) 1 (spare 53) 1) gives (0 ∷ 0 ∷ 0 ∷ 0 ∷ spare 53))
     ∷ (shownOffered (completeBook P3 (replicate 49 0x78) 1 (spare 53) 1) gives (2 ∷ 0 ∷ 0 ∷ 0 ∷ spare 53))
@@ -157,9 +154,8 @@ table = images ++ completions ++ lengths ++ bounds
 -- every marked case agrees with the definitions
 pub marked : failing 0 table ≡ []
 unfolding be fromBe allowedBytes isPrefix isName isScore valid completion rangeStart recordOf recordName recordLength
-    framed countOf readAs scores peak peaks recordsAt offset offsets imageIn entriesIn readIn bookImage readBook
-    writing writingImage entryBytes entriesBytes emptyBook setEntry withdrawEntry openRange others parts offering
-    machine
-    completeBookWithin headerByte nodeBytes otherBytes groupBytes nodeOf trieImage scoreSize childSize lastMark
+    framed countOf readAs scores peak peaks recordsAt offset offsets imageIn entriesIn readIn writing writingImage
+    entryBytes entriesBytes emptyBook setEntry withdrawEntry openRange others parts offering machine
+    completeFrom headerByte nodeBytes otherBytes groupBytes nodeOf trieImage scoreSize childSize lastMark
     labelLength siblingOf behindSibling trieEntries readTrie writeTrie completeTrieWithin ledgerAnswer callStep
 marked = refl

@@ -37,8 +37,12 @@ pub const FRAME_LENGTH: usize = 7;
 pub const TOTAL_AT: usize = 1;
 
 pub const COUNT_AT: usize = 5;
-// The versions of a book, a sheet and a trie.
-pub const BOOK_VERSION: u8 = 0x21;
+// The versions of a book, of an old one, of a sheet and a trie.
+pub const BOOK_VERSION: u8 = 0x22;
+
+pub const OLD_BOOK_VERSION: u8 = 0x21;
+// Whether a book of that version has bucket heads: `today`.
+pub const BOOK_HEADS: bool = false;
 
 pub const SHEET_VERSION: u8 = 0x11;
 

@@ -1,25 +1,26 @@
 -- Finding and prefix ranges by the place of a key.
-use Prim.Native.Nat.{_*_, _-_, _<_, _≤_, ℕ}
+use Prim.Native.Nat.{_-_, _<_, _≤_, ℕ}
 use mathlib.Core.Path.{_≡_, refl, sym}
 use mathlib.Core.Logic.{inl, inr}
 use mathlib.Core.Bool.{false, false≢true, not, true}
-use mathlib.Core.List.{List, [], _∷_}
-use lib.Dec.{leb}
+use mathlib.Core.List.{List, [], _++_, _∷_}
+use lib.Dec.{eqb, ltb}
 use lib.ListN.{length}
 use native.Mathlib.Omega.{arith}
-use borrow.Author.Tests.{eq-eqb, leb-false, ne-eqb, not-false}
-use Rattle.octets.specs.Lists.{_∈_, ceil}
+use borrow.Author.Tests.{eq-eqb, ltb-true, ne-eqb, not-false}
+use Rattle.octets.specs.Lists.{_∈_}
 use Rattle.octets.proofs.Lists.{at-all}
+use Rattle.octets.proofs.Tests.{and-true, or-false}
 use Rattle.entries.specs.Completion.{matches, rangeStart}
 use Rattle.entries.specs.Entries.{Entry, at, noEntry, rising}
 use Rattle.entries.specs.Names.{isName}
 use Rattle.entries_laws.specs.Place.{place}
 use Rattle.entries_laws.proofs.Place.{place-first, place-matches}
 use Rattle.entries.proofs.Valid.{name-above, valid-of}
-use Rattle.book.specs.Records.{bucketSize}
 use Rattle.answer.specs.Answers.{Check, _when_}
 use Rattle.book.specs.Book.{inBook, isBook}
-use Rattle.lookup.specs.Lookups.{HeadPart, headLength, headName}
+use Rattle.book.specs.Checks.{bookChecks}
+use Rattle.lookup.specs.Lookups.{HeadPart, hasHead, headLength, headName}
 use Rattle.answer.proofs.Answers.{clear, given-is}
 use Rattle.book.proofs.Reading.{valid-in}
 
@@ -51,16 +52,17 @@ head-part book j = record {
 }
   where
     len : ℕ
-    len = length (at (inBook book) (bucketSize * j) .name)
+    len = length (at (inBook book) 0 .name)
 
     checks : List Check
-    checks = 1 when not (isBook book) ∷ 6 when leb (ceil (length (inBook book)) bucketSize) j ∷ []
+    checks = bookChecks (book ∷ []) ++ (6 when not (hasHead (inBook book) j) ∷ [])
 
-    some-name : ((c : Check) → c ∈ checks → c .applies ≡ false) → at (inBook book) (bucketSize * j) .name ≡ [] → ⊥
+    some-name : ((c : Check) → c ∈ checks → c .applies ≡ false) → at (inBook book) 0 .name ≡ [] → ⊥
     some-name ok e =
-        let b = not-false (isBook book) (ok _ (inl refl)) in
-        let l = leb-false (ceil (length (inBook book)) bucketSize) j (ok _ (inr (inl refl))) in
+        let b = not-false (isBook book) (or-false (not (isBook book)) false (ok _ (inr (inl refl))) .0) in
+        let h = not-false (hasHead (inBook book) j) (ok _ (inr (inr (inl refl)))) in
+        let l = ltb-true 0 (length (inBook book)) (and-true (eqb j 0) (ltb 0 (length (inBook book))) h .1) in
         let v = valid-of (inBook book) (valid-in book b) in
-        let n = at-all (λ f. isName (f .name)) noEntry (inBook book) (v .allowed) (bucketSize * j) (omega arith) in
+        let n = at-all (λ f. isName (f .name)) noEntry (inBook book) (v .allowed) 0 l in
         let m : isName [] ≡ true = rw e at n in
         false≢true (name-above [] m)

@@ -1,8 +1,8 @@
 -- What lookups by name learn of a book that was checked.
-use Prim.Native.Nat.{_-_, _<_, ℕ}
+use Prim.Native.Nat.{_<_, _≤_, ℕ}
 use mathlib.Core.Path.{_∙_, _≡_, ap, sym}
 use mathlib.Core.Logic.{inl, inr}
-use mathlib.Core.Bool.{false, true}
+use mathlib.Core.Bool.{Bool, false, true}
 use mathlib.Core.List.{List, [], _∷_}
 use mathlib.Core.Option.{Option, none, some}
 use lib.Dec.{ltb}
@@ -12,12 +12,13 @@ use denote.Enum.Declared.{tagOf}
 use types.Run.{OneOf}
 use borrow.Author.Tests.{lt-ltb, ltb-true}
 use Rattle.answer.proofs.Found.{the-type}
+use Rattle.octets.specs.Lists.{if_then_else_}
 use Rattle.octets.specs.Octets.{same}
 use Rattle.octets.proofs.Order.{same-eq}
 use Rattle.octets.proofs.Tests.{and-true, by-test}
-use Rattle.entries.specs.Entries.{Entry, at, entry, holds, position}
-use Rattle.entries_laws.specs.Place.{place}
-use Rattle.entries_laws.proofs.Place.{place-absent, place-held, position-at}
+use Rattle.entries.specs.Entries.{Entry, at, entry, holds, maxEntries, names, position}
+use Rattle.entries_laws.specs.Place.{isAt, place}
+use Rattle.entries_laws.proofs.Place.{place-absent, place-held, place-most, position-at}
 use Rattle.entries.proofs.Same.{entry-eq}
 use Rattle.answer.specs.Answers.{Answer, FoundCounts, given, refused}
 use Rattle.book.specs.Book.{inBook}
@@ -25,33 +26,69 @@ use Rattle.book_laws.specs.Check.{scoreAt}
 use Rattle.book_laws.specs.Held.{Held}
 use Rattle.lookup.specs.Lookups.{foundIn}
 use Rattle.book_laws.proofs.Held.{held-stored, held-valid}
-use Rattle.book_find.specs.Find.{Seeks, isAt}
-use Rattle.book_find.specs.declared.Sought.{Sought}
+use Rattle.book_seek.specs.Seek.{Seeking}
+use Rattle.book_seek.specs.declared.Seek.{Seek}
+use Rattle.book_seek.proofs.Found.{seeking-place, seeking-same}
 use Rattle.answer.specs.Reports.{foundOf}
-use Rattle.lookup_find.specs.Finding.{spotOf}
+use Rattle.lookup_find.specs.Finding.{foundAt, spotAt, spotOf}
 use Rattle.lookup_find.specs.declared.Spot.the-variants as spots
 use Rattle.answer.specs.declared.Found.{Found}
 use Rattle.answer.specs.declared.Found.the-variants as found
 
--- what the search for a name gave: its place has another name or is past the last entry, a gap; or it has that name
-module _ (b w : List ℕ) (n : ℕ) {s : Sought} (h : Held b n) (k : Seeks false w (inBook b) s) where
-  pub gap-here : s .same ≡ false → spots.Gap (s .index) ≡ spotOf w (inBook b)
-  gap-here t =
-      let z : isAt (inBook b) (place false w (inBook b)) w ≡ false = rw (k .index) at (sym (k .same) ∙ t) in
-      rw (
-        place-absent w (inBook b) (held-valid h .order)
-            (λ m. rw (lt-ltb (place false w (inBook b)) (length (inBook b)) m) at z),
-        k .index,
-      )
+-- what the search for a name told of a book that was checked: its place, where it stands or where there is a gap
+module _ (b w : List ℕ) {n start : ℕ} {s : Seek} (h : Held b n) (k : Seeking w start (names (inBook b)) s) where
+  pub place-low : s .place ≤ maxEntries
+  place-low = omega (arith, seeking-place (inBook b) k, place-most false w (inBook b), held-valid h .few)
 
-  pub held-here : s .same ≡ true → spots.Held (s .index) ≡ spotOf w (inBook b)
-  held-here t =
-      let i = place false w (inBook b) in
-      let z : isAt (inBook b) (place false w (inBook b)) w ≡ true = rw (k .index) at (sym (k .same) ∙ t) in
-      let a = and-true (ltb i (length (inBook b))) (same (at (inBook b) i .name) w) z in
-      let f = place-held w (inBook b) (held-valid h .order) (ltb-true i (length (inBook b)) (a .0))
-      (same-eq (at (inBook b) i .name) w (a .1)) in
-      rw (f .0, f .1, k .index)
+  abbrev i : ℕ
+  i = place false w (inBook b)
+
+  told : s .same ≡ isAt (inBook b) i w
+  told = seeking-same (inBook b) k ∙ ap (λ j. isAt (inBook b) j w) (seeking-place (inBook b) k)
+
+  gap-there : s .same ≡ false → holds w (inBook b) ≡ false
+  gap-there t =
+      let z : isAt (inBook b) i w ≡ false = sym told ∙ t in
+      place-absent w (inBook b) (held-valid h .order) (λ m. rw (lt-ltb i (length (inBook b)) m) at z)
+
+  held-there : s .same ≡ true → (holds w (inBook b) ≡ true) × (position w (inBook b) ≡ i)
+  held-there t =
+      let a = and-true (ltb i (length (inBook b))) (same (at (inBook b) i .name) w) (sym told ∙ t) in
+      place-held w (inBook b) (held-valid h .order) (ltb-true i (length (inBook b)) (a .0))
+      (same-eq (at (inBook b) i .name) w (a .1))
+
+  -- so it tells the spot
+  pub spot-is : spotAt s ≡ spotOf w (inBook b)
+  spot-is =
+      by-test (s .same)
+      (λ t. rw (t, held-there t .0, held-there t .1, seeking-place (inBook b) k))
+      (λ t. rw (t, gap-there t, seeking-place (inBook b) k))
+
+  -- and finding gives the place with its score, or none
+  pub found-is : foundAt b s ≡ foundIn w (inBook b)
+  unfolding foundIn
+  found-is = by-test (s .same) there (λ t. rw (t, gap-there t))
+    where
+      there : s .same ≡ true → foundAt b s ≡ foundIn w (inBook b)
+      there t =
+          let f = held-there t in
+          let m = position-at w (inBook b) (f .0) .0 in
+          let l : i < length (inBook b) = omega (arith, f .1) in
+          rw (t, f .0, f .1, seeking-place (inBook b) k, held-stored h .scoredAt i l)
+
+-- the answers of finding, by what the search told
+module _ (b : List ℕ) (s : Seek) where
+  abbrev when : Bool → Answer (Option FoundCounts)
+  when t = given (if t then some (record { position = s .place; score = scoreAt b (s .place) }) else none)
+
+  pub found-gap : s .same ≡ false → _≡_ {A = Answer (Option FoundCounts)} (given none) (given (foundAt b s))
+  found-gap t = ap when (sym t)
+
+  pub found-there :
+      {score : ℕ} → s .same ≡ true → score ≡ scoreAt b (s .place)
+      → _≡_ {A = Answer (Option FoundCounts)} (given (some (record { position = s .place; score = score })))
+      (given (foundAt b s))
+  found-there t e = ap (λ x. given (some (record { position = s .place; score = x }))) e ∙ ap when (sym t)
 
 -- taken apart: a position is that of a name that is held, a gap the place of one that is not
 pub at-held : (w : List ℕ) (es : List Entry) {i : ℕ} → spots.Held i ≡ spotOf w es → (holds w es ≡ true)
@@ -74,25 +111,6 @@ pub held-low : (b w : List ℕ) (n : ℕ) {i : ℕ} → Held b n → spots.Held 
 held-low b w n {i} h e =
     let f = at-held w (inBook b) e in
     omega (arith, h .count, f .1, position-at w (inBook b) (f .0) .0)
-
--- so finding gives the position with its score, or none
-pub found-at :
-    (b w : List ℕ) (n i s : ℕ) → Held b n → spots.Held i ≡ spotOf w (inBook b) → s ≡ scoreAt b i
-    → _≡_ {A = Answer (Option FoundCounts)} (given (some (record { position = i; score = s })))
-    (given (foundIn w (inBook b)))
-unfolding foundIn
-found-at b w n i s h e z =
-    let f = at-held w (inBook b) e in
-    let m = position-at w (inBook b) (f .0) .0 in
-    let score : s ≡ at (inBook b) (position w (inBook b)) .score = z ∙ ap (scoreAt b) (f .1)
-    ∙ held-stored h .scoredAt (position w (inBook b)) m in
-    rw (f .0, f .1, score)
-
-pub found-gap :
-    (b w : List ℕ) (i : ℕ) → spots.Gap i ≡ spotOf w (inBook b)
-    → _≡_ {A = Answer (Option FoundCounts)} (given none) (given (foundIn w (inBook b)))
-unfolding foundIn
-found-gap b w i e = rw (at-gap w (inBook b) e .0)
 
 scoreIn : Answer (Option FoundCounts) → ℕ
 scoreIn (refused n) = 0

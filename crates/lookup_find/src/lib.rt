@@ -1,12 +1,12 @@
-// Where a name is in a book that was checked.
+// Finding a name in a book that was checked, from what the search for it told.
 use answer::Found;
+use book_seek::Seek;
 ghost use mathlib.Core.Path.{_≡_};
+ghost use Prim.Native.Nat.{_≤_};
+ghost use Rattle.entries.specs.Entries.{maxEntries};
 ghost use Rattle.answer.specs.Answers.{given};
 ghost use Rattle.answer.specs.Reports.{foundOf};
-ghost use Rattle.book.specs.Book.{inBook};
-ghost use Rattle.book_laws.specs.Held.{Held};
-ghost use Rattle.lookup.specs.Lookups.{foundIn};
-ghost use Rattle.lookup_find.specs.Finding.{spotOf};
+ghost use Rattle.lookup_find.specs.Finding.{foundAt, spotAt};
 
 // A position, or the gap that a name would fill.
 pub enum Spot {
@@ -14,29 +14,26 @@ pub enum Spot {
     Gap(usize),
 }
 
-// The position of a name, or the gap that it would fill.
-pub fn look_up(book: &[u8], n: usize, name: &[u8]) -> Spot
-    requires { ⌜ Held (now book) n ⌝ }
-    ensures { λ r. ⌜ r ≡ spotOf (now (name .entry)) (inBook (now (book .entry))) ⌝ }
+// The position of the name that was sought, or the gap that it would fill.
+pub fn look_up(s: Seek) -> Spot
+    ensures { λ r. ⌜ r ≡ spotAt s ⌝ }
 {
-    let s = book_find::seek(book, n, name, false);
-    let i = s.index;
     if s.same {
-        return Spot::Held(i);
+        return Spot::Held(s.place);
     }
-    Spot::Gap(i)
+    Spot::Gap(s.place)
 }
 
-// The position and score of a name in a book that was checked.
-pub fn find_in(book: &[u8], n: usize, name: &[u8]) -> Found
-    requires { ⌜ Held (now book) n ⌝ }
-    ensures { λ r. ⌜ foundOf r ≡ given (foundIn (now (name .entry)) (inBook (now (book .entry)))) ⌝ }
+// The position and score of the name that was sought in a book.
+pub fn find_in(book: &[u8], s: Seek) -> Found
+    requires { ⌜ s .place ≤ maxEntries ⌝ }
+    ensures { λ r. ⌜ foundOf r ≡ given (foundAt (now (book .entry)) s) ⌝ }
 {
-    let Spot::Held(i) = look_up(book, n, name) else {
+    if !s.same {
         return Found::Absent;
-    };
+    }
     Found::At {
-        position: i,
-        score: book_layout::score_at(book, i),
+        position: s.place,
+        score: book_layout::score_at(book, s.place),
     }
 }

@@ -1,8 +1,8 @@
-// A program for the tests: prints the head name of each bucket of the book on standard input, a line each, empty lines
-// where there is none. It runs `head`, whose returned part no C name can hand out.
+// A program for the tests: prints what `head` hands out for each bucket of the book on standard input, a line each: the
+// first name for bucket 0, and empty lines where there is none. No C name can hand out that part.
 use limits::BUFFER_LENGTH;
 
-// One more than the buckets that a book of 1,024 names has.
+// One more than the buckets of 8 that 1,024 names would fill: only bucket 0 has a head.
 const BUCKETS: usize = 129;
 
 // Prints what `head` hands out for each bucket.

@@ -13,6 +13,7 @@ use Rattle.answer.specs.Reports.{Answered, foundOf}
 use Rattle.answer_write.specs.Entry.{oneEntry}
 use Rattle.answer.specs.declared.Written.{Written}
 use Rattle.answer.proofs.Answers.{answered-as}
+use Rattle.book.proofs.Checks.{read-not-old}
 use Rattle.answer.specs.declared.Found.{Found}
 use Rattle.answer.specs.declared.Found.the-variants as found
 use Rattle.lookup_find.proofs.Finding.{found-entry}
@@ -21,7 +22,7 @@ name-of-entry :
     (b w dst : List ℕ) → isBook b ≡ true → isName w ≡ true → holds w (inBook b) ≡ true
     → nameOf b w dst ≡ oneEntry (at (inBook b) (position w (inBook b))) dst
 unfolding nameOf writingImage writing
-name-of-entry b w dst h k l = rw (h, k, l)
+name-of-entry b w dst h k l = rw (read-not-old b h, h, k, l)
 
 pub of-name :
     (b w dst : List ℕ) {left : List ℕ} {n : ℕ} (i s : ℕ) {f : Found} {r : Written} → Held b n → isName w ≡ true

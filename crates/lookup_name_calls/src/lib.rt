@@ -1,8 +1,8 @@
-// Lookups by name: where a name is in a book, its entry, and the positions that a prefix begins.
+// Lookups by name: where a name is in a book, its entry, and the positions that a prefix begins. The check of the book
+// seeks the name or the prefix in the same pass, before it is known whether it is allowed.
 use answer::Found;
 use answer::Span;
 use answer::Written;
-use frame_code::Image;
 ghost use mathlib.Core.Path.{_≡_};
 ghost use Rattle.lookup.specs.Lookups.{find, nameOf, prefixRange};
 ghost use Rattle.answer.specs.Reports.{Answered, foundOf, spanOf};
@@ -11,13 +11,14 @@ ghost use Rattle.answer.specs.Reports.{Answered, foundOf, spanOf};
 pub fn find(book: &[u8], name: &[u8]) -> Found
     ensures { λ r. ⌜ foundOf r ≡ find (now (book .entry)) (now (name .entry)) ⌝ }
 {
-    let Image::Entries(n) = book_check::check(book) else {
-        return Found::Refused(1);
-    };
+    let c = book_check::check(book, name);
+    if c.refusal != 0 {
+        return Found::Refused(c.refusal);
+    }
     if !entries_check::is_name(name) {
         return Found::Refused(2);
     }
-    lookup_find::find_in(book, n, name)
+    lookup_find::find_in(book, c.seek)
 }
 
 // Writes the given name with its score as one answer entry.
@@ -25,13 +26,14 @@ pub fn name_of(book: &[u8], name: &[u8], dst: &mut [u8]) -> Written
     ensures { λ r. ⌜ Answered (nameOf (now (book .entry)) (now (name .entry)) (now (dst .entry))) r
         (now (dst .exit)) ⌝ }
 {
-    let Image::Entries(n) = book_check::check(book) else {
-        return Written::Refused(1);
-    };
+    let c = book_check::check(book, name);
+    if c.refusal != 0 {
+        return Written::Refused(c.refusal);
+    }
     if !entries_check::is_name(name) {
         return Written::Refused(2);
     }
-    let Found::At { position: _, score } = lookup_find::find_in(book, n, name) else {
+    let Found::At { position: _, score } = lookup_find::find_in(book, c.seek) else {
         return Written::Refused(4);
     };
     answer_write::write_entry(name, score, dst)
@@ -41,14 +43,15 @@ pub fn name_of(book: &[u8], name: &[u8], dst: &mut [u8]) -> Written
 pub fn prefix_range(book: &[u8], prefix: &[u8]) -> Span
     ensures { λ r. ⌜ spanOf r ≡ prefixRange (now (book .entry)) (now (prefix .entry)) ⌝ }
 {
-    let Image::Entries(n) = book_check::check(book) else {
-        return Span::Refused(1);
-    };
+    let c = book_check::check(book, prefix);
+    if c.refusal != 0 {
+        return Span::Refused(c.refusal);
+    }
     if !entries_check::is_prefix(prefix) {
         return Span::Refused(2);
     }
-    let first = book_find::place(book, n, prefix, false);
-    let end = book_find::place(book, n, prefix, true);
+    let first = c.seek.place;
+    let end = c.seek.past;
     if end <= first {
         return Span::Range { first: 0, count: 0 };
     }

@@ -13,6 +13,7 @@ use Rattle.book.specs.Book.{inBook, isBook}
 use Rattle.book_laws.specs.Check.{scoreAt}
 use Rattle.book_laws.specs.Held.{Held}
 use Rattle.lookup.specs.Lookups.{nameAt}
+use Rattle.book.proofs.Checks.{read-not-old}
 use Rattle.book_laws.proofs.Held.{held-stored}
 use Rattle.answer.specs.Reports.{Answered}
 use Rattle.answer_write.specs.Entry.{oneEntry}
@@ -23,7 +24,7 @@ name-at-entry :
     (b : List ℕ) (i : ℕ) (dst : List ℕ) → isBook b ≡ true → i < length (inBook b)
     → nameAt b i dst ≡ oneEntry (at (inBook b) i) dst
 unfolding nameAt writingImage writing
-name-at-entry b i dst h l = rw (h, lt-leb (length (inBook b)) i l)
+name-at-entry b i dst h l = rw (read-not-old b h, h, lt-leb (length (inBook b)) i l)
 
 pub at-position :
     (b u dst : List ℕ) {left : List ℕ} {n : ℕ} (i s : ℕ) {r : Written} → Held b n → i < n → u ≡ at (inBook b) i .name

@@ -2,19 +2,20 @@
 use Prim.Native.Nat.{_≤_, ℕ}
 use mathlib.Core.Path.{_∙_, _≡_, ap, refl, sym}
 use mathlib.Core.Logic.{inl, inr}
-use mathlib.Core.Bool.{_&&_, false, true}
+use mathlib.Core.Bool.{_||_, false, not, true}
 use mathlib.Core.List.{List, [], _++_, _∷_}
 use lib.ListN.{drop, length}
 use lib.Seq.{take-append-seam}
 use borrow.Author.Tests.{le-ltb, ltb-false, not-false}
 use Rattle.octets.specs.Lists.{_∈_}
 use Rattle.octets.specs.Octets.{overwrite}
-use Rattle.octets.proofs.Tests.{and-true}
+use Rattle.octets.proofs.Tests.{or-false}
 use Rattle.entries.specs.Entries.{maxEntries, valid}
 use Rattle.entries.proofs.Valid.{valid-of}
 use Rattle.answer.specs.Answers.{Check, WrittenCounts, _when_, given, refused, tooShort, writing, writingImage}
 use Rattle.book.specs.Book.{bookImage, inBook, isBook, reported}
 use Rattle.answer.proofs.Answers.{clear, given-is, refused-same}
+use Rattle.book.proofs.Checks.{read-not-old}
 use Rattle.book.proofs.Reading.{readBook-of, valid-in}
 use Rattle.ledger.proofs.Demand.{offers-best}
 use Rattle.merge.specs.Joined.{mergeBooks, mergeRefusals, mergedEntries}
@@ -34,6 +35,8 @@ module _ (first second dst : List ℕ) where
   unfolding mergeBooks writingImage writing
   accepts a b few long =
       rw (
+        read-not-old first a,
+        read-not-old second b,
         a,
         b,
         le-ltb maxEntries (length (mergedEntries first second)) few,
@@ -48,14 +51,15 @@ module _ (first second dst : List ℕ) where
 
     both-valid : (valid (inBook first) ≡ true) × (valid (inBook second) ≡ true)
     both-valid =
-        let a = and-true (isBook first) (isBook second) (not-false (isBook first
-        && isBook second) (clears _ (inl refl))) in
-        (valid-in first (a .0), valid-in second (a .1))
+        let others = not (isBook second) || false in
+        let a = or-false (not (isBook first)) others (clears _ (inr (inl refl))) in
+        let b = or-false (not (isBook second)) false (a .1) in
+        (valid-in first (not-false (isBook first) (a .0)), valid-in second (not-false (isBook second) (b .0)))
 
     chosen-valid : valid (mergedEntries first second) ≡ true
     chosen-valid =
         joined-valid (inBook first) (inBook second) (both-valid .0) (both-valid .1)
-        (ltb-false maxEntries (length (mergedEntries first second)) (clears _ (inr (inl refl))))
+        (ltb-false maxEntries (length (mergedEntries first second)) (clears _ (inr (inr (inl refl)))))
 
     answer-is : mergeBooks first second dst .answer ≡ given (reported (mergedEntries first second))
     unfolding mergeBooks writingImage writing

@@ -2,14 +2,15 @@
 use Prim.Native.Nat.{ℕ}
 use mathlib.Core.Path.{_≡_}
 use mathlib.Core.Logic.{_⊎_}
-use mathlib.Core.Bool.{_&&_, false, not, true}
-use mathlib.Core.List.{List, [], _∷_}
+use mathlib.Core.Bool.{false, true}
+use mathlib.Core.List.{List, [], _++_, _∷_}
 use lib.Dec.{ltb}
 use lib.ListN.{length}
 use Rattle.octets.specs.Lists.{_∈_}
 use Rattle.entries.specs.Entries.{Entry, holds, maxEntries, rising, with}
 use Rattle.answer.specs.Answers.{Check, Outcome, WrittenCounts, _when_, writingImage}
-use Rattle.book.specs.Book.{bookImage, inBook, isBook}
+use Rattle.book.specs.Book.{bookImage, inBook}
+use Rattle.book.specs.Checks.{bookChecks}
 
 -- the second's entries with each of the first's set in it, so that the first's score counts
 abbrev pub joined : List Entry → List Entry → List Entry
@@ -30,10 +31,10 @@ pub record Joins (first second es : List Entry) : Type 0 where
 abbrev pub mergedEntries : List ℕ → List ℕ → List Entry
 mergedEntries first second = joined (inBook first) (inBook second)
 
--- 1 covers both inputs; more than 1,024 names gives 5
+-- 10 covers both inputs, and then 1; more than 1,024 names gives 5
 abbrev pub mergeRefusals : List ℕ → List ℕ → List Check
 mergeRefusals first second =
-    1 when not (isBook first && isBook second) ∷ 5 when ltb maxEntries (length (mergedEntries first second)) ∷ []
+    bookChecks (first ∷ second ∷ []) ++ (5 when ltb maxEntries (length (mergedEntries first second)) ∷ [])
 
 -- Merge reads two books and writes the book of the entries chosen at the front of a third buffer.
 unfoldable pub mergeBooks : List ℕ → List ℕ → List ℕ → Outcome WrittenCounts

@@ -11,6 +11,8 @@ use native.Mathlib.Omega.{arith}
 use borrow.Author.Tests.{le-ltb, leb-false, leb-true, lt-ltb, ltb-false, ltb-true}
 use Rattle.octets.proofs.Tests.{by-test}
 use Rattle.entries.specs.Entries.{Entry, entry}
+use Rattle.book.specs.declared.Layout.{Layout}
+use Rattle.book.specs.Book.{today}
 use Rattle.book_laws.specs.Cursor.{cursorOf}
 use Rattle.book_append.specs.Append.{AppendDone, Fits, cursorBehind}
 use Rattle.book_append.proofs.Left.{Left, all-passed, next-fits, rest-left}
@@ -35,7 +37,7 @@ pub record PassLeft
   pub ofSecond : Loaded second y b
   pub order : w .index ≤ count
   pub total : length (mergedEntries first second) ≡ w .index + length (rest first second x y)
-  pub passing : Left store count (cursorBehind at 0 []) (take count (mergedEntries first second)) d₀ w
+  pub passing : Left today store count (cursorBehind at 0 []) (take count (mergedEntries first second)) d₀ w
       (take (count - w .index) (rest first second x y)) d
 
 -- what the loop's test tells
@@ -87,7 +89,7 @@ module _
                   enough = f .enough;
                 });
             whole = λ {r} {new} q.
-                let s : AppendDone store count (cursorOf at 0 prev 0) (take count (mergedEntries first second)) d r
+                let s : AppendDone today store count (cursorOf at 0 prev 0) (take count (mergedEntries first second)) d r
                 new =
                 rw (z, l .1, k .1) at q
                 in
@@ -177,13 +179,14 @@ module _
         split = let z : count - w .index ≡ suc (count - (w .index + 1)) = omega (arith, left-below g) in
             rw (z, t .some some)
 
-        pub left-fits : Fits store count w this d
-        left-fits = next-fits (v .passing) this behind split
+        pub left-fits : {l : Layout} → l ≡ today → Fits l store count w this d
+        left-fits e = rw e (next-fits (v .passing) this behind split)
 
         pub left-turn :
-            {u : Cursor} {new : List ℕ} → AppendDone store count w this d u new
+            {l : Layout} {u : Cursor} {new : List ℕ} → l ≡ today → AppendDone l store count w this d u new
             → PassLeft first second d₀ count at store (r .first) a₁ (r .second) b₁ new u
-        left-turn {u} {new} p =
+        left-turn {u = u} {new} e put =
+            let p : AppendDone today store count w this d u new = rw e at put in
             let i = p .went .index in
             let z : count - u .index ≡ count - (w .index + 1) = omega arith in
             let l : length (rest first second x y) ≡ suc (length (rest first second (r .first) (r .second))) = rw

@@ -13,7 +13,7 @@ use Rattle.octets.specs.Octets.{overwrite}
 use Rattle.octets.proofs.Lists.{all-take}
 use Rattle.entries.specs.Entries.{isEntry, maxEntries, rising, valid}
 use Rattle.entries.proofs.Valid.{rising-take, valid-all, valid-intro, valid-of}
-use Rattle.book.specs.Book.{bookImage, inBook, layout21, recordsAt}
+use Rattle.book.specs.Book.{bookImage, inBook, recordsAt, today}
 use Rattle.book_laws.proofs.Held.{held-stored, held-valid}
 use Rattle.book.proofs.Size.{book-length}
 use Rattle.book_write.specs.Writing.{finished}
@@ -47,8 +47,8 @@ module _ {one : List ℕ} {n : ℕ} {other : List ℕ} {m : ℕ} (b : Both one n
   measure-room {count = count} h =
       let es = take count (mergedEntries one other) in
       let v = valid-of es (front-valid h) in
-      let l = book-length es (front-valid h) in
-      let w = whole-end es (front-valid h) in
+      let l = book-length today es (front-valid h) in
+      let w = whole-end today es (front-valid h) in
       let k = length-take count (mergedEntries one other) in
       record {
         both = b;
@@ -71,14 +71,14 @@ module _ {one : List ℕ} {n : ℕ} {other : List ℕ} {m : ℕ} (b : Both one n
     every : take count (mergedEntries one other) ≡ mergedEntries one other
     every = rw many (take-length (mergedEntries one other))
 
-    module _ {start : ℕ} (s : start ≡ recordsAt layout21 count) where
+    module _ {start : ℕ} (s : start ≡ recordsAt today count) where
       pub whole-length : start + size ≡ length (bookImage (mergedEntries one other))
-      whole-length = rw (s, long, many) (whole-end (mergedEntries one other) ok)
+      whole-length = rw (s, long, many) (whole-end today (mergedEntries one other) ok)
 
       pub whole-small : start + size ≤ 55559
-      whole-small = omega (arith, whole-length, book-length (mergedEntries one other) ok)
+      whole-small = omega (arith, whole-length, book-length today (mergedEntries one other) ok)
 
-      at-first : cursorBehind start 0 [] ≡ first (mergedEntries one other)
+      at-first : cursorBehind start 0 [] ≡ first today (mergedEntries one other)
       at-first = rw (s, many)
 
       -- a pass that writes them, and what finishing it gives
@@ -87,20 +87,20 @@ module _ {one : List ℕ} {n : ℕ} {other : List ℕ} {m : ℕ} (b : Both one n
         write-room =
             record {
               both = b;
-              fits = rw (every, at-first) (whole-fits (mergedEntries one other) ok d many
+              fits = rw (every, at-first) (whole-fits today (mergedEntries one other) ok d many
                   (λ t. omega (arith, whole-length)));
             }
 
         pub whole-image :
             {new : List ℕ} {r : MergePass} → PassDone one other d new count start true r
-            → finished (start + size) count new ≡ overwrite d (bookImage (mergedEntries one other))
+            → finished today (start + size) count new ≡ overwrite d (bookImage (mergedEntries one other))
         whole-image {new} q =
             let es = mergedEntries one other in
-            let e : new ≡ afterPass true (length es) (first es) es d = rw (every, s, many) at (q .bytes) in
-            let half : Partial es d (first es) d =
-            start-partial es d refl (omega (arith, whole-length)) (record { at = refl; index = refl; len = refl })
+            let e : new ≡ afterPass today true (length es) (first today es) es d = rw (every, s, many) at (q .bytes) in
+            let half : Partial today es d (first today es) d =
+            start-partial today es d refl (omega (arith, whole-length)) (record { at = refl; index = refl; len = refl })
             in
-            rw (whole-length, many) (rest-whole es ok half e)
+            rw (whole-length, many) (rest-whole today es ok half e)
 
   -- a measuring pass with none left has passed all
   module _ {r : MergePass} (c : PassTold one other maxEntries 0 r) (t : r .more ≡ false) where

@@ -2,11 +2,11 @@
 // write them.
 use answer::Written;
 use book_append::EntryTarget;
-use frame_code::Image;
+use book_write::Slot;
 use limits::LONGEST_NAME;
 use limits::MAX_ENTRIES;
 ghost use mathlib.Core.Path.{_≡_};
-ghost use Prim.Native.Nat.{_≤_};
+ghost use Prim.Native.Nat.{_≤_, max};
 ghost use lib.ListN.{length};
 ghost use Rattle.entries.specs.Entries.{maxEntries};
 ghost use Rattle.answer.specs.Reports.{Answered};
@@ -49,6 +49,7 @@ fn pass(
     ensures { λ r. ⌜ PassDone (now (first .entry)) (now (second .entry)) (now (dst .entry)) (now (dst .exit)) count at
         store r ⌝ }
 {
+    let l = book_layout::today();
     let mut a = [0u8; LONGEST_NAME];
     let mut b = [0u8; LONGEST_NAME];
     let mut name = [0u8; LONGEST_NAME];
@@ -62,10 +63,14 @@ fn pass(
         let t = merge_read::next_entry(first, x, &mut a, second, y, &mut b, &mut name);
         let len = t.len;
         let w = &name[..len];
-        let target = EntryTarget {
+        let slot = Slot {
+            layout: l,
             n: count,
             index: index,
             at: to_at,
+        };
+        let target = EntryTarget {
+            slot: slot,
             store: store,
         };
         to_at = book_append::pass_next(dst, target, &mut prev, prev_len, w, t.score);
@@ -108,17 +113,25 @@ fn write_chosen(
     ensures { λ r. ⌜ Answered (wholeBook (mergedEntries (now (first .entry)) (now (second .entry))) (now (dst .entry)))
         r (now (dst .exit)) ⌝ }
 {
-    let start = book_layout::records_at(count);
+    let l = book_layout::today();
+    let start = book_layout::records_at(l, count);
     let total = start + size;
     if dst.len() < total {
         return Written::Refused(7);
     }
     pass(first, n, second, m, dst, count, start, true);
-    book_write::finish(dst, count, total);
+    book_write::finish(dst, l, count, total);
     Written::Wrote {
         entries: count,
         bytes: total,
     }
+}
+
+// The greater of two refusals, 0 where there is none: 10 comes before 1, for either book.
+fn greater(a: u8, b: u8) -> u8
+    ensures { λ r. ⌜ r ≡ max a b ⌝ }
+{
+    if a < b { b } else { a }
 }
 
 // Merges two books: every name of either stands in the result once, with the first book's score where both have it.
@@ -126,15 +139,15 @@ pub fn merge(first: &[u8], second: &[u8], dst: &mut [u8]) -> Written
     ensures { λ r. ⌜ Answered (mergeBooks (now (first .entry)) (now (second .entry)) (now (dst .entry))) r
         (now (dst .exit)) ⌝ }
 {
-    let Image::Entries(n) = book_check::check(first) else {
-        return Written::Refused(1);
-    };
-    let Image::Entries(m) = book_check::check(second) else {
-        return Written::Refused(1);
-    };
-    let r = measure(first, n, second, m);
+    let a = book_check::check(first, &[]);
+    let b = book_check::check(second, &[]);
+    let refusal = greater(a.refusal, b.refusal);
+    if refusal != 0 {
+        return Written::Refused(refusal);
+    }
+    let r = measure(first, a.n, second, b.n);
     if r.more {
         return Written::Refused(5);
     }
-    write_chosen(first, n, second, m, r.entries, r.end, dst)
+    write_chosen(first, a.n, second, b.n, r.entries, r.end, dst)
 }

@@ -7,7 +7,7 @@ use lib.Seq.{getD-drop}
 use native.Mathlib.Omega.{arith}
 use Rattle.entries.specs.Entries.{Entry, at, noEntry}
 use Rattle.entries.specs.Names.{longestName}
-use Rattle.book.specs.Book.{inBook, layout21, recordsAt}
+use Rattle.book.specs.Book.{inBook, recordsAt, today}
 use Rattle.book_laws.specs.Held.{Held}
 use Rattle.book_read.specs.Record.{Inside, Read}
 use Rattle.book_read.proofs.Reading.{Given, Reading, read-inside, read-start, read-turn}
@@ -26,7 +26,7 @@ pub at-past : (es : List Entry) (i : ℕ) → length es ≤ i → at es i ≡ no
 at-past es i h = sym (at-left es i) ∙ rw (drop-of-length-le es h)
 
 module _ {book : List ℕ} {n : ℕ} (h : Held book n) where
-  pub stands-first : {k : ℕ} (name : List ℕ) → k ≡ recordsAt layout21 n → length name ≡ longestName
+  pub stands-first : {k : ℕ} (name : List ℕ) → k ≡ recordsAt today n → length name ≡ longestName
       → RecordStands book k 0 name
   stands-first name e long = let r = read-start name h e long in record { len = r .len; ahead = r .ahead }
 
@@ -46,10 +46,10 @@ module _ {book : List ℕ} {n : ℕ} (h : Held book n) where
       reading : Reading book k i name
       reading = record { len = s .len; long = long; ahead = s .ahead }
 
-      pub loaded-inside : Inside (drop k book) i (length name)
+      pub loaded-inside : Inside (today .heads) (drop k book) i (length name)
       loaded-inside = read-inside h reading low
 
-      module _ {new : List ℕ} {p : Parts} (r : Read (drop k book) i name new p) where
+      module _ {new : List ℕ} {p : Parts} (r : Read (today .heads) (drop k book) i name new p) where
         pub loaded-given : Given book k i new p
         loaded-given = read-turn h reading low r
 

@@ -1,4 +1,5 @@
 // The entries of two books read side by side, in name order. Of a name that both have, the entry is the first book's.
+use limits::BOOK_HEADS;
 ghost use mathlib.Core.Path.{_≡_};
 ghost use mathlib.Core.Bool.{true};
 ghost use Prim.Native.Nat.{_+_, _<_, _≤_};
@@ -45,7 +46,7 @@ fn next_name(book: &[u8], n: usize, index: usize, at: usize, name: &mut [u8]) ->
             len: 0,
         };
     }
-    let p = book_read::read_name(book, at, index, name);
+    let p = book_read::read_name(book, at, BOOK_HEADS, index, name);
     let end = at + (p.start + p.own);
     let len = p.kept + p.own;
     NextInBook {
@@ -61,7 +62,8 @@ pub fn first_name(book: &[u8], n: usize, name: &mut [u8]) -> NextInBook
     requires { ⌜ Held (now book) n × (length (now name) ≡ longestName) ⌝ }
     ensures { λ r. ⌜ Loaded (now (book .entry)) r (now (name .exit)) × (r .index ≡ 0) ⌝ }
 {
-    next_name(book, n, 0, book_layout::records_at(n), name)
+    let start = book_layout::records_at(book_layout::today(), n);
+    next_name(book, n, 0, start, name)
 }
 
 // The entry behind one that was due; another stays the next.

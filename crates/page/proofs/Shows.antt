@@ -20,6 +20,7 @@ use Rattle.entries.specs.Names.{isName, isScore}
 use Rattle.entries.proofs.TopK.{in-rank}
 use Rattle.entries.proofs.Valid.{name-some, valid-of}
 use Rattle.answer.specs.Answers.{writing, writingImage}
+use Rattle.book.proofs.Checks.{read-not-old}
 use Rattle.page.specs.Page.{ended, entryLines, firstLine, furtherLine, heading, nameColumns, padded, pageColumns}
 use Rattle.page.specs.Page.{pageImage, pageLines, parts, partsTo, rightAligned, scoreColumns, spaces, writePage}
 use Rattle.page.specs.Shows.{EntryShown, PageShows, behindSpaces, numberIn}
@@ -151,5 +152,5 @@ page-shows es ok =
       forty = page-full es;
       image = image-is es;
       bytes = ap length (image-is es) ∙ full-bytes (pageLines es) (page-full es);
-      laidOut = λ book dst r h. rw (r, le-ltb (length dst) (length (pageImage es)) h);
+      laidOut = λ book dst r h. rw (read-not-old book (rw r), r, le-ltb (length dst) (length (pageImage es)) h);
     }

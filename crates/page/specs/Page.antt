@@ -6,8 +6,8 @@ use Rattle.octets.specs.Decimal.{decimal}
 use Rattle.octets.specs.Lists.{concatMap}
 use Rattle.octets.specs.Text.{lineFeed, text}
 use Rattle.entries.specs.Entries.{Entry, byRank}
-use Rattle.answer.specs.Answers.{Outcome, WrittenCounts, converting}
-use Rattle.book.specs.Book.{readBook}
+use Rattle.answer.specs.Answers.{Outcome, WrittenCounts}
+use Rattle.book.specs.Checks.{fromBook}
 
 -- the columns of a line, each one byte; those of a name, and those of a score
 abbrev pub pageColumns : ℕ
@@ -76,4 +76,4 @@ pageImage es = concatMap ended (pageLines es)
 
 -- write the page of a book
 unfoldable pub writePage : List ℕ → List ℕ → Outcome WrittenCounts
-writePage book dst = converting readBook pageImage book dst
+writePage book dst = fromBook pageImage book dst

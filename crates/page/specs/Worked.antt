@@ -12,9 +12,10 @@ use Rattle.entries.specs.Entries.{entry, valid}
 use Rattle.entries.specs.Names.{allowedBytes, isName, isPrefix, isScore}
 use Rattle.frame.specs.Frame.{countOf, framed, readAs}
 use Rattle.answer.specs.Answers.{writing, writingImage}
-use Rattle.book.specs.Book.{bookImage, entriesIn, imageIn, offset, offsets, peak, peaks, readBook, readIn, recordsAt}
+use Rattle.book.specs.Book.{bookImage, entriesIn, imageIn, offset, offsets, peak, peaks, readIn, recordsAt}
 use Rattle.book.specs.Book.{scores}
 use Rattle.book.specs.Records.{recordLength, recordName, recordOf}
+use Rattle.book.specs.Old.{P3old}
 use Rattle.book.specs.Shown.{E, P1, P3, changed, kΩ, shownWritten, signed, signedBook, spare}
 use Rattle.page.specs.Page.{entryLines, firstLine, furtherLine, heading, pageImage, pageLines, parts, writePage}
 use Rattle.page.specs.Shows.{numberIn}
@@ -112,11 +113,16 @@ writes =
     ∷ (shownWritten (writePage (bookImage (entry (letters 29) 7 ∷ [])) (spare 122)) gives (7 ∷ 0 ∷ 0 ∷ spare 122))
     -- µ and Ω
     ∷ (shownWritten (writePage signedBook (spare 205)) gives (0 ∷ 4 ∷ 205 ∷ pageImage signed))
-    -- no book, which comes first; a sheet's version, an empty buffer, a book that is cut off
-    ∷ (shownWritten (writePage (changed P3 26 (1 ∷ [])) (spare 205)) gives (1 ∷ 0 ∷ 0 ∷ spare 205))
+    -- no book, before 7: a wrong peak, a sheet's version, a book that is cut off, an empty buffer
+    ∷ (shownWritten (writePage (changed P3 24 (1 ∷ [])) (spare 205)) gives (1 ∷ 0 ∷ 0 ∷ spare 205))
     ∷ (shownWritten (writePage (changed P3 0 (0x11 ∷ [])) (spare 205)) gives (1 ∷ 0 ∷ 0 ∷ spare 205))
-    ∷ (shownWritten (writePage (take 43 P3) []) gives (1 ∷ 0 ∷ 0 ∷ []))
+    ∷ (shownWritten (writePage (take 42 P3) []) gives (1 ∷ 0 ∷ 0 ∷ []))
     ∷ (shownWritten (writePage [] []) gives (1 ∷ 0 ∷ 0 ∷ []))
+    -- an old book, before 1 and 7: whole, with a wrong peak, cut off, its byte 0 alone
+    ∷ (shownWritten (writePage P3old (spare 205)) gives (10 ∷ 0 ∷ 0 ∷ spare 205))
+    ∷ (shownWritten (writePage (changed P3old 26 (1 ∷ [])) (spare 205)) gives (10 ∷ 0 ∷ 0 ∷ spare 205))
+    ∷ (shownWritten (writePage (take 43 P3old) []) gives (10 ∷ 0 ∷ 0 ∷ []))
+    ∷ (shownWritten (writePage (0x21 ∷ []) (spare 40)) gives (10 ∷ 0 ∷ 0 ∷ spare 40))
     ∷ []
 
 abbrev table : List Row
@@ -124,6 +130,6 @@ table = pages ++ writes
 
 worked : failing 0 table ≡ []
 unfolding be fromBe decimal allowedBytes isPrefix isName isScore valid recordOf recordName recordLength framed countOf
-    readAs scores peak peaks recordsAt offset offsets imageIn entriesIn readIn bookImage readBook writing writingImage
-    heading firstLine furtherLine parts entryLines pageLines pageImage writePage
+    readAs scores peak peaks recordsAt offset offsets imageIn entriesIn readIn writing writingImage heading firstLine
+    furtherLine parts entryLines pageLines pageImage writePage
 worked = refl

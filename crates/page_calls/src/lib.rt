@@ -1,6 +1,5 @@
 // A page for the wall: a book laid out as lines.
 use answer::Written;
-use frame_code::Image;
 use limits::LONGEST_NAME;
 use limits::MAX_ENTRIES;
 use limits::SMALL_TABLE;
@@ -62,9 +61,11 @@ fn lay_out_many(book: &[u8], n: usize, dst: &mut [u8]) -> Written
 pub fn page(book: &[u8], dst: &mut [u8]) -> Written
     ensures { λ r. ⌜ Answered (writePage (now (book .entry)) (now (dst .entry))) r (now (dst .exit)) ⌝ }
 {
-    let Image::Entries(n) = book_check::check(book) else {
-        return Written::Refused(1);
-    };
+    let c = book_check::check(book, &[]);
+    if c.refusal != 0 {
+        return Written::Refused(c.refusal);
+    }
+    let n = c.n;
     if n <= SMALL_TABLE {
         return lay_out_few(book, n, dst);
     }

@@ -21,6 +21,7 @@ use Rattle.frame.proofs.Frame.{entries-valid}
 use Rattle.answer.specs.Answers.{_when_, given}
 use Rattle.answer.proofs.Answers.{clear}
 use Rattle.book.specs.Book.{bookImage, inBook, isBook, readBook}
+use Rattle.book.proofs.Checks.{read-not-old}
 use Rattle.book.proofs.Reading.{book-exact}
 use Rattle.panel.specs.declared.Panel.{Panel}
 use Rattle.panel.specs.Panel.{Typing, acts, appends, heldIn, highlighted, isHeld, isTyped, keyBytes, keyChecks}
@@ -52,10 +53,10 @@ accepted book p key rows h =
     let passed = clear (keyChecks book p key) (new .rows) rows h in
     let ok = isTyped p && isHeld p in
     let full = appends key && ltb longestName (p .len + length (keyBytes key)) in
-    let both = and-true (isTyped p) (isHeld p) (not-false ok (passed (2 when not ok) (inr (inl refl)))) in
+    let both = and-true (isTyped p) (isHeld p) (not-false ok (passed (2 when not ok) (inr (inr (inl refl))))) in
     record {
       typed = both .0;
-      room = passed (9 when full) (inr (inr (inr (inl refl))));
+      room = passed (9 when full) (inr (inr (inr (inr (inl refl)))));
       leaves = rw h;
     }
 
@@ -242,15 +243,15 @@ module _ (book : List ℕ) (p : Panel) (b : isBook book ≡ true) (ok : (isTyped
   -- key 00 and key 0D are accepted
   recounted : press book p 0x00 .panel ≡ panelOf (inBook book) (typing (typedIn p) its)
   unfolding press
-  recounted = rw (b, ok) (ap (panelOf (inBook book)) recounts)
+  recounted = rw (read-not-old book b, b, ok) (ap (panelOf (inBook book)) recounts)
 
   answered : press book p 0x00 .answer ≡ given (length now)
   unfolding press panelOf
-  answered = rw (b, ok, recounts)
+  answered = rw (read-not-old book b, b, ok, recounts)
 
   taken : press book p 0x0D .panel ≡ panelOf (inBook book) (typingAfter (inBook book) p 0x0D)
   unfolding press
-  taken = rw (b, ok)
+  taken = rw (read-not-old book b, b, ok)
 
   still-on : StillOn now p (press book p 0x00) (press book p 0x0D)
   unfolding panelOf

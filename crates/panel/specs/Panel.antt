@@ -11,7 +11,8 @@ use Rattle.entries.specs.Completion.{completion}
 use Rattle.entries.specs.Entries.{Entry, at, holds, position}
 use Rattle.entries.specs.Names.{isName, isPlain, isPrefix, lastSign, longestName, micro, ohm}
 use Rattle.answer.specs.Answers.{Answer, Check, _when_, onAnswer, unless}
-use Rattle.book.specs.Book.{inBook, isBook}
+use Rattle.book.specs.Book.{inBook}
+use Rattle.book.specs.Checks.{bookChecks}
 use Rattle.panel.specs.declared.Panel.{Panel}
 use Rattle.answer.specs.declared.Pressed.{Pressed}
 use Rattle.answer.specs.Reports.{pressedOf}
@@ -148,11 +149,11 @@ typingAfter es p key = lowered es (acts es key (onHeld es (heldIn p) (typingIn p
 -- what a key is refused for: at last, that it appends a sign of more bytes than are left of 48
 abbrev pub keyChecks : List ℕ → Panel → ℕ → List Check
 keyChecks book p key =
-    1 when not (isBook book)
-    ∷ 2 when not (isTyped p && isHeld p)
+    bookChecks (book ∷ [])
+    ++ (2 when not (isTyped p && isHeld p)
     ∷ 8 when not (isListed key)
     ∷ 9 when (appends key && ltb longestName (p .len + length (keyBytes key)))
-    ∷ []
+    ∷ [])
 
 -- a key: its answer, and the panel that it leaves
 unfoldable pub press : List ℕ → Panel → ℕ → AfterKey

@@ -10,9 +10,10 @@ use Rattle.entries.specs.Completion.{completion}
 use Rattle.entries.specs.Entries.{entry, valid, with, without}
 use Rattle.entries.specs.Names.{allowedBytes, isName, isPrefix, isScore, micro, ohm}
 use Rattle.book.specs.Records.{recordLength, recordName, recordOf}
-use Rattle.book.specs.Book.{bookImage, entriesIn, imageIn, offset, offsets, peak, peaks, readBook, readIn, recordsAt}
+use Rattle.book.specs.Book.{bookImage, entriesIn, imageIn, offset, offsets, peak, peaks, readIn, recordsAt}
 use Rattle.book.specs.Book.{scores}
 use Rattle.frame.specs.Frame.{countOf, framed, readAs}
+use Rattle.book.specs.Old.{P3old}
 use Rattle.book.specs.Shown.{E, P1, P3, changed, kΩ, letters, shownLength, spare}
 use Rattle.panel.specs.declared.Panel.{Panel}
 use Rattle.panel.specs.Panel.{acts, lowered, onHeld, panelOf, press}
@@ -195,10 +196,17 @@ refusing =
     ∷ (key P3 (holding (text "r") 1 (text "\u{1f}")) 0x7F gives refuses 2 (holding (text "r") 1 (text "\u{1f}")))
     ∷ (key P3 (holding (replicate 48 0x78) 1 (0x00 ∷ [])) 0x78 gives refuses 2
     (holding (replicate 48 0x78) 1 (0x00 ∷ [])))
-    -- 1: no book, before all
-    ∷ (key (take 43 P3) (before (text "r") 1) 0x00 gives refuses 1 (before (text "r") 1))
-    ∷ (key (changed P3 26 (1 ∷ [])) (tooLong 49) 0x7F gives refuses 1 (tooLong 49))
-    ∷ (key (take 43 P3) (holdsTooLong 49) 0x00 gives refuses 1 (holdsTooLong 49))
+    -- 1: no book, before 2, 8 and 9: cut off, a wrong peak, an empty buffer
+    ∷ (key (take 42 P3) (before (text "r") 1) 0x00 gives refuses 1 (before (text "r") 1))
+    ∷ (key (changed P3 24 (1 ∷ [])) (tooLong 49) 0x7F gives refuses 1 (tooLong 49))
+    ∷ (key (take 42 P3) (holdsTooLong 49) 0x00 gives refuses 1 (holdsTooLong 49))
+    ∷ (key [] (before (replicate 48 0x78) 7) 0x78 gives refuses 1 (before (replicate 48 0x78) 7))
+    -- 10: an old book, before all: whole, with a wrong peak, cut off, its byte 0 alone
+    ∷ (key P3old (before (text "r") 1) 0x00 gives refuses 10 (before (text "r") 1))
+    ∷ (key (changed P3old 26 (1 ∷ [])) (tooLong 49) 0x7F gives refuses 10 (tooLong 49))
+    ∷ (key (take 43 P3old) (holdsTooLong 49) 0x00 gives refuses 10 (holdsTooLong 49))
+    ∷ (key (0x21 ∷ []) (before (text "r") 7) 0x7F gives refuses 10 (before (text "r") 7))
+    ∷ (key (0x21 ∷ []) (before (replicate 48 0x78) 7) 0x78 gives refuses 10 (before (replicate 48 0x78) 7))
     ∷ []
 
 -- texts with µ and Ω, in UTF-8 (document 02, request c)
@@ -286,6 +294,6 @@ table = moving ++ typingKeys ++ holdingKeys ++ refusing ++ signKeys ++ refusingS
 
 worked : failing 0 table ≡ []
 unfolding be fromBe allowedBytes isPrefix isName isScore valid completion recordOf recordName recordLength framed
-    countOf readAs scores peak peaks recordsAt offset offsets imageIn entriesIn readIn bookImage readBook lowered
-    onHeld acts panelOf press
+    countOf readAs scores peak peaks recordsAt offset offsets imageIn entriesIn readIn lowered onHeld acts panelOf
+    press
 worked = refl

@@ -1,15 +1,18 @@
 -- A key that is accepted, and one that is refused.
-use Prim.Native.Nat.{_≤_, ℕ}
+use Prim.Native.Nat.{_≤_, min, ℕ}
 use mathlib.Core.Path.{_∙_, _≡_, ap, sym}
 use mathlib.Core.Bool.{false, true}
 use mathlib.Core.List.{List}
-use lib.Dec.{eqb, leb}
+use lib.Dec.{eqb, leb, ltb}
+use lib.ListN.{length, take}
+use lib.Seq.{take-all}
 use native.Mathlib.Omega.{arith}
-use borrow.Author.Tests.{eqb-true, leb-true}
+use borrow.Author.Tests.{eqb-true, leb-true, ltb-false, ltb-true}
 use Rattle.octets.proofs.Tests.{and-true, by-test}
 use Rattle.entries.specs.Names.{isName, isPrefix, longestName}
 use Rattle.answer.specs.Answers.{refused}
 use Rattle.book.specs.Book.{inBook, isBook}
+use Rattle.book.proofs.Checks.{read-not-old}
 use Rattle.panel.specs.declared.Panel.{Panel}
 use Rattle.panel.specs.Panel.{PressedAs, heldIn, isHeld, isListed, isTyped, press, typedIn}
 use Rattle.panel.proofs.Refused.{press-refused}
@@ -31,6 +34,16 @@ held-short p h =
     (λ t.
     leb-true (p .«held_len») longestName
     (and-true (leb (p .«held_len») longestName) (isName (heldIn p)) (rw t at h) .0))
+
+-- the text is sought before its length is checked: at most 48 bytes of it, and so all that there is
+pub text-front : (len : ℕ) (text : List ℕ) → length text ≡ longestName → {k : ℕ} → k ≡ min len longestName
+    → take k text ≡ take len text
+text-front len text l {k} e =
+    by-test (ltb len longestName)
+    (λ t. let a = ltb-true len longestName t in let z : k ≡ len = omega arith in rw z)
+    (λ t.
+    let a = ltb-false len longestName t in
+    take-all k text (omega arith) ∙ sym (take-all len text (omega arith)))
 
 -- so a panel that is not refused is ready for a key
 pub ready : (p : Panel) (key : ℕ) → isTyped p ≡ true → isHeld p ≡ true → isFull (p .len) key ≡ false → Ready p key
@@ -54,4 +67,5 @@ pub accepted :
     → PressedAs (press book p key) (pressed.Rows (new .rows)) new
 unfolding press
 accepted book p key b t h l f e =
-    record { answer = rw (b, t, h, l, f, e); leaves = rw (b, t, h, l, f) e }
+    let o = read-not-old book b in
+    record { answer = rw (o, b, t, h, l, f, e); leaves = rw (o, b, t, h, l, f) e }

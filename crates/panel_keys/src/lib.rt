@@ -1,10 +1,13 @@
 // The panel's keys, over a panel by value.
 use answer::Pressed;
-use frame_code::Image;
+use book_seek::Seek;
+use limits::LONGEST_NAME;
 ghost use mathlib.Core.Path.{_≡_};
-ghost use Rattle.book.specs.Book.{inBook};
+ghost use Rattle.entries.specs.Entries.{names};
+ghost use Rattle.book.specs.Book.{inBook, recordsAt, today};
 ghost use Rattle.book_laws.specs.Held.{Held};
-ghost use Rattle.panel.specs.Panel.{PressedAs, panelOf, press, typingAfter};
+ghost use Rattle.book_seek.specs.Seek.{Seeking};
+ghost use Rattle.panel.specs.Panel.{PressedAs, panelOf, press, typedIn, typingAfter};
 ghost use Rattle.panel_keys.specs.Keys.{Ready, refusal};
 
 // The panel and the answer after a key.
@@ -14,14 +17,15 @@ pub struct KeyDone {
 }
 
 // The panel after a key. What is offered before it is looked at only where the key depends on it.
-fn act(book: &[u8], n: usize, p: panel::Panel, key: u8) -> panel::Panel
-    requires { ⌜ Held (now book) n × Ready p key ⌝ }
+// Where the text before it stands in the book was found before.
+fn act(book: &[u8], n: usize, p: panel::Panel, seek: Seek, key: u8) -> panel::Panel
+    requires { ⌜ Held (now book) n × Ready p key × Seeking (typedIn p) (recordsAt today n) (names (inBook (now book))) seek ⌝ }
     ensures { λ r. ⌜ r ≡ panelOf (inBook (now (book .entry))) (typingAfter (inBook (now (book .entry))) p key) ⌝ }
 {
     if panel_typing::changes_text(p.len, key) {
         return panel_show::show_first(book, n, panel_typing::change_text(p, key));
     }
-    let rows = panel_rows::rows_of(book, n, p);
+    let rows = panel_rows::rows_of(book, n, seek);
     let lowered = panel_typing::lower(p.highlight, rows.count);
     let row = panel_rows::held_row(book, n, p, rows, lowered);
     if panel_typing::takes(key, rows.count) {
@@ -42,13 +46,19 @@ fn refuse(p: panel::Panel, number: u8) -> KeyDone
     }
 }
 
-// A key, over a panel by value: the checks in the table's order, then what the key does.
+// A key, over a panel by value: the checks in the table's order, then what the key does. The text is sought in the book
+// before it is checked itself, so no more of it than there is.
 pub fn step_in(book: &[u8], p: panel::Panel, key: u8) -> KeyDone
     ensures { λ r. ⌜ PressedAs (press (now (book .entry)) p key) (r .answer) (r .panel) ⌝ }
 {
-    let Image::Entries(n) = book_check::check(book) else {
-        return refuse(p, 1);
-    };
+    let text = p.text;
+    let len = octets_code::least(p.len, LONGEST_NAME);
+    let c = book_check::check(book, &text[..len]);
+    let refusal = c.refusal;
+    let seek = c.seek;
+    if refusal != 0 {
+        return refuse(p, refusal);
+    }
     if !panel_typing::is_typed(p) {
         return refuse(p, 2);
     }
@@ -61,7 +71,7 @@ pub fn step_in(book: &[u8], p: panel::Panel, key: u8) -> KeyDone
     if panel_typing::is_full(p.len, key) {
         return refuse(p, 9);
     }
-    let after = act(book, n, p, key);
+    let after = act(book, c.n, p, seek, key);
     KeyDone {
         panel: after,
         answer: Pressed::Rows(after.rows),

@@ -2,24 +2,29 @@
 use Prim.Native.Nat.{_+_, _-_, _<_, _≤_, min, suc, zero, ℕ}
 use mathlib.Core.Path.{_∙_, _≡_, ap, refl, sym}
 use mathlib.Core.Logic.{inl, inr}
-use mathlib.Core.Bool.{false, false≢true, true}
+use mathlib.Core.Bool.{_&&_, false, false≢true, true}
 use mathlib.Core.List.{List, [], _∷_, map}
 use lib.Dec.{eqb, ltb}
 use lib.ListN.{drop, drop-of-length-le, getD, length, length-map, length-take, take}
 use lib.Seq.{getD-take, length-take-le}
 use native.Mathlib.Omega.{arith}
-use borrow.Author.Tests.{eq-eqb, eqb-false, eqb-true, le-ltb, lt-ltb, ne-eqb}
+use borrow.Author.Tests.{eq-eqb, eqb-false, eqb-true, le-ltb, lt-ltb, ltb-true, ne-eqb}
 use Rattle.octets.specs.Lists.{_∈_}
+use Rattle.octets.specs.Octets.{same}
 use Rattle.octets.proofs.Lists.{get-in, sort-length}
 use Rattle.octets.proofs.Order.{same-eq}
-use Rattle.octets.proofs.Tests.{by-test, suc-ltb}
+use Rattle.octets.proofs.Tests.{and-true, by-test, suc-ltb}
 use Rattle.octets_code.proofs.Loops.{drop-next}
 use Rattle.entries.specs.Completion.{completion, matches, maxCount}
-use Rattle.entries.specs.Entries.{Entry, at, byRank, holds, named, noEntry, outranks, position, rising}
+use Rattle.entries.specs.Entries.{Entry, at, byRank, holds, named, names, noEntry, outranks, position}
+use Rattle.entries.specs.Entries.{rising}
 use Rattle.entries.proofs.BestList.{in-holds}
 use Rattle.entries.proofs.Valid.{no-entry}
 use Rattle.entries_laws.specs.Place.{place}
-use Rattle.entries_laws.proofs.Place.{named-at, place-matches}
+use Rattle.entries_laws.proofs.Place.{named-at, place-absent, place-held, place-matches}
+use Rattle.book_seek.specs.Seek.{Seeking}
+use Rattle.book_seek.specs.declared.Seek.{Seek}
+use Rattle.book_seek.proofs.Found.{seeking-place, seeking-same}
 use Rattle.completion.specs.declared.Range.{Range}
 use Rattle.completion.specs.Machine.{machine, openRange}
 use Rattle.completion.proofs.Machine.{machine-inside, machine-promise}
@@ -30,6 +35,23 @@ use Rattle.completion_book.proofs.Answering.{begun-some}
 use Rattle.panel.specs.Panel.{offeredFor, panelCount, rowWith}
 use Rattle.panel_rows.specs.declared.Row.{Row}
 use Rattle.panel_rows.specs.Rows.{OnRow, Rows, rowAt, rowOf}
+
+-- a name that was sought: whether it is held, and its position
+module _ {w : List ℕ} {start : ℕ} (es : List Entry) (r : rising es ≡ true) {s : Seek}
+    (g : Seeking w start (names es) s) where
+  pub sought-held : s .same ≡ true → (holds w es ≡ true) × (s .place ≡ position w es)
+  sought-held t =
+      let a = and-true (ltb (s .place) (length es)) (same (at es (s .place) .name) w) (sym (seeking-same es g) ∙ t) in
+      let e = seeking-place es g in
+      let l = ltb-true (s .place) (length es) (a .0) in
+      let q = place-held w es r (omega (arith, e)) (rw (← e) (same-eq (at es (s .place) .name) w (a .1))) in
+      (q .0, e ∙ sym (q .1))
+
+  pub sought-absent : s .same ≡ false → holds w es ≡ false
+  sought-absent t =
+      let e = seeking-place es g in
+      let a : (ltb (s .place) (length es) && same (at es (s .place) .name) w) ≡ false = sym (seeking-same es g) ∙ t in
+      place-absent w es r (λ l. rw (← e) (rw (lt-ltb (s .place) (length es) (omega (arith, e))) at a))
 
 -- what the machine offers are the rows
 module _ (es : List Entry) (w : List ℕ) (r : rising es ≡ true) (s : Progress)

@@ -6,7 +6,10 @@ use lib.Dec.{eqb}
 use lib.ListN.{getD, length}
 use Rattle.octets.specs.Lists.{_∈_, if_then_else_}
 use Rattle.entries.specs.Completion.{maxCount}
-use Rattle.entries.specs.Entries.{Entry, at}
+use Rattle.entries.specs.Entries.{Entry, at, names}
+use Rattle.book.specs.Book.{inBook, recordsAt, today}
+use Rattle.book_seek.specs.Seek.{Seeking}
+use Rattle.book_seek.specs.declared.Seek.{Seek}
 use Rattle.completion_turn.specs.declared.Progress.{Progress}
 use Rattle.completion_turn.specs.Turns.{soFar}
 use Rattle.completion_book.specs.Offers.{entriesAt}
@@ -19,6 +22,11 @@ pub record Rows (es : List Entry) (w : List ℕ) (s : Progress) : Type 0 where
   pub few : s .count ≤ maxCount
   pub offered : entriesAt es (soFar s) ≡ offeredFor es w
   pub count : s .count ≡ length (offeredFor es w)
+
+-- the same for every text that stands so among the names of a book
+abbrev pub RowsAll : List ℕ → ℕ → Seek → Progress → Type 0
+RowsAll book n seek s =
+    (w : List ℕ) → Seeking w (recordsAt today n) (names (inBook book)) seek → Rows (inBook book) w s
 
 -- one of the rows
 abbrev pub rowAt : Progress → ℕ → Row

@@ -1,15 +1,16 @@
 // The rows of a panel, as positions in the book: those offered for its text, the first alone, and the one that has the
 // held name.
+use book_seek::Seek;
 use limits::PANEL_COUNT;
-use lookup_find::Spot;
 ghost use mathlib.Core.Path.{_≡_};
 ghost use Prim.Native.Nat.{_<_, _≤_};
 ghost use Rattle.entries.specs.Completion.{maxCount};
 ghost use Rattle.entries.specs.Names.{longestName};
 ghost use Rattle.book.specs.Book.{inBook};
 ghost use Rattle.book_laws.specs.Held.{Held};
+ghost use Rattle.completion_book.specs.Offers.{Sought};
 ghost use Rattle.panel.specs.Panel.{heldIn, offeredFor, rowWith, typedIn};
-ghost use Rattle.panel_rows.specs.Rows.{OnRow, Rows, rowAt, rowOf};
+ghost use Rattle.panel_rows.specs.Rows.{OnRow, Rows, RowsAll, rowAt, rowOf};
 
 // A row: its number, how many rows there are, and the position of its name, of no account without rows.
 pub struct Row {
@@ -25,8 +26,9 @@ pub fn first_row(book: &[u8], n: usize, p: panel::Panel) -> Row
 {
     let len = p.len;
     let text = p.text;
-    let first = book_find::place(book, n, &text[..len], false);
-    let end = book_find::place(book, n, &text[..len], true);
+    let found = book_skip::seek(book, book_layout::today(), n, &text[..len]);
+    let first = found.place;
+    let end = found.past;
     if end <= first {
         return Row {
             number: 0,
@@ -42,14 +44,12 @@ pub fn first_row(book: &[u8], n: usize, p: panel::Panel) -> Row
     }
 }
 
-// What is offered for the panel's text.
-pub fn rows_of(book: &[u8], n: usize, p: panel::Panel) -> completion_turn::Progress
-    requires { ⌜ Held (now book) n × (p .len ≤ longestName) ⌝ }
-    ensures { λ s. ⌜ Rows (inBook (now (book .entry))) (typedIn p) s ⌝ }
+// What is offered for the text that was sought.
+pub fn rows_of(book: &[u8], n: usize, seek: Seek) -> completion_turn::Progress
+    requires { ⌜ Held (now book) n × Sought (now book) n seek ⌝ }
+    ensures { λ s. ⌜ RowsAll (now (book .entry)) n seek s ⌝ }
 {
-    let len = p.len;
-    let text = p.text;
-    completion_book::offers(book, n, &text[..len], PANEL_COUNT)
+    completion_book::offers(book, n, seek, PANEL_COUNT)
 }
 
 // One of the rows, by its number.
@@ -92,12 +92,13 @@ pub fn held_row(
 {
     let held = p.held;
     let len = p.held_len;
-    let Spot::Held(position) = lookup_find::look_up(book, n, &held[..len]) else {
+    let found = book_skip::seek(book, book_layout::today(), n, &held[..len]);
+    if !found.same {
         return other;
-    };
+    }
     let offered = s.offered;
     let count = s.count;
-    let row = row_of(&offered[..count], position);
+    let row = row_of(&offered[..count], found.place);
     if row < count {
         return row;
     }

@@ -43,7 +43,7 @@ fn name_on(book: &[u8], n: usize, r: panel_rows::Row) -> Text
             len: 0,
         };
     }
-    let c = book_find::cursor_at(book, n, r.position);
+    let c = book_name::name_at(book, n, r.position);
     let name = c.name;
     Text {
         bytes: name,

@@ -17,11 +17,12 @@ use Rattle.entries.specs.Entries.{Entry, entry, holds, maxEntries, valid, with,
 use Rattle.entries.specs.Names.{isName, isScore}
 use Rattle.entries.proofs.Edits.{valid-with, valid-without}
 use Rattle.answer.specs.Answers.{Answer, WrittenCounts, given, refused}
-use Rattle.book.specs.Book.{bookImage}
+use Rattle.book.specs.Book.{bookImage, today}
+use Rattle.book.proofs.Checks.{read-not-old}
 use Rattle.book.proofs.Size.{book-length}
 use Rattle.ledger.specs.Ledger.{ledgerAnswer, scoreFits, setName, withdrawName}
-use Rattle.ledger.proofs.History.{Holds, history-answers, history-holds, reads, start-holds}
-use Rattle.script.specs.Run.{Bench, benchCall, buffersOf, startBench}
+use Rattle.ledger.proofs.History.{Holds, history-answers, history-holds, is-book, reads, start-holds}
+use Rattle.script.specs.Run.{Bench, benchCall, bookOf, buffersOf, startBench}
 use Rattle.script.proofs.Theorem.{step-buffers}
 use Rattle.program.specs.Program.{bad, bufferLength, commandOf, digits, edit, editLine, hasNumber, heldAfter}
 use Rattle.program.specs.Program.{numbered, outputOf, printed, top}
@@ -73,7 +74,9 @@ command-goes (edit c) es b h f =
     let e : benchCall c b .answer ≡ ledgerAnswer bufferLength c es = cc in
     let m = history-holds bufferLength (c ∷ []) es (buffersOf b) h g in
     record { shown = ap editLine e; holds = rw (step-buffers c b) m }
-command-goes (top k p) es b h f = let r = reads bufferLength es (buffersOf b) h in record { shown = rw r; holds = h }
+command-goes (top k p) es b h f =
+    let r = reads bufferLength es (buffersOf b) h in
+    record { shown = rw (read-not-old (bookOf b) (is-book bufferLength es (buffersOf b) h), r); holds = h }
 command-goes bad es b h f = record { shown = refl; holds = h }
 
 pub line-goes : (line : List ℕ) (es : List Entry) (b : Bench) → Holds bufferLength es (buffersOf b)
@@ -120,7 +123,7 @@ not-refused : {x : WrittenCounts} → _≡_ {A = Answer WrittenCounts} (given x)
 not-refused e = let z : _≡_ {A = ℕ} 0 1 = cc in omega arith
 
 long-enough : (es : List Entry) → valid es ≡ true → ltb bufferLength (length (bookImage es)) ≡ false
-long-enough es v = le-ltb bufferLength (length (bookImage es)) (omega (arith, book-length es v))
+long-enough es v = le-ltb bufferLength (length (bookImage es)) (omega (arith, book-length today es v))
 
 pub never-seven : NeverSeven
 unfolding ledgerAnswer

@@ -13,7 +13,8 @@ use Rattle.program.specs.Program as program
 use Rattle.entries.specs.Completion.{completion, maxCount}
 use Rattle.entries.specs.Names.{isPrefix}
 use Rattle.answer.specs.Answers.{_when_, unless}
-use Rattle.book.specs.Book.{inBook, isBook}
+use Rattle.book.specs.Book.{inBook}
+use Rattle.book.specs.Checks.{bookChecks}
 use Rattle.completion.specs.Complete.{badCount}
 use Rattle.completion.specs.Machine.{machine}
 use Rattle.answer.specs.declared.Completion.the-variants as answer
@@ -22,7 +23,7 @@ use Rattle.answer.specs.declared.Completion.the-variants as answer
 unfoldable pub topOf : List ℕ → ℕ → List ℕ → List ℕ
 topOf book k p =
     offerLines
-    (unless (1 when not (isBook book) ∷ 2 when not (isPrefix p) ∷ 3 when badCount maxCount k ∷ [])
+    (unless (bookChecks (book ∷ []) ++ (2 when not (isPrefix p) ∷ 3 when badCount maxCount k ∷ []))
     (topLines (completion (inBook book) p k) (machine (inBook book) p k .looks)))
 
 -- what a command prints

@@ -2,22 +2,24 @@
 use Prim.Native.Nat.{ℕ}
 use mathlib.Core.Path.{_≡_, refl}
 use mathlib.Core.List.{List, [], _++_, _∷_}
-use lib.ListN.{replicate}
+use lib.ListN.{replicate, take}
 use Rattle.octets.specs.Decimal.{decimal}
-use Rattle.octets.specs.Octets.{be}
+use Rattle.octets.specs.Octets.{be, fromBe}
 use Rattle.octets.specs.Table.{Row, _gives_, failing}
 use Rattle.octets.specs.Text.{lineFeed, text}
 use Rattle.entries.specs.Completion.{completion, rangeStart}
-use Rattle.entries.specs.Entries.{Entry}
-use Rattle.entries.specs.Names.{allowedBytes, isName, isPrefix, micro, ohm}
-use Rattle.book.specs.Records.{recordOf}
-use Rattle.book.specs.Book.{bookImage, imageIn, offset, offsets, peak, peaks, recordsAt, scores}
-use Rattle.frame.specs.Frame.{framed}
-use Rattle.book.specs.Shown.{E, alternating, crowd}
+use Rattle.entries.specs.Entries.{Entry, valid}
+use Rattle.entries.specs.Names.{allowedBytes, isName, isPrefix, isScore, micro, ohm}
+use Rattle.book.specs.Records.{recordLength, recordName, recordOf}
+use Rattle.book.specs.Book.{entriesIn, imageIn, offset, offsets, peak, peaks, readIn, recordsAt, scores}
+use Rattle.frame.specs.Frame.{countOf, framed, readAs}
+use Rattle.book.specs.Old.{P3old}
+use Rattle.book.specs.Shown.{E, P1, P3, alternating, crowd, spare}
 use Rattle.completion.specs.Machine.{machine, offering, openRange, others, parts}
 use Rattle.ledger.specs.Ledger.{ledgerAnswer, ledgerStep}
 use Rattle.program.specs.Program.{commandOf, printed, program, refusedLine, topLines}
 use Rattle.program.specs.Program.{topWithin}
+use Rattle.program.specs.Console.{topOf}
 
 -- document 01's input, without the last line feed, and all that it prints
 abbrev shownInput : List ℕ
@@ -130,11 +132,26 @@ forms =
     ∷ (prints (crowd 1024) (text "set 1 ") gives text "no 2\n")
     ∷ []
 
+-- `top` on the book in a buffer
+abbrev books : List Row
+books =
+    (topOf (P3 ++ spare 3) 2 (text "r") gives text "12 rl\n9 rc\nlooks 2\n")
+    ∷ (topOf P1 2 [] gives text "looks 0\n")
+    -- no book, which comes before 2 and 3; an empty buffer
+    ∷ (topOf (take 42 P3) 2 (text "r") gives text "no 1\n")
+    ∷ (topOf (take 42 P3) 0 (0x1F ∷ []) gives text "no 1\n")
+    ∷ (topOf [] 2 (text "r") gives text "no 1\n")
+    -- an old book, whole, cut off and of one byte: 10 before all
+    ∷ (topOf P3old 2 (text "r") gives text "no 10\n")
+    ∷ (topOf (take 43 P3old) 2 (text "r") gives text "no 10\n")
+    ∷ (topOf (0x21 ∷ []) 0 (0x1F ∷ []) gives text "no 10\n")
+    ∷ []
+
 abbrev table : List Row
-table = inputs ++ numbers ++ forms
+table = inputs ++ numbers ++ forms ++ books
 
 worked : failing 0 table ≡ []
-unfolding be allowedBytes isPrefix isName completion rangeStart recordOf framed scores peak peaks recordsAt offset
-    offsets imageIn bookImage openRange others parts offering machine ledgerAnswer ledgerStep decimal commandOf
-    refusedLine topLines program
+unfolding be fromBe allowedBytes isPrefix isName isScore valid completion rangeStart recordOf recordName recordLength
+    framed countOf readAs scores peak peaks recordsAt offset offsets imageIn entriesIn readIn openRange others parts
+    offering machine ledgerAnswer ledgerStep decimal commandOf refusedLine topLines program topOf
 worked = refl

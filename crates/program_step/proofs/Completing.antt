@@ -23,7 +23,9 @@ use Rattle.entries.proofs.BestList.{best-list}
 use Rattle.entries.proofs.Valid.{valid-all, valid-of}
 use Rattle.answer.specs.Answers.{counts, entriesBytes, given, noneOffered, refused, writing}
 use Rattle.book.specs.Book.{inBook, isBook}
-use Rattle.completion.specs.Complete.{Completed, badCount, completeBook, completeBookWithin, entryRoom, offeredAs}
+use Rattle.book.specs.Checks.{isOld}
+use Rattle.book.proofs.Checks.{read-not-old}
+use Rattle.completion.specs.Complete.{Completed, badCount, completeBook, completeFrom, entryRoom, offeredAs}
 use Rattle.answer.specs.Reports.{offeredOf}
 use Rattle.completion.specs.Machine.{machine, mostLooks}
 use Rattle.completion.proofs.Limit.{count-within, looks-within}
@@ -104,17 +106,19 @@ module _ (book p dst : List ℕ) (k : ℕ) (room : length dst ≡ answerRoom) {c
 
     shown : isBook book ≡ true → isPrefix p ≡ true → badCount maxCount k ≡ false → Printable c left
         × (answerLines c left ≡ topOf book k p)
-    unfolding completeBookWithin writing topOf
+    unfolding completeFrom writing topOf
     shown t u w =
         let n = count-within maxCount k w in
         let v = valid-in book t in
+        let o = read-not-old book t in
         let x : offeredOf c ≡ given (offeredAs l (machine (inBook book) p k .looks)) = rw (
+          o,
           t,
           u,
           w,
           room-of (n .1),
         ) at (done .answer) in
-        let y : left ≡ overwrite dst (entriesBytes l) = rw (t, u, w, room-of (n .1)) at (done .left) in
+        let y : left ≡ overwrite dst (entriesBytes l) = rw (o, t, u, w, room-of (n .1)) at (done .left) in
         let few = best-list (inBook book) p k (valid-of (inBook book) v .order) .may .atMost in
         let g =
         given-lines c l (machine (inBook book) p k .looks) (drop (length (entriesBytes l)) dst) x
@@ -122,17 +126,21 @@ module _ (book p dst : List ℕ) (k : ℕ) (room : length dst ≡ answerRoom) {c
         (omega arith)
         (looks-within maxCount (inBook book) p k w)
         in
-        rw (t, u, w, y) g
+        rw (o, t, u, w, y) g
 
     pub top-shown : Printable c left × (answerLines c left ≡ topOf book k p)
-    unfolding completeBookWithin writing topOf
+    unfolding completeFrom writing topOf
     top-shown =
         by-test (isBook book)
         (λ t.
+        let o = read-not-old book t in
         by-test (isPrefix p)
         (λ u.
         by-test (badCount maxCount k)
-        (λ w. rw (t, u, w) (refused-lines c left 3 (rw (t, u, w) at (done .answer))))
+        (λ w. rw (o, t, u, w) (refused-lines c left 3 (rw (o, t, u, w) at (done .answer))))
         (λ w. shown t u w))
-        (λ u. rw (t, u) (refused-lines c left 2 (rw (t, u) at (done .answer)))))
-        (λ t. rw t (refused-lines c left 1 (rw t at (done .answer))))
+        (λ u. rw (o, t, u) (refused-lines c left 2 (rw (o, t, u) at (done .answer)))))
+        (λ t.
+        by-test (isOld book)
+        (λ o. rw o (refused-lines c left 10 (rw o at (done .answer))))
+        (λ o. rw (o, t) (refused-lines c left 1 (rw (o, t) at (done .answer)))))

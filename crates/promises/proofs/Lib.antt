@@ -1,3 +1,4 @@
 pub mod Limit
+pub mod Order
 pub mod Promises
 pub mod Writes

@@ -3,7 +3,7 @@ use Prim.Native.Nat.{_*_, _≤_, ℕ}
 use mathlib.Core.Path.{_≡_, ap, refl}
 use mathlib.Core.Logic.{inl, inr}
 use mathlib.Core.Bool.{_||_, not, true}
-use mathlib.Core.List.{List, [], _∷_, append-nil}
+use mathlib.Core.List.{List, [], _++_, _∷_, append-nil}
 use mathlib.Core.Option.{some}
 use lib.Dec.{ltb}
 use lib.ListN.{length}
@@ -14,10 +14,11 @@ use Rattle.entries.specs.Names.{allowedBytes, isName, isPrefix, isScore}
 use Rattle.answer.specs.Answers.{Check, OfferedCounts, _when_, given, writing}
 use Rattle.answer.proofs.Answers.{clear, given-is}
 use Rattle.frame.proofs.Frame.{read-of}
-use Rattle.book.specs.Book.{bookImage, inBook, isBook, readBook}
+use Rattle.book.specs.Book.{bookImage, inBook, readBook}
+use Rattle.book.specs.Checks.{bookChecks}
 use Rattle.book.specs.Shown.{alternating, spare}
 use Rattle.book.proofs.Reading.{book-exact}
-use Rattle.completion.specs.Complete.{badCount, completeBookWithin, entryRoom, offeredAs}
+use Rattle.completion.specs.Complete.{badCount, completeBookWithin, completeFrom, entryRoom, offeredAs}
 use Rattle.completion.specs.Machine.{machine, mostLooks, offering, openRange, others, parts}
 use Rattle.completion.proofs.Limit.{looks-within, same-count}
 use Rattle.trie.specs.Calls.{completeTrieWithin}
@@ -26,7 +27,7 @@ use Rattle.promises.specs.Limit.{AsUnderSixteen, MostLooks, SameWithin}
 
 -- the limit stands in the check for 3 alone, which a count within both limits passes under both or under neither
 pub same-within : (limit limit′ : ℕ) → SameWithin limit limit′
-unfolding completeBookWithin completeTrieWithin
+unfolding completeFrom completeTrieWithin
 same-within limit limit′ =
     record {
       fromBook = λ book p k dst ranges h h′. rw (same-count limit limit′ k h h′);
@@ -47,17 +48,17 @@ as-under-sixteen =
 no-more :
     (limit : ℕ) (book p : List ℕ) (k : ℕ) (dst : List ℕ) (ranges : ℕ) (c : OfferedCounts)
     → completeBookWithin limit book p k dst ranges .answer ≡ given c → c .looks ≤ mostLooks limit
-unfolding completeBookWithin writing
+unfolding completeFrom writing
 no-more limit book p k dst ranges c h =
     let es = inBook book in
     let checks : List Check =
-    1 when not (isBook book)
-    ∷ 2 when not (isPrefix p)
+    bookChecks (book ∷ [])
+    ++ (2 when not (isPrefix p)
     ∷ 3 when badCount limit k
     ∷ 7 when (ltb (length dst) (entryRoom * k) || ltb ranges k)
-    ∷ [] in
+    ∷ []) in
     let counts = offeredAs (completion es p k) (machine es p k .looks) in
-    let few = clear checks counts c h (3 when badCount limit k) (inr (inr (inl refl))) in
+    let few = clear checks counts c h (3 when badCount limit k) (inr (inr (inr (inl refl)))) in
     rw (ap (λ o. o .looks) (given-is checks counts c h)) at (looks-within limit es p k few)
 
 -- 19 names in which each of the nine best has others left and right of it

@@ -3,9 +3,9 @@ use Prim.Native.Nat.{_+_, _-_, _<_, _≤_, ℕ}
 use Prim.Native.Char.{code}
 use mathlib.Core.Path.{_∙_, _≡_, ap, refl, sym}
 use mathlib.Core.Logic.{inl, inr}
-use mathlib.Core.Bool.{Bool, _&&_, false, not, true}
-use mathlib.Core.List.{List, [], _∷_}
-use lib.Dec.{eqb, leb}
+use mathlib.Core.Bool.{Bool, _||_, false, not, true}
+use mathlib.Core.List.{List, [], _++_, _∷_}
+use lib.Dec.{eqb}
 use lib.ListN.{drop, getD, length, length-append, set, take}
 use lib.Seq.{sets}
 use native.Mathlib.Numerals.{add-one}
@@ -15,16 +15,18 @@ use Rattle.octets.specs.Lists.{if_then_else_}
 use Rattle.octets.specs.Octets.{be, numberAt}
 use Rattle.octets.proofs.Coding.{length-be}
 use Rattle.octets.proofs.Stores.{sets-append}
-use Rattle.entries.specs.Entries.{Entry, entry, holds, maxEntries, valid, with, without}
+use Rattle.octets.proofs.Tests.{or-false}
+use Rattle.entries.specs.Entries.{Entry, entry, valid, with, without}
 use Rattle.entries.specs.Names.{isName, isScore}
 use Rattle.entries.proofs.Edits.{valid-with, valid-without}
 use Rattle.entries.proofs.Valid.{score-fits, valid-of}
 use Rattle.answer.specs.Answers.{Answer, WrittenCounts, _when_, given, number, onAnswer, refused, tooShort, writing}
 use Rattle.answer.specs.Answers.{writingImage}
-use Rattle.book.specs.Book.{bookImage, inBook, isBook, reported}
+use Rattle.book.specs.Book.{bookImage, inBook, isBook, reported, today}
+use Rattle.book.specs.Checks.{bookChecks}
 use Rattle.answer.proofs.Answers.{clear, given-is}
 use Rattle.book.proofs.Size.{book-length}
-use Rattle.edit.specs.Edits.{setEntry, withdrawEntry}
+use Rattle.edit.specs.Edits.{setEntry, setRefusals, withdrawEntry, withdrawRefusals}
 use Rattle.ledger.specs.Ledger.{Edit, setName, withdrawName}
 use Rattle.book.proofs.Reading.{valid-in}
 use Rattle.answer.specs.Reports.{Answered, writtenOf}
@@ -39,13 +41,17 @@ use Rattle.script_step.specs.declared.AnswerNumbers.{AnswerNumbers}
 small-of : (es : List Entry) (x : WrittenCounts) → valid es ≡ true → reported es ≡ x → Small (given x)
 small-of es x v e =
     let few = valid-of es v .few in
-    let l = book-length es v in
+    let l = book-length today es v in
     let p = ap (λ y. y .entries) e in
     let q = ap (λ y. y .bytes) e in
     record { entries = omega arith; bytes = omega arith }
 
 small-refused : (n : ℕ) → Small (refused n)
 small-refused n = record { entries = omega arith; bytes = omega arith }
+
+-- a book for which 1 does not apply
+is-book : (book : List ℕ) → (not (isBook book) || false) ≡ false → isBook book ≡ true
+is-book book h = not-false (isBook book) (or-false (not (isBook book)) false h .0)
 
 set-small :
     (book w dst : List ℕ) (s : ℕ) → isScore s ≡ true → (a : Answer WrittenCounts) → setEntry book w s dst .answer ≡ a
@@ -55,12 +61,11 @@ set-small book w dst s f (refused n) h = small-refused n
 set-small book w dst s f (given x) h =
     let es = inBook book in
     let after = with (entry w s) es in
-    let full = not (holds w es) && leb maxEntries (length es) in
-    let cs = 1 when not (isBook book) ∷ 2 when not (isName w) ∷ 5 when full ∷ 7 when tooShort dst (bookImage after)
-    ∷ [] in
+    let cs = (bookChecks (book ∷ []) ++ setRefusals w es) ++ (7 when tooShort dst (bookImage after) ∷ []) in
     let ok = clear cs (reported after) x h in
-    let v = valid-in book (not-false (isBook book) (ok _ (inl refl))) in
-    let u = valid-with (entry w s) es v (not-false (isName w) (ok _ (inr (inl refl)))) f (ok _ (inr (inr (inl refl))))
+    let v = valid-in book (is-book book (ok _ (inr (inl refl)))) in
+    let u = valid-with (entry w s) es v (not-false (isName w) (ok _ (inr (inr (inl refl))))) f
+    (ok _ (inr (inr (inr (inl refl)))))
     in
     small-of after x u (given-is cs (reported after) x h)
 
@@ -70,10 +75,9 @@ withdraw-small book w dst (refused n) h = small-refused n
 withdraw-small book w dst (given x) h =
     let es = inBook book in
     let after = without w es in
-    let cs = 1 when not (isBook book) ∷ 2 when not (isName w) ∷ 4 when not (holds w es)
-    ∷ 7 when tooShort dst (bookImage after) ∷ [] in
+    let cs = (bookChecks (book ∷ []) ++ withdrawRefusals w es) ++ (7 when tooShort dst (bookImage after) ∷ []) in
     let ok = clear cs (reported after) x h in
-    let v = valid-in book (not-false (isBook book) (ok _ (inl refl))) in
+    let v = valid-in book (is-book book (ok _ (inr (inl refl)))) in
     small-of after x (valid-without w es v) (given-is cs (reported after) x h)
 
 -- a call by its kind

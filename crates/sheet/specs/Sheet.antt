@@ -10,6 +10,7 @@ use Rattle.entries.specs.Entries.{Entry, entry}
 use Rattle.answer.specs.Answers.{Outcome, WrittenCounts, converting, entriesBytes}
 use Rattle.frame.specs.Frame.{countOf, entriesOf, framed, readAs}
 use Rattle.book.specs.Book.{bookImage, readBook}
+use Rattle.book.specs.Checks.{fromBook}
 
 unfoldable pub sheetImage : List Entry → List ℕ
 sheetImage es = framed 0x11 (length es) (entriesBytes es)
@@ -39,7 +40,7 @@ buildBook sheet dst = converting readSheet bookImage sheet dst
 
 -- list a book into a sheet
 unfoldable pub listBook : List ℕ → List ℕ → Outcome WrittenCounts
-listBook book dst = converting readBook sheetImage book dst
+listBook book dst = fromBook sheetImage book dst
 
 -- Sheet to book to sheet, and book to sheet to book, with long enough destinations: the same bytes.
 pub record RoundTrips : Type 0 where

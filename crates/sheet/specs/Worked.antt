@@ -12,8 +12,9 @@ use Rattle.entries.specs.Names.{allowedBytes, isName, isPrefix, isScore, ohm}
 use Rattle.book.specs.Records.{recordLength, recordName, recordOf}
 use Rattle.answer.specs.Answers.{entriesBytes, entryBytes, writing, writingImage}
 use Rattle.frame.specs.Frame.{countOf, entriesOf, framed, readAs}
-use Rattle.book.specs.Book.{bookImage, entriesIn, imageIn, offset, offsets, peak, peaks, readBook, readIn, recordsAt}
+use Rattle.book.specs.Book.{bookImage, entriesIn, imageIn, offset, offsets, peak, peaks, readIn, recordsAt}
 use Rattle.book.specs.Book.{scores}
+use Rattle.book.specs.Old.{P3old}
 use Rattle.book.specs.Shown.{E, P1, P3, answerEntry, answerFor, changed, crowd, fullName, halfName, kΩ, listed}
 use Rattle.book.specs.Shown.{shownRead, shownWritten, signed, signedBook, spare, µA, µF}
 use Rattle.sheet.specs.Sheet.{buildBook, listBook, readSheet, sheetEntries, sheetImage}
@@ -70,10 +71,10 @@ images =
 
 abbrev building : List Row
 building =
-    -- into 46 bytes, into the 44 of P3, into 43
-    (shownWritten (buildBook (sheetE ++ spare 3) (spare 46)) gives (0 ∷ 4 ∷ 44 ∷ P3 ++ spare 2))
-    ∷ (shownWritten (buildBook sheetE (spare 44)) gives (0 ∷ 4 ∷ 44 ∷ P3))
-    ∷ (shownWritten (buildBook sheetE (spare 43)) gives (7 ∷ 0 ∷ 0 ∷ spare 43))
+    -- into 45 bytes, into the 43 of P3, into 42
+    (shownWritten (buildBook (sheetE ++ spare 3) (spare 45)) gives (0 ∷ 4 ∷ 43 ∷ P3 ++ spare 2))
+    ∷ (shownWritten (buildBook sheetE (spare 43)) gives (0 ∷ 4 ∷ 43 ∷ P3))
+    ∷ (shownWritten (buildBook sheetE (spare 42)) gives (7 ∷ 0 ∷ 0 ∷ spare 42))
     -- the empty sheet
     ∷ (shownWritten (buildBook (emptySheet ++ spare 9) (spare 9)) gives (0 ∷ 0 ∷ 7 ∷ P1 ++ spare 2))
     ∷ (shownWritten (buildBook emptySheet (spare 6)) gives (7 ∷ 0 ∷ 0 ∷ spare 6))
@@ -87,18 +88,20 @@ building =
     ∷ (builtFrom (pair "rc" "rl\u{7f}") gives notBuilt)
     ∷ (builtFrom (pair "r\u{1f}" "rl") gives notBuilt)
     -- µ and Ω; half a sign, the other half of another
-    ∷ (shownWritten (buildBook signedSheet (spare 47)) gives (0 ∷ 4 ∷ 47 ∷ signedBook))
-    ∷ (shownWritten (buildBook (sheetImage (entry fullName 1 ∷ [])) (spare 64))
-    gives (0 ∷ 1 ∷ 64 ∷ bookImage (entry fullName 1 ∷ [])))
+    ∷ (shownWritten (buildBook signedSheet (spare 46)) gives (0 ∷ 4 ∷ 46 ∷ signedBook))
+    ∷ (shownWritten (buildBook (sheetImage (entry fullName 1 ∷ [])) (spare 63))
+    gives (0 ∷ 1 ∷ 63 ∷ bookImage (entry fullName 1 ∷ [])))
     ∷ (builtFrom (sheetImage (entry halfName 1 ∷ [])) gives notBuilt)
     ∷ (builtFrom (changed signedSheet 37 (0x41 ∷ [])) gives notBuilt)
     ∷ (builtFrom (changed signedSheet 37 (0xB5 ∷ [])) gives notBuilt)
     -- 1,024 entries, and one more
     ∷ (length (entriesOf (readSheet (sheetImage (crowd 1024)))) ∷ [] gives (1024 ∷ []))
     ∷ (builtFrom (sheetImage (crowd 1025)) gives notBuilt)
-    -- cut off; another version; total length and n one too small, one too large
+    -- cut off; another version, an old book's too, which gives 10 only where a book is lent; total length and n one too
+    -- small, one too large
     ∷ (builtFrom (take 39 sheetE) gives notBuilt)
     ∷ (builtFrom P3 gives notBuilt)
+    ∷ (builtFrom P3old gives notBuilt)
     ∷ (builtFrom (changed sheetE 4 (0x27 ∷ [])) gives notBuilt)
     ∷ (builtFrom (changed sheetE 4 (0x29 ∷ []) ++ spare 1) gives notBuilt)
     ∷ (builtFrom (changed sheetE 6 (3 ∷ [])) gives notBuilt)
@@ -115,9 +118,15 @@ listing =
     ∷ (shownWritten (listBook P3 (spare 39)) gives (7 ∷ 0 ∷ 0 ∷ spare 39))
     ∷ (shownWritten (listBook P1 (spare 7)) gives (0 ∷ 0 ∷ 7 ∷ emptySheet))
     ∷ (shownWritten (listBook signedBook (spare 42)) gives (0 ∷ 4 ∷ 42 ∷ signedSheet))
-    -- no book, which comes first
-    ∷ (shownWritten (listBook (changed P3 26 (1 ∷ [])) (spare 42)) gives (1 ∷ 0 ∷ 0 ∷ spare 42))
+    -- no book, before 7: a wrong peak, a sheet, an empty buffer
+    ∷ (shownWritten (listBook (changed P3 24 (1 ∷ [])) (spare 42)) gives (1 ∷ 0 ∷ 0 ∷ spare 42))
     ∷ (shownWritten (listBook sheetE []) gives (1 ∷ 0 ∷ 0 ∷ []))
+    ∷ (shownWritten (listBook [] []) gives (1 ∷ 0 ∷ 0 ∷ []))
+    -- an old book, before 1 and 7: whole, with a wrong peak, cut off, its byte 0 alone
+    ∷ (shownWritten (listBook P3old (spare 42)) gives (10 ∷ 0 ∷ 0 ∷ spare 42))
+    ∷ (shownWritten (listBook (changed P3old 26 (1 ∷ [])) (spare 42)) gives (10 ∷ 0 ∷ 0 ∷ spare 42))
+    ∷ (shownWritten (listBook (take 43 P3old) []) gives (10 ∷ 0 ∷ 0 ∷ []))
+    ∷ (shownWritten (listBook (0x21 ∷ []) (spare 6)) gives (10 ∷ 0 ∷ 0 ∷ spare 6))
     ∷ []
 
 abbrev table : List Row
@@ -125,6 +134,6 @@ table = images ++ building ++ listing
 
 worked : failing 0 table ≡ []
 unfolding be fromBe allowedBytes isPrefix isName isScore valid recordOf recordName recordLength framed countOf readAs
-    scores peak peaks recordsAt offset offsets imageIn entriesIn readIn bookImage readBook writing writingImage
-    entryBytes entriesBytes sheetImage sheetEntries readSheet buildBook listBook
+    scores peak peaks recordsAt offset offsets imageIn entriesIn readIn writing writingImage entryBytes entriesBytes
+    sheetImage sheetEntries readSheet buildBook listBook
 worked = refl

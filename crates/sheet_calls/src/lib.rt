@@ -26,9 +26,11 @@ pub fn build(sheet: &[u8], dst: &mut [u8]) -> Written
 pub fn list(book: &[u8], dst: &mut [u8]) -> Written
     ensures { λ r. ⌜ Answered (listBook (now (book .entry)) (now (dst .entry))) r (now (dst .exit)) ⌝ }
 {
-    let Image::Entries(n) = book_check::check(book) else {
-        return Written::Refused(1);
-    };
+    let c = book_check::check(book, &[]);
+    if c.refusal != 0 {
+        return Written::Refused(c.refusal);
+    }
+    let n = c.n;
     let total = sheet_write::sheet_size(book, n);
     if dst.len() < total {
         return Written::Refused(7);

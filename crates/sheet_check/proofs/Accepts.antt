@@ -10,7 +10,7 @@ use borrow.Author.Tests.{eq-eqb}
 use Rattle.octets.specs.Octets.{be, begins, below, numberAt}
 use Rattle.octets.proofs.Lists.{all-both, all-imp}
 use Rattle.octets.proofs.Numbers.{Bytes, number-stands, stands-number}
-use Rattle.octets.proofs.Order.{begins-length}
+use Rattle.octets.proofs.Order.{begins-first, begins-length}
 use Rattle.octets.proofs.Tests.{and-true, by-test}
 use Rattle.entries.specs.Entries.{Entry, valid}
 use Rattle.entries.specs.Names.{isName, isScore}
@@ -18,7 +18,7 @@ use Rattle.entries.proofs.Valid.{name-above, valid-intro, valid-of}
 use Rattle.answer.specs.Answers.{entriesBytes}
 use Rattle.frame.specs.Frame.{framed, isRead}
 use Rattle.book_laws.proofs.Check.{chained-rising, rising-chained}
-use Rattle.frame_laws.proofs.Test.{FrameTests, ends-some, frame-passes, frame-tests, version-stands, version-there}
+use Rattle.frame_laws.proofs.Test.{FrameTests, ends-some, frame-passes, frame-tests, version-stands}
 use Rattle.frame.proofs.Frame.{framed-length, framed-parts}
 use Rattle.answer.proofs.Entries.{entriesBytes-most}
 use Rattle.sheet_check.specs.Check.{rowsEnd, sheetChecks}
@@ -73,7 +73,7 @@ module _ (buf : List ℕ) (b : Bytes buf) (t : Tests buf) where
       sheet-exact .complete es buf passes-valid
       (framed-parts 0x11 (length es) (entriesBytes es) buf
       ∙ rw (
-        version-stands 0x11 (omega arith) buf (t .frame .version),
+        version-stands 0x11 buf (t .frame),
         number-stands 4 buf 1 b (omega arith) (length (framed 0x11 (length es) (entriesBytes es))) (omega arith),
         number-stands 2 buf 5 b (omega arith) (length es) (sym m),
       )
@@ -135,7 +135,7 @@ module _ (buf : List ℕ) (es : List Entry) (h : readSheet buf ≡ some es) wher
       record {
         frame = record {
           long = omega arith;
-          version = version-there 0x11 buf (parts .0);
+          version = begins-first 0x11 buf (parts .0);
           few = rw sheet-count (v .few);
           fits = rw total i;
         };

@@ -10,16 +10,16 @@ use native.Mathlib.Omega.{arith}
 use Rattle.octets.specs.Octets.{begins, numberAt, overwrite}
 use Rattle.entries.specs.Entries.{Entry, at, names}
 use Rattle.entries.proofs.Valid.{length-names, valid-all}
-use Rattle.book.specs.Records.{bucketHead, recordOf, records}
+use Rattle.book.specs.Records.{recordOf, records}
 use Rattle.book_record_write.specs.Written.{Sized}
 use Rattle.answer.specs.Answers.{entriesBytes}
-use Rattle.book.specs.Book.{bookImage, layout21, recordsAt}
+use Rattle.book.specs.Book.{bookImage, today, recordsAt}
 use Rattle.book_laws.proofs.Ahead.{names-at}
 use Rattle.book.proofs.Reading.{image-length}
 use Rattle.book.proofs.Size.{book-length}
 use Rattle.book_write.specs.Calls.{EntryPut, PutRoom}
 use Rattle.book_write.specs.Writing.{finished}
-use Rattle.book_write.proofs.Calls.{finish-whole, partial-room, put-partial, start-partial}
+use Rattle.book_write.proofs.Calls.{finish-whole, partial-room, put-partial, slotAt, start-partial}
 use Rattle.book_write.proofs.Partial.{Partial}
 use Rattle.sheet_check.specs.Held.{HeldSheet}
 use Rattle.sheet.specs.Sheet.{inSheet}
@@ -34,17 +34,16 @@ pub record Sizing (sheet : List ℕ) (total k a b i : ℕ) : Type 0 where
   pub ordered : a ≤ b
   pub behind : b ≤ k
   pub stands : begins (entriesBytes (drop i (inSheet sheet))) (drop k sheet) ≡ true
-  pub left : total + length (records bucketHead i (between a b sheet) (drop i (names (inSheet sheet)))) ≡ length
+  pub left : total + length (records (today .heads) i (between a b sheet) (drop i (names (inSheet sheet)))) ≡ length
       (bookImage (inSheet sheet))
 
-pub size-start : {sheet : List ℕ} {n r : ℕ} → HeldSheet sheet n → r ≡ recordsAt layout21 n → Sizing sheet r 7 7 7 0
-unfolding bookImage
+pub size-start : {sheet : List ℕ} {n r : ℕ} → HeldSheet sheet n → r ≡ recordsAt today n → Sizing sheet r 7 7 7 0
 size-start {sheet} s e =
     record {
       ordered = omega arith;
       behind = omega arith;
       stands = sheet-stands s;
-      left = rw (e, s .count) (sym (image-length layout21 (inSheet sheet)));
+      left = rw (e, s .count) (sym (image-length today (inSheet sheet)));
     }
 
 module _ {sheet : List ℕ} {n : ℕ} (s : HeldSheet sheet n) {total k a b i : ℕ} (g : Sizing sheet total k a b i) where
@@ -57,7 +56,7 @@ module _ {sheet : List ℕ} {n : ℕ} (s : HeldSheet sheet n) {total k a b i : �
       omega arith
 
   pub size-small : total ≤ 55559
-  size-small = omega (arith, g .left, book-length es (sheet-ok s))
+  size-small = omega (arith, g .left, book-length today es (sheet-ok s))
 
   module _ (l : i < n) where
     low : i < length es
@@ -67,7 +66,7 @@ module _ {sheet : List ℕ} {n : ℕ} (s : HeldSheet sheet n) {total k a b i : �
     size-here = here sheet es (valid-all es (sheet-ok s)) i k low (g .stands)
 
     pub size-turn :
-        {r : ℕ} → Sized (recordOf bucketHead i (between a b sheet) (between (k + 1) (k + 1 + getD sheet k 0) sheet)) r
+        {r : ℕ} → Sized (recordOf (today .heads) i (between a b sheet) (between (k + 1) (k + 1 + getD sheet k 0) sheet)) r
         → Sizing sheet (total + r) (k + 1 + getD sheet k 0 + 4) (k + 1) (k + 1 + getD sheet k 0) (i + 1)
     size-turn {r} z =
         let w = at es i .name in
@@ -75,8 +74,8 @@ module _ {sheet : List ℕ} {n : ℕ} (s : HeldSheet sheet n) {total k a b i : �
         let ws = drop (suc i) (names es) in
         let q : drop i (names es) ≡ w ∷ ws = drop-cons (names es) i [] (omega (arith, length-names es, low))
         ∙ rw (names-at es i low) in
-        let m = rw (q, length-append (recordOf bucketHead i p w) (records bucketHead (suc i) w ws)) at (g .left) in
-        let o : r ≡ length (recordOf bucketHead i p w) = rw (size-here .name) at (z .long) in
+        let m = rw (q, length-append (recordOf (today .heads) i p w) (records (today .heads) (suc i) w ws)) at (g .left) in
+        let o : r ≡ length (recordOf (today .heads) i p w) = rw (size-here .name) at (z .long) in
         record {
           ordered = omega arith;
           behind = omega arith;
@@ -93,18 +92,18 @@ pub record Filling (sheet d₀ : List ℕ) (m k a b i : ℕ) (d : List ℕ) : Ty
   pub ordered : a ≤ b
   pub behind : b ≤ k
   pub stands : begins (entriesBytes (drop i (inSheet sheet))) (drop k sheet) ≡ true
-  pub put : Partial (inSheet sheet) d₀ (cursor sheet m a b i) d
+  pub put : Partial today (inSheet sheet) d₀ (cursor sheet m a b i) d
 
 pub fill-start :
     {sheet : List ℕ} {n m : ℕ} {d : List ℕ} → HeldSheet sheet n → length (bookImage (inSheet sheet)) ≤ length d
-    → m ≡ recordsAt layout21 n
+    → m ≡ recordsAt today n
     → Filling sheet d m 7 7 7 0 d
 fill-start {sheet} {d = d} s room e =
     record {
       ordered = omega arith;
       behind = omega arith;
       stands = sheet-stands s;
-      put = start-partial (inSheet sheet) d (s .count) room (record { at = e; index = refl; len = refl });
+      put = start-partial today (inSheet sheet) d (s .count) room (record { at = e; index = refl; len = refl });
     }
 
 module _
@@ -113,7 +112,7 @@ module _
   where
     pub fill-end :
         {total : ℕ} → n ≤ i → total ≡ length (bookImage (inSheet sheet))
-        → finished total n d ≡ overwrite d₀ (bookImage (inSheet sheet))
+        → finished today total n d ≡ overwrite d₀ (bookImage (inSheet sheet))
     fill-end h e = finish-whole (g .put) (s .count) (sheet-ok s) (omega (arith, s .count, g .put .index)) e
 
     module _ (h : i < n) where
@@ -123,12 +122,12 @@ module _
       pub fill-here : Here sheet (inSheet sheet) i k
       fill-here = here sheet (inSheet sheet) (valid-all (inSheet sheet) (sheet-ok s)) i k before (g .stands)
 
-      pub fill-room : PutRoom d n i m (between a b sheet) (between (k + 1) (k + 1 + getD sheet k 0) sheet)
+      pub fill-room : PutRoom (slotAt today n (cursor sheet m a b i)) d (between a b sheet) (between (k + 1) (k + 1 + getD sheet k 0) sheet)
       fill-room = partial-room (g .put) (s .count) before (fill-here .name) (sheet-ok s)
 
       pub fill-turn :
           {v r : ℕ} {new : List ℕ} → v ≡ numberAt 4 sheet (k + 1 + getD sheet k 0)
-          → EntryPut d new n i m (between a b sheet) (between (k + 1) (k + 1 + getD sheet k 0) sheet) v r
+          → EntryPut (slotAt today n (cursor sheet m a b i)) d new (between a b sheet) (between (k + 1) (k + 1 + getD sheet k 0) sheet) v r
           → Filling sheet d₀ r (k + 1 + getD sheet k 0 + 4) (k + 1) (k + 1 + getD sheet k 0) (i + 1) new
       fill-turn {r = r} e p =
           let l = length-take-le (k + 1 + getD sheet k 0 - (k + 1)) (drop (k + 1) sheet)

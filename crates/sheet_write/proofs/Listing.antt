@@ -11,7 +11,7 @@ use Rattle.octets.proofs.Stores.{sets-append, sets-overwrite}
 use Rattle.entries.specs.Entries.{Entry, at, entry, maxEntries, noEntry}
 use Rattle.entries.specs.Names.{longestName}
 use Rattle.answer.specs.Answers.{entriesBytes, entryBytes}
-use Rattle.book.specs.Book.{inBook, layout21, recordsAt}
+use Rattle.book.specs.Book.{inBook, today, recordsAt}
 use Rattle.book_laws.specs.Check.{scoreAt}
 use Rattle.frame.specs.Frame.{framed}
 use Rattle.book_laws.specs.Held.{Held}
@@ -57,7 +57,7 @@ pub record Measuring (book : List ℕ) (total k i : ℕ) : Type 0 where
   pub reading : Reading book k i name
   pub left : total + length (entriesBytes (drop i (inBook book))) ≡ length (sheetImage (inBook book))
 
-pub measure-start : {book : List ℕ} {n k : ℕ} → Held book n → k ≡ recordsAt layout21 n → Measuring book 7 k 0
+pub measure-start : {book : List ℕ} {n k : ℕ} → Held book n → k ≡ recordsAt today n → Measuring book 7 k 0
 unfolding sheetImage
 measure-start {book} b e =
     record {
@@ -80,7 +80,7 @@ module _ {book : List ℕ} {n : ℕ} (b : Held book n) {total k i : ℕ} (g : Me
     pub measure-two : 2 ≤ length (drop k book)
     measure-two = read-inside b (g .reading) h .two
 
-    module _ {p : Parts} (e : p ≡ partsAt i (drop k book)) where
+    module _ {p : Parts} (e : p ≡ partsAt (today .heads) i (drop k book)) where
       measured : Given book k i (sets (g .name) (p .kept) (ownBytes (drop k book) p)) p
       measured = read-turn b (g .reading) h (record { parts = e; bytes = refl })
 
@@ -104,7 +104,7 @@ pub record Writing (book d₀ name : List ℕ) (k m i : ℕ) (d : List ℕ) : Ty
   pub left : sets d m (entriesBytes (drop i (inBook book))) ≡ sets d₀ 7 (entriesBytes (inBook book))
 
 pub write-start :
-    {book : List ℕ} {n k : ℕ} (name : List ℕ) {d : List ℕ} → Held book n → k ≡ recordsAt layout21 n
+    {book : List ℕ} {n k : ℕ} (name : List ℕ) {d : List ℕ} → Held book n → k ≡ recordsAt today n
     → length name ≡ longestName
     → length (sheetImage (inBook book)) ≤ length d → Writing book d name k 7 0 d
 unfolding sheetImage

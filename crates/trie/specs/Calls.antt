@@ -6,16 +6,16 @@ use lib.Dec.{ltb}
 use lib.ListN.{length}
 use Rattle.entries.specs.Completion.{completion, maxCount}
 use Rattle.entries.specs.Names.{isPrefix}
-use Rattle.answer.specs.Answers.{OfferedCounts, Outcome, WrittenCounts, _when_, converting, entriesBytes, writing}
+use Rattle.answer.specs.Answers.{OfferedCounts, Outcome, WrittenCounts, _when_, entriesBytes, writing}
 use Rattle.frame.specs.Frame.{entriesOf, isRead}
-use Rattle.book.specs.Book.{readBook}
+use Rattle.book.specs.Checks.{fromBook}
 use Rattle.completion.specs.Complete.{badCount, entryRoom, offeredAs}
 use Rattle.trie.specs.Reading.{readTrie}
 use Rattle.trie.specs.Trie.{trieImage}
 
 -- write the trie of a book's entries
 unfoldable pub writeTrie : List ℕ → List ℕ → Outcome WrittenCounts
-writeTrie book dst = converting readBook trieImage book dst
+writeTrie book dst = fromBook trieImage book dst
 
 -- completion from a trie, for counts up to a limit: it takes no ranges and reports looks 0
 unfoldable pub completeTrieWithin : ℕ → List ℕ → List ℕ → ℕ → List ℕ → Outcome OfferedCounts

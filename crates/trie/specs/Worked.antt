@@ -12,9 +12,10 @@ use Rattle.entries.specs.Entries.{Entry, entry, valid}
 use Rattle.entries.specs.Names.{allowedBytes, isName, isPrefix, isScore, micro, ohm}
 use Rattle.book.specs.Records.{recordLength, recordName, recordOf}
 use Rattle.answer.specs.Answers.{entriesBytes, entryBytes, writing, writingImage}
-use Rattle.book.specs.Book.{bookImage, entriesIn, imageIn, offset, offsets, peak, peaks, readBook, readIn, recordsAt}
+use Rattle.book.specs.Book.{entriesIn, imageIn, offset, offsets, peak, peaks, readIn, recordsAt}
 use Rattle.book.specs.Book.{scores}
 use Rattle.frame.specs.Frame.{countOf, framed, readAs}
+use Rattle.book.specs.Old.{P3old}
 use Rattle.book.specs.Shown.{E, P1, P2, P3, P4, alternating, answerEntry, answerFor, changed, cutName, cutTrie}
 use Rattle.book.specs.Shown.{fullName, halfName, letters, listed, nineOffered, shownOffered, shownRead, shownWritten}
 use Rattle.book.specs.Shown.{signed, signedBook, signedTrie, spare, µA, µF}
@@ -198,9 +199,15 @@ calls =
     ∷ (shownWritten (writeTrie P1 (spare 8)) gives (0 ∷ 0 ∷ 7 ∷ P2 ++ spare 1))
     ∷ (shownWritten (writeTrie signedBook (spare 30)) gives (0 ∷ 4 ∷ 30 ∷ signedTrie))
     ∷ (shownWritten (writeTrie P1 (spare 6)) gives (7 ∷ 0 ∷ 0 ∷ spare 6))
-    -- no book, which comes first
-    ∷ (shownWritten (writeTrie (take 43 P3) (spare 30)) gives (1 ∷ 0 ∷ 0 ∷ spare 30))
+    -- no book, which comes before 7; an empty buffer
+    ∷ (shownWritten (writeTrie (take 42 P3) (spare 30)) gives (1 ∷ 0 ∷ 0 ∷ spare 30))
     ∷ (shownWritten (writeTrie P4 []) gives (1 ∷ 0 ∷ 0 ∷ []))
+    ∷ (shownWritten (writeTrie [] (spare 30)) gives (1 ∷ 0 ∷ 0 ∷ spare 30))
+    -- an old book, whole, cut off, damaged and of one byte: 10 before 1 and 7
+    ∷ (shownWritten (writeTrie P3old (spare 30)) gives (10 ∷ 0 ∷ 0 ∷ spare 30))
+    ∷ (shownWritten (writeTrie (take 43 P3old) (spare 30)) gives (10 ∷ 0 ∷ 0 ∷ spare 30))
+    ∷ (shownWritten (writeTrie (changed P3 0 (0x21 ∷ [])) []) gives (10 ∷ 0 ∷ 0 ∷ []))
+    ∷ (shownWritten (writeTrie (0x21 ∷ []) (spare 30)) gives (10 ∷ 0 ∷ 0 ∷ spare 30))
     -- completion: "rc" is not lost; a prefix that ends within a label; none; the empty trie with bytes behind it
     ∷ (shownOffered (completeTrie (P4 ++ spare 3) (text "rc") 5 (spare 265))
     gives (0 ∷ 2 ∷ 19 ∷ 0 ∷ answerEntry "rc" 9 ++ answerEntry "rc step" 9 ++ spare 246))
@@ -242,6 +249,9 @@ calls =
     ∷ (shownOffered (completeTrie P4 (replicate 49 0x72) 1 (spare 53)) gives (2 ∷ 0 ∷ 0 ∷ 0 ∷ spare 53))
     ∷ (shownOffered (completeTrie (changed P4 6 (5 ∷ [])) (text "r\u{7f}") 0 []) gives (1 ∷ 0 ∷ 0 ∷ 0 ∷ []))
     ∷ (shownOffered (completeTrie P3 (text "r") 1 (spare 53)) gives (1 ∷ 0 ∷ 0 ∷ 0 ∷ spare 53))
+    -- a buffer lent as a trie is never an old book
+    ∷ (shownOffered (completeTrie P3old (text "r") 1 (spare 53)) gives (1 ∷ 0 ∷ 0 ∷ 0 ∷ spare 53))
+    ∷ (shownOffered (completeTrie (0x21 ∷ []) (text "r") 1 (spare 53)) gives (1 ∷ 0 ∷ 0 ∷ 0 ∷ spare 53))
     ∷ []
 
 abbrev table : List Row
@@ -249,7 +259,7 @@ table = images ++ readings ++ calls
 
 worked : failing 0 table ≡ []
 unfolding be fromBe allowedBytes isPrefix isName isScore valid completion recordOf recordName recordLength framed
-    countOf readAs scores peak peaks recordsAt offset offsets imageIn entriesIn readIn bookImage readBook writing
-    writingImage entryBytes entriesBytes headerByte nodeBytes otherBytes groupBytes nodeOf trieImage scoreSize
-    childSize lastMark labelLength siblingOf behindSibling trieEntries readTrie writeTrie completeTrieWithin
+    countOf readAs scores peak peaks recordsAt offset offsets imageIn entriesIn readIn writing writingImage entryBytes
+    entriesBytes headerByte nodeBytes otherBytes groupBytes nodeOf trieImage scoreSize childSize lastMark labelLength
+    siblingOf behindSibling trieEntries readTrie writeTrie completeTrieWithin
 worked = refl

@@ -12,9 +12,11 @@ ghost use Rattle.trie.specs.Calls.{completeTrie, writeTrie};
 pub fn write_trie(book: &[u8], dst: &mut [u8]) -> Written
     ensures { λ r. ⌜ Answered (writeTrie (now (book .entry)) (now (dst .entry))) r (now (dst .exit)) ⌝ }
 {
-    let Image::Entries(n) = book_check::check(book) else {
-        return Written::Refused(1);
-    };
+    let c = book_check::check(book, &[]);
+    if c.refusal != 0 {
+        return Written::Refused(c.refusal);
+    }
+    let n = c.n;
     let trie_write::TrieRoom::Bytes(total) = trie_write::write(book, n, dst) else {
         return Written::Refused(7);
     };

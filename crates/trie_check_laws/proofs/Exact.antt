@@ -13,7 +13,7 @@ use Rattle.octets.specs.Lists.{_∈_}
 use Rattle.octets.specs.Octets.{be, begins, numberAt}
 use Rattle.octets.proofs.Lists.{all-in, all-of}
 use Rattle.octets.proofs.Numbers.{Bytes, number-stands, stands-number}
-use Rattle.octets.proofs.Order.{begins-append, begins-length, begins-split}
+use Rattle.octets.proofs.Order.{begins-append, begins-first, begins-length, begins-split}
 use Rattle.octets.proofs.Tests.{and-intro, and-true, by-test}
 use Rattle.entries.specs.Entries.{Entry, isEntry, maxEntries, valid}
 use Rattle.entries.specs.Names.{allowedBytes, isName, isPrefix, isScore, longestName}
@@ -22,7 +22,7 @@ use Rattle.entries_laws.proofs.Signs.{allowed-half}
 use Rattle.entries.proofs.Valid.{Valid, score-fits, valid-intro, valid-of}
 use Rattle.frame.specs.Frame.{framed, isRead}
 use Rattle.frame_laws.specs.Test.{frameIs}
-use Rattle.frame_laws.proofs.Test.{FrameTests, frame-passes, frame-tests, version-stands, version-there}
+use Rattle.frame_laws.proofs.Test.{FrameTests, frame-passes, frame-tests, version-stands}
 use Rattle.frame.proofs.Frame.{framed-length, framed-parts}
 use Rattle.trie.specs.Reading.{readTrie}
 use Rattle.trie.specs.Trie.{groupBytes, groupOf, highest, levels, trieImage, usedUp}
@@ -147,7 +147,7 @@ module _ (buf : List ℕ) (b : Bytes buf) (f : FrameTests 0x31 buf) where
       (trie-exact .complete es buf v
       (framed-parts 0x31 (length es) (bodyOf es) buf
       ∙ rw (
-        version-stands 0x31 (omega arith) buf (f .version),
+        version-stands 0x31 buf f,
         number-stands 4 buf 1 b (omega arith) (length (framed 0x31 (length es) (bodyOf es))) (omega arith),
         number-stands 2 buf 5 b (omega arith) (length es) c,
       )
@@ -259,7 +259,7 @@ module _ (buf : List ℕ) (es : List Entry) (h : readTrie buf ≡ some es) where
       let i = inside in
       record {
         long = omega arith;
-        version = version-there 0x31 buf (parts .0);
+        version = begins-first 0x31 buf (parts .0);
         few = rw trie-count (v .few);
         fits = rw total-is i;
       }

@@ -1,114 +1,77 @@
--- `book_check::check` meets its contract: each return gives the test that failed, or all of them, to the law of the
--- answer (proofs/Answer, and frame_code's proofs/Checked). No loop, so no invariant. Assumes nothing.
-use mathlib.Core.Path.{_∙_, sym}
-use native.Mathlib.Omega.{arith}
+-- `book_check::check` meets its contract: byte 0 is looked at before the rest (proofs/Answer). No loop, so no invariant.
+-- Assumes nothing.
+use mathlib.Core.Path.{_∙_, _≡_, subst, sym}
 use borrow.Author.Needs.{needs}
-use borrow.Author.Tests.{not-false, not-true}
-use Rattle.octets.proofs.Numbers.{Bytes}
-use Rattle.frame_code.proofs.Checked.{Framed, frame-held, no-end, no-frame, other-end}
-use Rattle.book_check.proofs.Answer.{Front, book-format, is-book, must-end, no-room, recordsWalk, stale}
+use Rattle.book.specs.declared.Layout.{Layout}
+use Rattle.book.specs.Book.{readIn, today}
+use Rattle.frame_code.specs.Image.{imageAs}
+use Rattle.book_check.specs.Checked.{Located}
+use Rattle.book_check.proofs.Answer.{told-book, told-damaged, told-old}
+use Rattle.book_check.proofs.Held.{checked-damaged, checked-held}
 use Rattle.book_check.proofs.check.Statement.{statement}
 use Rattle.book_check.proofs.check.Tie as tie
 
-bytes : (a : tie.After-check-frame) → Bytes (a .before .before .args .buf .now)
-bytes a i = omega (arith, a .before .shared-slice-known .given i)
+-- the function's start, from the check in today's layout; and what it says
+abbrev start : tie.After-check-in → tie.Start
+start a = a .before .before .before .before .before .before
 
--- from the place where the frame's numbers are known: the call that told them
-abbrev told : tie.After-known-told → tie.After-check-frame
-told k = k .before .before .before
+right :
+    (a : tie.After-check-in)
+    → (a .check-in .result .image ≡ imageAs (readIn today (start a .args .book .now)))
+    × Located today (start a .args .book .now) (start a .args .key .now) (a .check-in .result .seek)
+right a =
+    subst
+    (λ (l : Layout). (a .check-in .result .image ≡ imageAs (readIn l (start a .args .book .now)))
+    × Located l (start a .args .book .now) (start a .args .key .now) (a .check-in .result .seek))
+    (a .before .today .ensures) (a .check-in .ensures)
 
-framed :
-    (k : tie.After-known-told)
-    → Framed 0x21 (told k .before .before .args .buf .now) (k .before .entries .given .0 .0)
-    (k .before .entries .given .0 .1 .0)
-framed k = frame-held _ _ (told k .check-frame .ensures) (k .before .entries .given .1)
+is-old-requires : tie.Need-is-old-requires
+is-old-requires c κs = tt
 
-front :
-    (a : tie.After-records-at)
-    → let k = a .before in
-    Front (told k .before .before .args .buf .now) (k .before .entries .given .0 .0)
-    (k .before .entries .given .0 .1 .0)
-    (a .records-at .result)
-front a = record { bytes = bytes (told (a .before)); frame = framed (a .before); from = a .records-at .ensures }
+refused-requires : tie.Need-refused-requires
+refused-requires c κs = tt
 
-check-frame-requires : tie.Need-check-frame-requires
-check-frame-requires c κs = tt
+returns : tie.Need-returns
+returns c = told-old (c .refused .ensures) (sym (c .before .before .is-old .ensures) ∙ c .before .if1 .taken)
 
-enum-known-entries : tie.Need-enum-known-entries
-enum-known-entries c = search needs
+today-requires : tie.Need-today-requires
+today-requires c κs = tt
+
+check-in-requires : tie.Need-check-in-requires
+check-in-requires c κs = tt
+
+enum-known-image : tie.Need-enum-known-image
+enum-known-image c = search needs
 
 enum-told : tie.Need-enum-told
 enum-told c = search needs
 
-returns : tie.Need-returns
-returns c = let a = c .before .before in
-    no-frame book-format _ (bytes a) (a .check-frame .ensures) (c .enum-told .given .1)
-
-records-at-requires : tie.Need-records-at-requires
-records-at-requires c κs = framed c .few
+refused-requires-2 : tie.Need-refused-requires-2
+refused-requires-2 c κs = tt
 
 returns-2 : tie.Need-returns-2
-returns-2 c = no-room (front (c .before)) (c .if1 .taken)
-
-records-end-requires : tie.Need-records-end-requires
-records-end-requires c κs = (framed (c .before .before) .few, c .if1 .left)
-
-enum-known-end : tie.Need-enum-known-end
-enum-known-end c = search needs
-
-enum-told-2 : tie.Need-enum-told-2
-enum-told-2 c = search needs
+returns-2 c =
+    let a = c .before .before .before .before in
+    let e = a .before .before in
+    told-damaged (c .refused2 .ensures) (sym (e .before .is-old .ensures) ∙ e .if1 .left)
+    (checked-damaged today _ (right a .0) (c .before .enum-told .given .1))
 
 returns-3 : tie.Need-returns-3
 returns-3 c =
-    let e = c .before .before in
-    let f = front (e .before .before) in
-    no-end book-format _ (f .bytes) (f .frame) (recordsWalk f) (must-end f) (e .records-end .ensures)
-    (c .enum-told2 .given .1)
-
--- from the place where the records' end is known: the walk over them
-abbrev walk : tie.After-known-told2 → tie.After-records-end
-walk k = k .before .before .before
-
-returns-4 : tie.Need-returns-4
-returns-4 c =
-    let k = c .before in
-    let f = front (walk k .before .before) in
-    other-end book-format _ (f .bytes) (f .frame) (recordsWalk f) (must-end f) (walk k .records-end .ensures)
-    (k .before .end .given .1)
-    (c .if2 .taken)
-
-peaks-are-requires : tie.Need-peaks-are-requires
-peaks-are-requires c κs = front (walk (c .before) .before .before) .frame .few
-
-returns-5 : tie.Need-returns-5
-returns-5 c =
-    let p = c .before in
-    stale (front (walk (p .before .before) .before .before)) (sym (p .peaks-are .ensures) ∙ not-true _ (c .if3 .taken))
-
-returns-6 : tie.Need-returns-6
-returns-6 c =
-    let p = c .before in
-    let k = p .before .before in
-    is-book (front (walk k .before .before)) (walk k .records-end .ensures) (k .before .end .given .1)
-    (p .before .if2 .left)
-    (walk k .before .if1 .left) (sym (p .peaks-are .ensures) ∙ not-false _ (c .if3 .left))
+    let a = c .before .before .before .before in
+    told-book (checked-held today _ (right a .0) (c .before .image .given .1)) (right a .1)
 
 pub check-spec : {M : Type 1} → statement M
 check-spec =
     tie.close
     (tie.spec
-    check-frame-requires
-    enum-known-entries
-    enum-told
+    is-old-requires
+    refused-requires
     returns
-    records-at-requires
+    today-requires
+    check-in-requires
+    enum-known-image
+    enum-told
+    refused-requires-2
     returns-2
-    records-end-requires
-    enum-known-end
-    enum-told-2
-    returns-3
-    returns-4
-    peaks-are-requires
-    returns-5
-    returns-6)
+    returns-3)

@@ -14,7 +14,6 @@ cast-result : tie.Need-cast-result
 cast-result c = omega arith
 
 returns : tie.Need-returns
-unfolding bookImage
 returns c = c .read-u32 .ensures ∙ held-stored (record { isIt = c .before .before .pre; count = refl }) .total
 
 pub image-length-spec : {M : Type 1} → statement M

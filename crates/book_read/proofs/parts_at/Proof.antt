@@ -19,11 +19,11 @@ returns : tie.Need-returns
 unfolding partsAt
 returns c = rw (← c .before .is-head .ensures, c .if1 .taken)
 
-shared-slice-read-t5 : tie.Need-shared-slice-read-t5
-shared-slice-read-t5 c = search needs
+shared-slice-read-own : tie.Need-shared-slice-read-own
+shared-slice-read-own c = search needs
 
-cast-t8 : tie.Need-cast-t8
-cast-t8 c = omega (arith, c .shared-slice-known3 .given 1)
+cast-own : tie.Need-cast-own
+cast-own c = omega (arith, c .shared-slice-known3 .given 1)
 
 returns-2 : tie.Need-returns-2
 unfolding partsAt
@@ -37,6 +37,6 @@ parts-at-spec =
     cast-first
     is-head-requires
     returns
-    shared-slice-read-t5
-    cast-t8
+    shared-slice-read-own
+    cast-own
     returns-2)

@@ -2,7 +2,6 @@
 -- No loop, so no invariant. Assumes nothing.
 use mathlib.Core.Path.{_∙_, sym}
 use borrow.Author.Needs.{needs}
-use Rattle.book.specs.Records.{bucketHead}
 use Rattle.book_record_read.proofs.RecordParts.{head-part, tail-part}
 use Rattle.book_record_read.proofs.part_at.Statement.{statement}
 use Rattle.book_record_read.proofs.part_at.Tie as tie
@@ -22,7 +21,7 @@ returns c =
     let z = h .before .before .before in
     let a = z .args in
     c .head-part .ensures
-    ∙ head-part bucketHead (a .index) (a .prev .now) (a .s .now) (sym (h .is-head .ensures) ∙ c .before .if1 .taken)
+    ∙ head-part (a .heads) (a .index) (a .prev .now) (a .s .now) (sym (h .is-head .ensures) ∙ c .before .if1 .taken)
 
 returns-2 : tie.Need-returns-2
 returns-2 c =
@@ -30,7 +29,7 @@ returns-2 c =
     let z = h .before .before .before in
     let a = z .args in
     c .tail-part .ensures
-    ∙ tail-part bucketHead (a .index) (a .prev .now) (a .s .now) (sym (h .is-head .ensures)
+    ∙ tail-part (a .heads) (a .index) (a .prev .now) (a .s .now) (sym (h .is-head .ensures)
     ∙ c .before .if1 .left) (z .pre)
 
 pub part-at-spec : {M : Type 1} → statement M

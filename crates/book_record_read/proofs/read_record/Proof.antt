@@ -2,6 +2,7 @@
 -- (proofs/Steps). No loop, so no invariant. Assumes nothing.
 use Prim.Native.Nat.{_+_, _≤_, ℕ}
 use mathlib.Core.Path.{_∙_, _≡_, sym}
+use mathlib.Core.Bool.{false≢true}
 use mathlib.Core.List.{List}
 use lib.ListN.{drop, length, length-drop}
 use lib.Seq.{length-take-le}
@@ -9,12 +10,11 @@ use native.Mathlib.Omega.{arith}
 use borrow.Author.Needs.{needs}
 use Rattle.book_laws.specs.Cursor.{cursorOf, nameIn}
 use Rattle.book_record_read.specs.RecordParts.{recordPart}
-use Rattle.book.specs.Records.{bucketHead}
 use Rattle.book_laws.specs.declared.Cursor.{Cursor}
 use Rattle.book_record_read.specs.declared.Part.the-variants.{Own}
 use Rattle.book_record_read.proofs.RecordParts.{Owned, part-own}
 use Rattle.octets.proofs.Stores.{part-bytes, to-end}
-use Rattle.book_record_read.proofs.Steps.{step-bad, step-own}
+use Rattle.book_record_read.proofs.Steps.{own-keeps, step-bad, step-own}
 use Rattle.book_record_read.proofs.read_record.Statement.{statement}
 use Rattle.book_record_read.proofs.read_record.Tie as tie
 
@@ -47,18 +47,20 @@ Count c = c .part .given .0 .1 .1 .0
 
 told :
     (c : tie.After-part)
-    → recordPart bucketHead (start c .args .index) (nameIn (C (start c))) (S (start c)) ≡ Own (Kept c) (From c)
-    (Count c)
+    → recordPart (start c .args .heads) (start c .args .index) (nameIn (C (start c))) (S (start c))
+    ≡ Own (Kept c) (From c) (Count c)
 told c =
     let a = start c .args in
     rw (to-end (a .src .now) (a .at)) at (sym (c .before .before .part-at .ensures) ∙ c .part .given .1)
 
 owned :
     (c : tie.After-part)
-    → Owned bucketHead (start c .args .index) (nameIn (C (start c))) (S (start c)) (Kept c) (From c) (Count c)
+    → Owned (start c .args .heads) (start c .args .index) (nameIn (C (start c))) (S (start c)) (Kept c) (From c)
+    (Count c)
 owned c =
     let z = start c in
-    part-own bucketHead (z .args .index) (nameIn (C z)) (S z) (Kept c) (From c) (Count c) (z .pre .0 .allowed) (told c)
+    part-own (z .args .heads) (z .args .index) (nameIn (C z)) (S z) (Kept c) (From c) (Count c) (z .pre .0 .allowed)
+    (told c)
 
 inside : (c : tie.After-part) → start c .args .at + (From c + Count c) ≤ length (start c .args .src .now)
 inside c =
@@ -113,24 +115,26 @@ copy-requires c κs = search needs
 abbrev found : tie.After-slice-known2 → tie.After-part
 found c = c .before .before .before .before .before .before
 
-add-t20 : tie.Need-add-t20
-add-t20 c = omega (arith, inside (found c))
+add-end : tie.Need-add-end
+add-end c = omega (arith, inside (found c))
 
-add-t22 : tie.Need-add-t22
-add-t22 c = omega (arith, inside (found c))
+add-end-2 : tie.Need-add-end-2
+add-end-2 c = omega (arith, inside (found c))
 
-add-t25 : tie.Need-add-t25
-add-t25 c = omega (arith, owned (found c) .short)
+add-long : tie.Need-add-long
+add-long c = omega (arith, owned (found c) .short)
 
 same-length : tie.Need-same-length
 same-length c = search needs
 
 returns : tie.Need-returns
 returns c =
-    let z = begin-of-enum-told c in
-    step-bad (z .args .src .now) (C z) (z .pre .0)
-    (rw (to-end (z .args .src .now) (z .args .at)) at (sym (c .before .before .part-at .ensures)
-    ∙ c .enum-told .given .1))
+    let z = begin-of-enum-told c in (
+      step-bad (z .args .heads) (z .args .src .now) (C z) (z .pre .0)
+          (rw (to-end (z .args .src .now) (z .args .at)) at (sym (c .before .before .part-at .ensures)
+          ∙ c .enum-told .given .1)),
+      λ t. absurd (false≢true t),
+    )
 
 same-length-2 : tie.Need-same-length-2
 same-length-2 c = search needs
@@ -139,12 +143,16 @@ returns-2 : tie.Need-returns-2
 returns-2 c =
     let p = found c in
     let z = start p in
-    step-own (z .args .src .now) (C z) (z .pre .0) (z .pre .1) (Kept p) (From p) (Count p)
-    (c .before .before .copy .last .0) (told p)
-    (rw (
-      to-end (z .args .src .now) (z .args .at),
-      part-bytes (S z) (From p) (Count p),
-    ) at (c .before .before .copy .ensures))
+    let src = z .args .src .now in
+    let y = c .before .before .copy in
+    let name = y .last .0 in
+    let m = rw (to-end src (z .args .at), part-bytes (S z) (From p) (Count p)) at (y .ensures) in (
+      step-own (z .args .heads) src (C z) (z .pre .0) (z .pre .1) (Kept p) (From p) (Count p) name (told p) m,
+      λ t. (
+        omega arith,
+        own-keeps (z .args .heads) src (C z) (z .pre .0) (z .pre .1) (Kept p) (From p) (Count p) name (told p) m,
+      ),
+    )
 
 pub read-record-spec : {M : Type 1} → statement M
 read-record-spec =
@@ -163,9 +171,9 @@ read-record-spec =
     part-copy-start
     part-copy-end
     copy-requires
-    add-t20
-    add-t22
-    add-t25
+    add-end
+    add-end-2
+    add-long
     same-length
     returns
     same-length-2

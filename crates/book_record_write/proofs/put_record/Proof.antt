@@ -2,7 +2,7 @@
 -- No loop, so no invariant. Assumes nothing.
 use mathlib.Core.Path.{_∙_, _≡_, sym}
 use borrow.Author.Needs.{needs}
-use Rattle.book.specs.Records.{bucketHead, recordOf}
+use Rattle.book.specs.Records.{recordOf}
 use Rattle.book_record_write.specs.Written.{headRecord, tailRecord}
 use Rattle.book_record_write.proofs.Writing.{record-head, record-tail}
 use Rattle.book_record_write.proofs.put_record.Statement.{statement}
@@ -31,18 +31,18 @@ else1 c = c .before .before .before .before
 headed :
     (c : tie.Then1)
     → let a = begin c .args in
-    recordOf bucketHead (a .index) (a .prev .now) (a .name .now) ≡ headRecord (a .name .now)
+    recordOf (a .heads) (a .index) (a .prev .now) (a .name .now) ≡ headRecord (a .name .now)
 headed c =
     let a = begin c .args in
-    record-head bucketHead (a .index) (a .prev .now) (a .name .now) (sym (c .before .is-head .ensures) ∙ c .if1 .taken)
+    record-head (a .heads) (a .index) (a .prev .now) (a .name .now) (sym (c .before .is-head .ensures) ∙ c .if1 .taken)
 
 tailed :
     (c : tie.Else1)
     → let a = begin-of-else1 c .args in
-    recordOf bucketHead (a .index) (a .prev .now) (a .name .now) ≡ tailRecord (a .prev .now) (a .name .now)
+    recordOf (a .heads) (a .index) (a .prev .now) (a .name .now) ≡ tailRecord (a .prev .now) (a .name .now)
 tailed c =
     let a = begin-of-else1 c .args in
-    record-tail bucketHead (a .index) (a .prev .now) (a .name .now) (sym (c .before .is-head .ensures) ∙ c .if1 .left)
+    record-tail (a .heads) (a .index) (a .prev .now) (a .name .now) (sym (c .before .is-head .ensures) ∙ c .if1 .left)
 
 is-head-requires : tie.Need-is-head-requires
 is-head-requires c κs = search needs

@@ -5,7 +5,6 @@ use lib.ListN.{length}
 use native.Mathlib.Omega.{arith}
 use borrow.Author.Needs.{needs}
 use Rattle.octets.proofs.Coding.{common-le}
-use Rattle.book.specs.Records.{bucketHead}
 use Rattle.book_record_write.proofs.Writing.{record-head, record-tail, tail-length}
 use Rattle.book_record_write.proofs.record_size.Statement.{statement}
 use Rattle.book_record_write.proofs.record_size.Tie as tie
@@ -40,7 +39,7 @@ add-result-2 c = omega arith
 returns : tie.Need-returns
 returns c =
     let a = begin-of-then1 c .args in
-    let q = record-head bucketHead (a .index) (a .prev .now) (a .name .now) (sym (c .before .is-head .ensures)
+    let q = record-head (a .heads) (a .index) (a .prev .now) (a .name .now) (sym (c .before .is-head .ensures)
     ∙ c .if1 .taken) in
     record { long = omega (arith, ap length q); small = omega arith }
 
@@ -48,7 +47,7 @@ returns-2 : tie.Need-returns-2
 returns-2 c =
     let e = c .before in
     let a = begin-of-else1 e .args in
-    let q = record-tail bucketHead (a .index) (a .prev .now) (a .name .now) (sym (e .before .is-head .ensures)
+    let q = record-tail (a .heads) (a .index) (a .prev .now) (a .name .now) (sym (e .before .is-head .ensures)
     ∙ e .if1 .left) in
     record {
       long = omega (arith, ap length q, tail-length (a .prev .now) (a .name .now), c .common-prefix .ensures);

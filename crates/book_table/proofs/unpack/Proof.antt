@@ -22,21 +22,24 @@ abbrev begin : tie.After-slice-known3 Inv-loop μ-loop → tie.Start Inv-loop μ
 begin c = c .before .before .before .before
 
 abbrev begin-of-records-at : tie.After-records-at Inv-loop μ-loop → tie.Start Inv-loop μ-loop
-begin-of-records-at c = begin (c .before)
+begin-of-records-at c = begin (c .before .before)
 
 abbrev after-put-row-arg : tie.After-slice-known4 Inv-loop μ-loop → tie.After-put-row-arg Inv-loop μ-loop
 after-put-row-arg c = c .before .before .before .before
 
 -- the entry, from the loop's head
 abbrev start : tie.At-loop Inv-loop μ-loop → tie.Start Inv-loop μ-loop
-start l = l .before .before .before .before .before .before
+start l = begin-of-records-at (l .before)
+
+today-requires : tie.Need-today-requires Inv-loop μ-loop
+today-requires c κs = tt
 
 records-at-requires : tie.Need-records-at-requires Inv-loop μ-loop
-records-at-requires c κs = held-few (begin c .pre .0)
+records-at-requires c κs = held-few (begin (c .before) .pre .0)
 
 loop-holds : tie.Need-loop-holds Inv-loop μ-loop
 loop-holds c = let s = begin-of-records-at c in
-    unpack-start _ (s .pre .0) (s .pre .1) (c .records-at .ensures) (search needs)
+    unpack-start _ (s .pre .0) (s .pre .1) (rw (c .before .today .ensures) at (c .records-at .ensures)) (search needs)
 
 slice-aggregate-read-name : tie.Need-slice-aggregate-read-name Inv-loop μ-loop
 slice-aggregate-read-name c = search needs
@@ -54,7 +57,7 @@ turn r = r .before .before
 given :
     (r : tie.After-read-name Inv-loop μ-loop)
     → let l = turn r .before in
-    Given (start l .args .book .now) (l .loop .at) (l .loop .i) (r .read-name .last .1 .1 .1 .0) (r .read-name .result)
+    Given (start l .args .book .now) (l .loop .at) (l .loop .i) (r .read-name .last .1 .1 .1 .1 .0) (r .read-name .result)
 given r =
     let k = turn r in
     let l = k .before in
@@ -142,6 +145,7 @@ unpack-spec =
     (tie.spec
     Inv-loop
     μ-loop
+    today-requires
     records-at-requires
     loop-holds
     slice-aggregate-read-name

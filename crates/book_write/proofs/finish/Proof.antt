@@ -21,7 +21,7 @@ returns : tie.Need-returns
 returns c =
     let f = c .before .before in
     let p = after-put-peaks f in
-    book-finished _ _ _ (p .put-peaks .ensures) (f .put-frame .ensures)
+    book-finished _ _ _ _ (p .put-peaks .ensures) (f .put-frame .ensures)
 
 pub finish-spec : {M : Type 1} → statement M
 finish-spec = tie.close (tie.spec put-peaks-requires put-frame-requires same-length returns)

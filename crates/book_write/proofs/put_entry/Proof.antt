@@ -14,7 +14,7 @@ abbrev after-write-u32 : tie.After-put-offset → tie.After-write-u32
 after-write-u32 c = c .before .before .before .before
 
 abbrev begin : tie.After-score-start → tie.Start
-begin c = c .before .before .before .before .before
+begin c = c .before .before .before .before .before .before
 
 score-start-requires : tie.Need-score-start-requires
 score-start-requires c κs = omega arith
@@ -38,8 +38,7 @@ returns c =
     let s = after-write-u32 o in
     let p = s .before in
     let z = begin p in
-    entry-put (z .args .dst .now) (z .args .n) (z .args .index) (z .args .at) (z .args .prev .now) (z .args .name .now)
-    (z .args .score)
+    entry-put (z .args .slot) (z .args .dst .now) (z .args .prev .now) (z .args .name .now) (z .args .score)
     (p .score-start .ensures) (s .write-u32 .ensures) (o .put-offset .ensures) (r .put-record .ensures)
 
 pub put-entry-spec : {M : Type 1} → statement M

@@ -33,7 +33,7 @@ returns c =
     let b = p .before .before in
     let e = b .before in
     let a = e .before .before .before .args in
-    peak-stored (a .n) (a .j) (a .dst .now) (e .block-end .ensures) (b .best-between .ensures .0)
+    peak-stored (a .l) (a .n) (a .j) (a .dst .now) (e .block-end .ensures) (b .best-between .ensures .0)
     (p .peak-start .ensures) (w .write-u16 .ensures)
 
 pub put-peak-spec : {M : Type 1} → statement M

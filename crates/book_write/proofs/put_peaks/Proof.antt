@@ -9,16 +9,16 @@ use Rattle.book_write.proofs.put_peaks.Statement.{statement}
 use Rattle.book_write.proofs.put_peaks.Tie as tie
 
 abbrev Inv-loop : tie.InvT-loop
-Inv-loop dst₀ n blocks j₀ dst j = PeaksLeft dst₀ n dst j
+Inv-loop dst₀ l n blocks j₀ dst j = PeaksLeft l dst₀ n dst j
 
 abbrev μ-loop : tie.MeasureT-loop
-μ-loop dst₀ n blocks j₀ dst j = ceil n blockSize - j
+μ-loop dst₀ l n blocks j₀ dst j = ceil n blockSize - j
 
 blocks-requires : tie.Need-blocks-requires Inv-loop μ-loop
 blocks-requires c κs = omega arith
 
 loop-holds : tie.Need-loop-holds Inv-loop μ-loop
-loop-holds c = let a = c .before .before .args in peaks-start (a .dst .now) (a .n)
+loop-holds c = let a = c .before .before .args in peaks-start (a .l) (a .dst .now) (a .n)
 
 put-peak-requires : tie.Need-put-peak-requires Inv-loop μ-loop
 put-peak-requires c κs = omega arith

@@ -34,7 +34,7 @@ run-requires c κs =
 -- the machine has run from its start
 ran : (r : tie.After-run) → let z = begin r in
     Ran (inBook (z .args .book .now)) (replicate maxCount noRange)
-    (begunAs (length (inBook (z .args .book .now))) (z .args .k)
+    (begunAs (inBook (z .args .book .now)) (z .args .prefix .now) (z .args .k)
     (asked (z .args .book .now) (z .args .prefix .now) (z .args .k) (length (z .args .dst .now)) (z .args .k)))
     (r .run .result)
 ran r = let n = r .before in rw (n .before .start-machine .ensures, n .no-ranges .ensures) at (r .run .ensures)
@@ -47,7 +47,7 @@ write-answer-requires c κs =
     (replicate maxCount noRange) (r .run .result) (omega arith) (ran r)
 
 same-length : tie.Need-same-length
-same-length c = c .before .before .write-answer .kept .1 .1 .0
+same-length c = c .before .before .write-answer .kept .1 .1 .1 .0
 
 returns : tie.Need-returns
 returns c =

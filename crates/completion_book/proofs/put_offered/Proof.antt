@@ -1,76 +1,96 @@
--- `completion_book::put_offered` meets its contract. The loop's invariant: with the entries left written now, what is
--- written is the whole answer (proofs/Putting). The measure is the number of entries left. Assumes nothing.
-use Prim.Native.Nat.{_-_}
-use mathlib.Core.Path.{_≡_}
-use lib.ListN.{length, take}
+-- `completion_book::put_offered` meets its contract: the names are unpacked into rows, then the entries are written.
+-- No loop, so no invariant. Assumes nothing.
+use Prim.Native.Nat.{_≤_}
+use mathlib.Core.Path.{_≡_, sym}
+use lib.ListN.{length}
+use lib.Seq.{length-take-le}
 use native.Mathlib.Omega.{arith}
 use borrow.Author.Needs.{needs}
 use Rattle.entries.specs.Completion.{maxCount}
-use Rattle.completion_book.proofs.Putting.{PutLeft, put-end, put-inside, put-room, put-start, put-turn}
+use Rattle.completion_book.proofs.Putting.{offered-fillable, offered-room, offered-written}
 use Rattle.completion_book.proofs.put_offered.Statement.{statement}
 use Rattle.completion_book.proofs.put_offered.Tie as tie
 
-abbrev Inv-loop : tie.InvT-loop
-Inv-loop book dst₀ n count offered end₀ i₀ dst end i = PutLeft book dst₀ (take count offered) dst end i
-
-abbrev μ-loop : tie.MeasureT-loop
-μ-loop book dst₀ n count offered end₀ i₀ dst end i = count - i
-
--- the entry, seen from the loop's test, and the array of positions
-abbrev start : tie.At-loop Inv-loop μ-loop → tie.Start Inv-loop μ-loop
-start l = l .before .before .before .before
-
-long : (z : tie.Start Inv-loop μ-loop) → length (z .args .s .offered) ≡ maxCount
+-- the array of positions, and those offered
+long : (z : tie.Start) → length (z .args .s .offered) ≡ maxCount
 long z = search needs
 
-loop-holds : tie.Need-loop-holds Inv-loop μ-loop
-loop-holds c = put-start _ _ _
+taken : (z : tie.Start) → z .args .s .count ≤ length (z .args .s .offered)
+taken z = omega (arith, long z, z .pre .few)
 
-mul-put-position : tie.Need-mul-put-position Inv-loop μ-loop
-mul-put-position c = search needs
+-- places that the proofs below look back to
+abbrev start : tie.After-primed → tie.Start
+start c = c .before .before .before .before .before
 
-array-read-put-position : tie.Need-array-read-put-position Inv-loop μ-loop
-array-read-put-position c = search needs
+abbrev primed : tie.After-lens → tie.After-primed
+primed c = c .before .before .before
 
-put-position-requires : tie.Need-put-position-requires Inv-loop μ-loop
-put-position-requires c κs =
-    let l = c .before .before in
-    let z = start l in
-    let t = c .before .loop-test .taken in
-    (z .pre .held, put-inside (z .pre) (long z) (l .loop .inv) t, put-room (z .pre) (long z) (l .loop .inv) t)
+abbrev filled : tie.After-lens3 → tie.After-fill
+filled c = c .before .before .before .before .before
 
-add-i : tie.Need-add-i Inv-loop μ-loop
-add-i c = search needs
+primed-requires : tie.Need-primed-requires
+primed-requires c κs = tt
 
-loop-less : tie.Need-loop-less Inv-loop μ-loop
-loop-less c = omega arith
+array-share-prefix-offered : tie.Need-array-share-prefix-offered
+array-share-prefix-offered c = taken (start c)
 
-loop-again : tie.Need-loop-again Inv-loop μ-loop
-loop-again c =
-    let p = c .before .before in
-    let l = p .before .before .before in
-    let z = start l in
-    put-turn (z .pre) (long z) (l .loop .inv) (p .before .before .loop-test .taken) (p .put-position .ensures .0)
-    (p .put-position .ensures .1)
+slice-aggregate-fill : tie.Need-slice-aggregate-fill
+slice-aggregate-fill c =
+    let z = start (c .before) in
+    sym (length-take-le (z .args .s .count) (z .args .s .offered) (taken z))
 
-same-length : tie.Need-same-length Inv-loop μ-loop
-same-length c = c .before .loop .inv .same
+slice-aggregate-fill-2 : tie.Need-slice-aggregate-fill-2
+slice-aggregate-fill-2 c = search needs
 
-returns : tie.Need-returns Inv-loop μ-loop
-returns c = let l = c .before in put-end (start l .pre) (long (start l)) (l .loop .inv) (c .loop-test .left)
+slice-aggregate-fill-3 : tie.Need-slice-aggregate-fill-3
+slice-aggregate-fill-3 c = search needs
+
+fill-requires : tie.Need-fill-requires
+fill-requires c κs =
+    let p = primed c in
+    let z = start p in
+    (z .pre .held, offered-fillable (z .pre) (long z) (p .primed .ensures), offered-room (z .pre) (long z))
+
+array-share-prefix-offered-2 : tie.Need-array-share-prefix-offered-2
+array-share-prefix-offered-2 c = taken (start (primed (c .before .before .before)))
+
+slice-aggregate-put-entries : tie.Need-slice-aggregate-put-entries
+slice-aggregate-put-entries c =
+    let z = start (primed (c .before .before .before .before)) in
+    sym (length-take-le (z .args .s .count) (z .args .s .offered) (taken z))
+
+slice-aggregate-put-entries-2 : tie.Need-slice-aggregate-put-entries-2
+slice-aggregate-put-entries-2 c = search needs
+
+slice-aggregate-put-entries-3 : tie.Need-slice-aggregate-put-entries-3
+slice-aggregate-put-entries-3 c = search needs
+
+put-entries-requires : tie.Need-put-entries-requires
+put-entries-requires c κs =
+    let f = filled (c .before) in
+    let z = start (primed (f .before)) in
+    offered-written (z .pre) (long z) (search needs) (search needs) (f .fill .ensures)
+
+same-length : tie.Need-same-length
+same-length c = search needs
+
+returns : tie.Need-returns
+returns c = search needs
 
 pub put-offered-spec : {M : Type 1} → statement M
 put-offered-spec =
     tie.close
     (tie.spec
-    Inv-loop
-    μ-loop
-    loop-holds
-    mul-put-position
-    array-read-put-position
-    put-position-requires
-    add-i
-    loop-less
-    loop-again
+    primed-requires
+    array-share-prefix-offered
+    slice-aggregate-fill
+    slice-aggregate-fill-2
+    slice-aggregate-fill-3
+    fill-requires
+    array-share-prefix-offered-2
+    slice-aggregate-put-entries
+    slice-aggregate-put-entries-2
+    slice-aggregate-put-entries-3
+    put-entries-requires
     same-length
     returns)

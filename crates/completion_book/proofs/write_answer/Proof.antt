@@ -18,16 +18,16 @@ returns : tie.Need-returns
 returns c = let t = ne-eqb _ 0 (c .if1 .taken) in record { answer = rw t; left = rw t }
 
 put-offered-requires : tie.Need-put-offered-requires
-put-offered-requires c κs = let e = c .before in e .before .before .before .pre (e .if1 .left)
+put-offered-requires c κs = let e = c .before in e .before .before .before .before .pre (e .if1 .left)
 
 same-length : tie.Need-same-length
-same-length c = c .before .before .put-offered .kept .1 .1 .0
+same-length c = c .before .before .put-offered .kept .1 .1 .1 .0
 
 returns-2 : tie.Need-returns-2
 returns-2 c =
     let p = c .before .before in
     let e = p .before .before in
-    let z = e .before .before .before in
+    let z = e .before .before .before .before in
     let t = eq-eqb (z .args .s .refusal) 0 (e .if1 .left) in
     let w = z .pre (e .if1 .left) in
     record {

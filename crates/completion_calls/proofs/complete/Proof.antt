@@ -200,36 +200,46 @@ module _ {M : Type 1} (𝓤 : URA M) (H : Heap 𝓤) (A : Atoms 𝓤) (W : Given
   -- `write_answer`, at the machine f with the machine value w
   abbrev to-finish : Progress → Val → Finish 𝓤 H A mem run .Ghost
   to-finish f w = (
-    ((κ₀, (κ₂, tt)), (q₀, (q₂, tt)), tt, (bk, (f, (ds, tt))), (sv bk ∷ [], (w ∷ [], (sv ds ∷ [], tt)))),
+    (
+      (κ₀, (κ₁, (κ₂, tt))),
+      (q₀, (q₁, (q₂, tt))),
+      tt,
+      (bk, (px, (f, (ds, tt)))),
+      (sv bk ∷ [], (sv px ∷ [], (w ∷ [], (sv ds ∷ [], tt)))),
+    ),
     tt,
   )
 
-  goes-finish : (f : Progress) (w : Val) → Is N.the-row f (w ∷ []) → (f .refusal ≡ 0 → Writable (bk .now) (ds .now) f)
-      → ent 𝓤 (⋆ 𝓤 H A ((‵ (flft κ₀ q₀) ⊛ ‵ (flft κ₂ q₂)) ∷ ‵ Bk ∷ ‵ Ds
+  goes-finish : (f : Progress) (w : Val) → Is N.the-row f (w ∷ [])
+      → (f .refusal ≡ 0 → Writable (bk .now) (px .now) (ds .now) f)
+      → ent 𝓤 (⋆ 𝓤 H A ((‵ (flft κ₀ q₀) ⊛ ‵ (flft κ₁ q₁) ⊛ ‵ (flft κ₂ q₂)) ∷ (‵ Bk ⊛ ‵ Px) ∷ ‵ Ds
       ∷ [])) (Finish 𝓤 H A mem run .pre (to-finish f w))
   goes-finish f w isw ok =
-      qed W ((‵ (flft κ₀ q₀) ⊛ ‵ (flft κ₂ q₂)) ∷ ‵ Bk ∷ ‵ Ds ∷ []) ∵ says ! ok $ split ! $ nothing ! $
-      move ! (2 ∷ 0 ∷ []) $ join ! $ move ! (1 ∷ 0 ∷ []) $ join ! $ frame ! $
-      nothing ! $ move ! (2 ∷ 0 ∷ []) $ fjoin ! $
+      qed W ((‵ (flft κ₀ q₀) ⊛ ‵ (flft κ₁ q₁) ⊛ ‵ (flft κ₂ q₂)) ∷ (‵ Bk ⊛ ‵ Px) ∷ ‵ Ds ∷ []) ∵ says ! ok $ split ! $
+      move ! (1 ∷ []) $ split ! $ nothing ! $ move ! (2 ∷ 0 ∷ []) $ join ! $ move ! (1 ∷ 0 ∷ []) $ join ! $
+      move ! (1 ∷ 0 ∷ []) $ join ! $ frame ! $
+      -- [bk and px; ds]
+      split ! $ nothing ! $ move ! (3 ∷ 0 ∷ []) $ fjoin ! $
       owned ! N.the-row (Is N.the-row) (LL.makes N.the-type N′.the-plain 𝓤 H A) f _ isw $ fjoin ! $
-      move ! (1 ∷ 0 ∷ []) $ fjoin ! $ done !
+      move ! (2 ∷ 0 ∷ []) $ fjoin ! $ move ! (1 ∷ 0 ∷ []) $ fjoin ! $ done !
 
   exits : (r : Completion) (u : Val) (f : Progress) (zs : List Range) (ws : List ℕ) → Ran f zs
       → length zs ≡ length (rs .now) → Wrote f r ws → length ws ≡ length (ds .now)
-      → ent 𝓤 (⋆ 𝓤 H A (‵ (S.the-row .own r (u ∷ [])) ∷ (‵ (flft κ₀ q₀) ⊛ ‵ (flft κ₂ q₂) ⊛ ‵ ftrue)
+      → ent 𝓤 (⋆ 𝓤 H A (‵ (S.the-row .own r (u ∷ [])) ∷ (‵ (flft κ₀ q₀) ⊛ ‵ (flft κ₁ q₁) ⊛ ‵ (flft κ₂ q₂) ⊛ ‵ ftrue)
       ∷ ‵ (finally u8 (ds .name) ws) ∷ ‵ Bk ∷ (‵ (flft κ₃ q₃) ⊛ ‵ ftrue) ∷ ‵ (finally R.the-row (rs .name) zs)
-      ∷ ‵ (flft κ₁ q₁) ∷ ‵ Px ∷ [])) (Post u)
+      ∷ ‵ Px ∷ [])) (Post u)
   exits r u f zs ws e len e′ len′ =
-      qed W (‵ (S.the-row .own r (u ∷ [])) ∷ (‵ (flft κ₀ q₀) ⊛ ‵ (flft κ₂ q₂) ⊛ ‵ ftrue) ∷ ‵ (finally u8 (ds .name) ws)
-      ∷ ‵ Bk ∷ (‵ (flft κ₃ q₃) ⊛ ‵ ftrue) ∷ ‵ (finally R.the-row (rs .name) zs) ∷ ‵ (flft κ₁ q₁) ∷ ‵ Px ∷ []) ∵
+      qed W (‵ (S.the-row .own r (u ∷ [])) ∷ (‵ (flft κ₀ q₀) ⊛ ‵ (flft κ₁ q₁) ⊛ ‵ (flft κ₂ q₂) ⊛ ‵ ftrue)
+      ∷ ‵ (finally u8 (ds .name) ws) ∷ ‵ Bk ∷ (‵ (flft κ₃ q₃) ⊛ ‵ ftrue) ∷ ‵ (finally R.the-row (rs .name) zs)
+      ∷ ‵ Px ∷ []) ∵
       suffices ! _ (ends-at 𝓤 H A self.ended stayed (self.clauses 𝓤 H A mem run) W
       (((κ₀, (κ₁, (κ₂, (κ₃, tt)))), (q₀, (q₁, (q₂, (q₃, tt)))), tt, a, vals), tt) u r (
         tt,
         (tt, (tt, (ws, (zs, tt)))),
       ) (tt, (tt, (tt, (len′, (len, tt)))))) $
       says ! (completes (bk .now) (px .now) k (ds .now) (rs .now) e e′ len) $
-      move ! (1 ∷ []) $ split ! $ move ! (1 ∷ []) $ split ! $ move ! (0 ∷ 6 ∷ []) $ join ! $ move ! (7 ∷ 0 ∷ []) $
-      join ! $ move ! (2 ∷ 0 ∷ []) $ join ! $ frame ! $
+      move ! (1 ∷ []) $ split ! $ move ! (1 ∷ []) $ split ! $ move ! (1 ∷ []) $ split ! $ move ! (0 ∷ 7 ∷ []) $
+      join ! $ move ! (2 ∷ 0 ∷ []) $ join ! $ move ! (2 ∷ 0 ∷ []) $ join ! $ frame ! $
       -- [true; the result; the last bytes; bk; the last ranges; px]
       move ! (4 ∷ 0 ∷ []) $ fjoin ! $ move ! (2 ∷ 0 ∷ []) $ fjoin ! $
       owned ! usize (Is usize) (uint-makes 𝓤 H A W w64) k _ (refl, k-fits) $ fjoin ! $ move ! (3 ∷ 0 ∷ []) $
@@ -315,7 +325,7 @@ module _ {M : Type 1} (𝓤 : URA M) (H : Heap 𝓤) (A : Atoms 𝓤) (W : Given
         peeks ! N.the-row (Is N.the-row) (shows 𝓤 H A N.the-row) f (w ∷ []) (λ isw.
         land ! (from ! (stop !)) (init ! 21 refl (LL.lawful N.the-type N′.the-laws 𝓤 H A W .typed f _ isw .0)) $
         drop ! $
-        -- write_answer(book, s, dst)
+        -- write_answer(book, prefix, s, dst)
         assigns ! (addr ! (from ! (fld ! refl (hop ! (look-in ! 26 (sub ! 0 refl (whole !))) (stop !)))))
         (from ! (stop !)) (init ! 10 refl (tt, tt)) $
         assigns ! (agg ! (and-then ! (load ! (from ! (stop !)) (look ! 10 refl))
@@ -323,26 +333,32 @@ module _ {M : Type 1} (𝓤 : URA M) (H : Heap 𝓤) (A : Atoms 𝓤) (W : Given
         (from ! (stop !)) (init ! 8 refl (tt, (tt, (record { fits = d-room .0 }, tt)))) $
         split ! $ move ! (5 ∷ []) $ use1 W (‵ Bk ⊛ ‵ Bk) (shr-slice-copy 𝓤 H A W (named 0) κ₀ u8 .twice bk (sv bk
         ∷ [])) $ split ! $
-        move ! (2 ∷ 39 ∷ 0 ∷ 38 ∷ []) $ join ! $
+        move ! (9 ∷ []) $ use1 W (‵ Px ⊛ ‵ Px) (shr-slice-copy 𝓤 H A W (named 1) κ₁ u8 .twice px (sv px ∷ [])) $
+        split ! $
+        move ! (9 ∷ 40 ∷ 4 ∷ 2 ∷ 0 ∷ 39 ∷ []) $ join ! $ move ! (1 ∷ 0 ∷ []) $ join ! $ move ! (1 ∷ 2 ∷ []) $ join ! $
+        move ! (1 ∷ 0 ∷ 2 ∷ []) $
         use3 W (raw (Finish 𝓤 H A mem run .pre (to-finish f w)))
         (goes-finish f w isw (writable (bk .now) (px .now) k (ds .now) (rs .now) e₁)) $
-        -- [what `write_answer` asks; book; ranges' token; the last ranges; true; true; prefix's token; true; prefix;
-        -- _13; …]
+        -- [what `write_answer` asks; prefix; book; ranges' token; the last ranges; true; true; true; _13; …]
         calls-at ! fm (Finish 𝓤 H A mem run) known-finish (to-finish f w)
-        (and-then ! (load ! (from ! (stop !)) (look ! 33 refl))
-        (and-then ! (load ! (from ! (stop !)) (look ! 21 refl))
-        (and-then ! (load ! (from ! (stop !)) (look ! 9 refl)) (no-more !)))) (λ u.
-        use1 W (later (some (λ (r : Completion). ((‵ (flft κ₀ q₀) ⊛ ‵ (flft κ₂ q₂) ⊛ ‵ ftrue) ⊛ ‵ (S.the-row .own r (u
-        ∷ []))) ⊛ some (λ (ws : Unit {0}
-        × (Unit {0} × (List ℕ × Unit {0}))). ‵ (lasts finish.ended (κ₀, (κ₂, tt)) (bk, (f, (ds, tt))) ws) ⊛ raw
-        (fact 𝓤 (Wrote f r (ws .1 .1 .0))))))) (id⊢ 𝓤 _) $ await ! tt $ pick ! (λ r.
+        (and-then ! (load ! (from ! (stop !)) (look ! 32 refl))
+        (and-then ! (load ! (from ! (stop !)) (look ! 30 refl))
+        (and-then ! (load ! (from ! (stop !)) (look ! 20 refl))
+        (and-then ! (load ! (from ! (stop !)) (look ! 8 refl)) (no-more !))))) (λ u.
+        use1 W (later (some (λ (r : Completion). ((‵ (flft κ₀ q₀) ⊛ ‵ (flft κ₁ q₁) ⊛ ‵ (flft κ₂ q₂) ⊛ ‵ ftrue)
+        ⊛ ‵ (S.the-row .own r (u ∷ []))) ⊛ some (λ (ws : Unit {0}
+        × (Unit {0} × (Unit {0} × (List ℕ × Unit {0})))). ‵ (lasts finish.ended (κ₀, (κ₁, (κ₂, tt)))
+        (bk, (px, (f, (ds, tt)))) ws) ⊛ raw
+        (fact 𝓤 (Wrote f r (ws .1 .1 .1 .0))))))) (id⊢ 𝓤 _) $ await ! tt $ pick ! (λ r.
         split ! $ move ! (1 ∷ []) $ pick ! (λ ws. split ! $ move ! (1 ∷ []) $
-        heard ! (Wrote f r (ws .1 .1 .0)) (λ e₂. fsplit ! $ move ! (1 ∷ []) $ fsplit ! $ move ! (1 ∷ []) $ fsplit ! $
+        heard ! (Wrote f r (ws .1 .1 .1 .0)) (λ e₂. fsplit ! $ move ! (1 ∷ []) $ fsplit ! $ move ! (1 ∷ []) $
+        fsplit ! $ move ! (1 ∷ []) $ fsplit ! $
         fsplit ! $ move ! (1 ∷ []) $ feqL ! (λ len′.
-        move ! (1 ∷ []) $ drop ! $ move ! (3 ∷ []) $ split ! $ move ! (1 ∷ []) $
+        move ! (1 ∷ []) $ drop ! $ move ! (4 ∷ []) $ split ! $ move ! (1 ∷ []) $
         peeks ! S.the-row (Is S.the-row) (shows 𝓤 H A S.the-row) r (u ∷ []) (λ isr.
-        -- [the result; its tokens; the last bytes; true; true; book; ranges' token; the last ranges; true; true;
-        -- prefix's token; true; prefix; _13; …]
+        -- [the result; its tokens; the last bytes; true; true; true; prefix; book; ranges' token; the last ranges;
+        -- true;
+        -- true; true; _13; …]
         land ! (from ! (stop !)) (init ! 39 refl (EL.lawful S.the-type S′.the-laws 𝓤 H A W tt .typed r _ isr .0)) $
         returns ! (look ! 39 refl) $ forget ! 13 refl $ forget ! 15 refl $ forget ! 17 refl $ forget ! 19 refl $
         forget ! 21 refl $ forget ! 23 refl $ forget ! 25 refl $ forget ! 27 refl $ forget ! 29 refl $
@@ -352,8 +368,8 @@ module _ {M : Type 1} (𝓤 : URA M) (H : Heap 𝓤) (A : Atoms 𝓤) (W : Given
         move ! (27 ∷ 28 ∷ []) $ free1 ! $ move ! (25 ∷ 26 ∷ []) $ free1 ! $ move ! (23 ∷ 24 ∷ []) $ free1 ! $
         move ! (21 ∷ 22 ∷ []) $ free1 ! $ move ! (19 ∷ 20 ∷ []) $ free1 ! $ move ! (17 ∷ 18 ∷ []) $ free1 ! $
         move ! (15 ∷ 16 ∷ []) $ free1 ! $ move ! (13 ∷ 14 ∷ []) $ free1 ! $ free0 ! $
-        keep ! (0 ∷ 1 ∷ 2 ∷ 5 ∷ 6 ∷ 7 ∷ 10 ∷ 12 ∷ []) $
-        by ! (exits r u f (zs .1 .0) (ws .1 .1 .0) e₁ len e₂ len′)))))))))))))))))))))))))))))))
+        keep ! (0 ∷ 1 ∷ 2 ∷ 7 ∷ 8 ∷ 9 ∷ 6 ∷ []) $
+        by ! (exits r u f (zs .1 .0) (ws .1 .1 .1 .0) e₁ len e₂ len′)))))))))))))))))))))))))))))))
 
 module _ {M : Type 1} (𝓤 : URA M) (H : Heap 𝓤) (A : Atoms 𝓤) (W : Given 𝓤 H A) (mem : Memory → SProp 𝓤) (run : Routine
     → Fun 𝓤) where

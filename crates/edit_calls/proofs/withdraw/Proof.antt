@@ -1,108 +1,91 @@
--- `edit_calls::withdraw` meets its contract: the checks in the table's order, then the splice that leaves the name out.
--- No loop, so no invariant. Assumes nothing.
+-- `edit_calls::withdraw` meets its contract: the checks in the table's order, then the book without the name
+-- (proofs/Editing). No loop, so no invariant. Assumes nothing.
 use mathlib.Core.Path.{_∙_, _≡_, sym}
 use mathlib.Core.Bool.{true}
 use mathlib.Core.List.{[]}
 use borrow.Author.Needs.{needs}
 use borrow.Author.Tests.{not-false, not-true}
 use Rattle.entries.specs.Names.{isName}
-use Rattle.answer.specs.Answers.{writing, writingImage}
-use Rattle.book.specs.Book.{inBook}
 use Rattle.book_laws.specs.Held.{Held}
-use Rattle.edit.specs.Edits.{withdrawEntry}
-use Rattle.book_check.proofs.Held.{checked-damaged, checked-held}
-use Rattle.lookup_find.proofs.Finding.{not-found}
-use Rattle.edit_write.proofs.Editing.{gone, gone-asked}
+use Rattle.edit_calls.proofs.Editing.{gone, gone-asked, not-held, withdraw-refused, withdraw-unnamed}
 use Rattle.edit_calls.proofs.withdraw.Statement.{statement}
 use Rattle.edit_calls.proofs.withdraw.Tie as tie
 
--- places that the proofs below look back to
-abbrev begin : tie.After-n → tie.Start
-begin c = c .before .before .before .before .before .before
+-- the check, from where the call goes on, and the book that it found
+abbrev checked : tie.Else1 → tie.After-check
+checked e = e .before .before
 
-abbrev begin-of-else1 : tie.Else1 → tie.Start
-begin-of-else1 c = c .before .before .before .before .before .before .before .before .before
+abbrev begin : tie.After-check → tie.Start
+begin c = c .before .before .before .before
 
-held : (k : tie.After-n) → Held (begin k .args .book .now) (k .n .given .0 .0)
-held k = checked-held _ (k .before .before .check .ensures) (k .n .given .1)
+held : (e : tie.Else1) → Held (begin (checked e) .args .book .now) (checked e .check .result .n)
+held e = checked e .check .ensures .held (e .if1 .left)
 
-allowed : (e : tie.Else1) → isName
-    (begin-of-else1 e .args .name .now) ≡ true
-allowed e = sym (e .before .is-name .ensures) ∙ not-false (e .before .is-name .result) (e .if1 .left)
+-- a name that is allowed
+abbrev going : tie.Else2 → tie.Else1
+going k = k .before .before
+
+allowed : (k : tie.Else2) → isName (begin (checked (going k)) .args .name .now) ≡ true
+allowed k = sym (k .before .is-name .ensures) ∙ not-false (k .before .is-name .result) (k .if2 .left)
 
 check-requires : tie.Need-check-requires
 check-requires c κs = tt
 
-enum-known-n : tie.Need-enum-known-n
-enum-known-n c = search needs
-
-enum-told : tie.Need-enum-told
-enum-told c = search needs
-
 returns : tie.Need-returns
-unfolding withdrawEntry writingImage writing
-returns c =
-    let t = checked-damaged _ (c .before .before .check .ensures) (c .enum-told .given .1) in
-    record { answer = rw t; left = rw t }
+returns c = withdraw-refused (c .before .before .check .ensures) (c .if1 .taken) _ _
 
 is-name-requires : tie.Need-is-name-requires
 is-name-requires c κs = tt
 
 returns-2 : tie.Need-returns-2
-unfolding withdrawEntry writingImage writing
 returns-2 c =
-    let h = held (c .before .before .before) in
-    let t = sym (c .before .is-name .ensures) ∙ not-true (c .before .is-name .result) (c .if1 .taken) in
-    record { answer = rw (h .isIt, t); left = rw (h .isIt, t) }
-
-find-in-requires : tie.Need-find-in-requires
-find-in-requires c κs = held (c .before .before .before)
-
-enum-known-position : tie.Need-enum-known-position
-enum-known-position c = search needs
+    withdraw-unnamed _ _ _ (held (c .before .before))
+    (sym (c .before .is-name .ensures) ∙ not-true (c .before .is-name .result) (c .if2 .taken))
 
 returns-3 : tie.Need-returns-3
-unfolding withdrawEntry writingImage writing
 returns-3 c =
-    let e = c .before .before in
-    let h = held (e .before .before .before) in
-    let a = begin-of-else1 e .args in
-    let t = not-found (a .name .now) (inBook (a .book .now)) (c .before .find-in .result) (c .before .find-in .ensures)
-    (c .match2 .keys2) in
-    record { answer = rw (h .isIt, allowed e, t); left = rw (h .isIt, allowed e, t) }
+    let f = c .before .before in
+    let k = f .before in
+    let e = going k in
+    not-held _ _ _ (held e) (allowed k) (checked e .check .ensures .located (e .if1 .left))
+    (not-true (checked e .check .result .seek .same) (c .if3 .taken))
 
-write-edit-requires : tie.Need-write-edit-requires
-write-edit-requires c κs =
-    let p = c .before .before in
-    let f = p .before .before in
-    let e = f .before in
-    gone-asked _ _ [] (held (e .before .before .before)) (allowed e) (f .find-in .ensures) (p .position .given .1)
+today-requires : tie.Need-today-requires
+today-requires c κs = tt
+
+write-without-requires : tie.Need-write-without-requires
+write-without-requires c κs =
+    let d = c .before in
+    let q = d .before in
+    let k = q .before .before .before in
+    let e = going k in
+    rw (d .today .ensures)
+    (gone-asked _ _ [] (held e) (allowed k) (checked e .check .ensures .located (e .if1 .left))
+    (not-false (checked e .check .result .seek .same) (q .if3 .left)))
 
 same-length : tie.Need-same-length
-same-length c = c .before .before .write-edit .kept .1 .1 .1 .1 .1 .1 .0
+same-length c = c .before .before .write-without .kept .1 .1 .1 .1 .1 .0
 
 returns-4 : tie.Need-returns-4
 returns-4 c =
     let w = c .before .before in
-    let p = w .before .before .before in
-    let f = p .before .before in
-    let e = f .before in
-    gone _ _ _ (held (e .before .before .before)) (allowed e) (f .find-in .ensures) (p .position .given .1)
-    (w .write-edit .ensures)
+    let d = w .before .before in
+    let q = d .before in
+    let k = q .before .before .before in
+    let e = going k in
+    gone _ _ _ (held e) (allowed k) (checked e .check .ensures .located (e .if1 .left))
+    (not-false (checked e .check .result .seek .same) (q .if3 .left)) (rw (d .today .ensures) at (w .write-without .ensures))
 
 pub withdraw-spec : {M : Type 1} → statement M
 withdraw-spec =
     tie.close
     (tie.spec
     check-requires
-    enum-known-n
-    enum-told
     returns
     is-name-requires
     returns-2
-    find-in-requires
-    enum-known-position
     returns-3
-    write-edit-requires
+    today-requires
+    write-without-requires
     same-length
     returns-4)

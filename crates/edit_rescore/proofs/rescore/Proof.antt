@@ -24,11 +24,10 @@ abbrev after-copy : tie.After-put-peak-arg → tie.After-copy
 after-copy c = c .before .before .before .before .before .before .before .before
 
 abbrev after-write-u32 : tie.After-put-peak → tie.After-write-u32
-after-write-u32 c = c .before .before .before .before
+after-write-u32 c = c .before .before .before .before .before
 
 -- the image lies within the old buffer
 inside : (z : tie.Start) → z .args .total ≤ length (z .args .book .now)
-unfolding bookImage
 inside z = omega (arith, z .pre .2, held-stored (z .pre .0) .inside)
 
 few : (z : tie.Start) → z .args .n ≤ maxEntries
@@ -56,9 +55,12 @@ score-start-requires c κs = let z = start (c .before .before .before) in omega 
 write-u32-requires : tie.Need-write-u32-requires
 write-u32-requires c κs = tt
 
+today-requires : tie.Need-today-requires
+today-requires c κs = tt
+
 put-peak-requires : tie.Need-put-peak-requires
 put-peak-requires c κs =
-    let z = start (after-copy c) in
+    let z = start (after-copy (c .before)) in
     (few z, omega (arith, z .pre .1))
 
 same-length : tie.Need-same-length
@@ -73,7 +75,7 @@ returns c =
     let z = start k in
     rescored-whole (z .args .book .now) (z .args .dst .now) (z .args .i) (z .args .score) (z .pre .0) (z .pre .1)
     (z .pre .2) (z .pre .3) (fits z) (k .copy .ensures)
-    (q .score-start .ensures) (w .write-u32 .ensures) (p .put-peak .ensures)
+    (q .score-start .ensures) (w .write-u32 .ensures) (rw (p .before .today .ensures) at (p .put-peak .ensures))
 
 pub rescore-spec : {M : Type 1} → statement M
 rescore-spec =
@@ -83,6 +85,7 @@ rescore-spec =
     copy-requires
     score-start-requires
     write-u32-requires
+    today-requires
     put-peak-requires
     same-length
     returns)

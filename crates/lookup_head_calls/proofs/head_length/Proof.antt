@@ -1,86 +1,65 @@
 -- `head_length` meets its contract: the checks in the table's order, then the head's length.
 -- No loop, so no invariant. Assumes nothing.
-use Prim.Native.Nat.{_<_}
-use mathlib.Core.Path.{_∙_, ap, sym}
+use mathlib.Core.Path.{_∙_, _≡_, ap}
+use mathlib.Core.Bool.{true}
 use lib.ListN.{length}
 use native.Mathlib.Omega.{arith}
 use borrow.Author.Needs.{needs}
-use borrow.Author.Tests.{le-leb, lt-leb, ltb-false, ltb-true, not-false, not-true}
-use Rattle.octets.specs.Lists.{ceil}
-use Rattle.book.specs.Records.{bucketSize}
+use borrow.Author.Tests.{not-false, not-true}
 use Rattle.answer.specs.Answers.{given}
 use Rattle.book_laws.specs.Held.{Held}
-use Rattle.lookup.specs.Lookups.{headLength}
-use Rattle.book_laws.proofs.Held.{held-few}
-use Rattle.book_check.proofs.Held.{checked-damaged, checked-held}
+use Rattle.lookup_head_calls.proofs.Companion.{length-none, length-refused, length-some}
 use Rattle.lookup_head_calls.proofs.head_length.Statement.{statement}
 use Rattle.lookup_head_calls.proofs.head_length.Tie as tie
 
--- places that the proofs below look back to
-abbrev begin : tie.After-n → tie.Start
-begin c = c .before .before .before .before
+-- the place that the proofs below look back to
+abbrev begin : tie.Else1 → tie.Start
+begin e = e .before .before .before .before .before
 
-abbrev begin-of-else1 : tie.Else1 → tie.Start
-begin-of-else1 c = c .before .before .before .before .before .before .before
+held : (e : tie.Else1) → Held (begin e .args .book .now) (e .before .before .check .result .n)
+held e = e .before .before .check .ensures .held (e .if1 .left)
 
-abbrev after-n : tie.After-head-name → tie.After-n
-after-n c = c .before .before .before .before
+-- the bucket has one
+there : (e : tie.Else2) → e .before .has-head .result ≡ true
+there e = not-false (e .before .has-head .result) (e .if2 .left)
 
-held : (k : tie.After-n) → Held (begin k .args .book .now) (k .n .given .0 .0)
-held k = checked-held _ (k .before .before .check .ensures) (k .n .given .1)
-
--- the bucket is there
-there : (e : tie.Else1) → begin-of-else1 e .args .bucket < ceil
-    (e .before .before .before .n .given .0 .0) bucketSize
-there e = let k = e .before in ltb-true _ _ (sym (k .has-bucket .ensures)
-    ∙ not-false (k .has-bucket .result) (e .if1 .left))
+slice-aggregate-check : tie.Need-slice-aggregate-check
+slice-aggregate-check c = search needs
 
 check-requires : tie.Need-check-requires
 check-requires c κs = tt
 
-enum-known-n : tie.Need-enum-known-n
-enum-known-n c = search needs
-
-enum-told : tie.Need-enum-told
-enum-told c = search needs
-
 returns : tie.Need-returns
-unfolding headLength
-returns c = rw (checked-damaged _ (c .before .before .check .ensures) (c .enum-told .given .1))
+returns c = length-refused _ _ (c .before .before .check .ensures) (c .if1 .taken)
 
-has-bucket-requires : tie.Need-has-bucket-requires
-has-bucket-requires c κs = held-few (held (c .before))
+has-head-requires : tie.Need-has-head-requires
+has-head-requires c κs = tt
 
 returns-2 : tie.Need-returns-2
-unfolding headLength
 returns-2 c =
     let k = c .before in
-    let h = held (k .before .before) in
-    rw (
-      h .isIt,
-      ← h .count,
-      le-leb _ _ (ltb-false _ _ (sym (k .has-bucket .ensures)
-          ∙ not-true (k .has-bucket .result) (c .if1 .taken))),
-    )
+    length-none _ _ (held (k .before)) (k .has-head .ensures .0) (not-true (k .has-head .result) (c .if2 .taken))
 
-head-name-requires : tie.Need-head-name-requires
-head-name-requires c κs = let h = held (c .before .before .before) in (h, omega (arith, there c))
+first-name-requires : tie.Need-first-name-requires
+first-name-requires c κs =
+    let k = c .before in
+    (held (k .before), omega (arith, k .has-head .ensures .1 (there c)))
 
 returns-3 : tie.Need-returns-3
-unfolding headLength
 returns-3 c =
-    let h = held (after-n c) in
-    rw (h .isIt, ← h .count, lt-leb _ _ (there (c .before))) (ap (λ l. given (length l)) (c .head-name .ensures))
+    let e = c .before in
+    let k = e .before in
+    ap (λ l. given (length l)) (c .first-name .ensures)
+    ∙ length-some _ _ (held (k .before)) (k .has-head .ensures .0) (there e)
 
 pub head-length-spec : {M : Type 1} → statement M
 head-length-spec =
     tie.close
     (tie.spec
+    slice-aggregate-check
     check-requires
-    enum-known-n
-    enum-told
     returns
-    has-bucket-requires
+    has-head-requires
     returns-2
-    head-name-requires
+    first-name-requires
     returns-3)

@@ -1,33 +1,24 @@
 -- `lookup_name_calls::find` meets its contract: the checks in the table's order, then the finding.
 -- No loop, so no invariant. Assumes nothing.
-use mathlib.Core.Path.{_∙_, sym}
-use borrow.Author.Needs.{needs}
+use mathlib.Core.Path.{_∙_, ap, sym}
 use borrow.Author.Tests.{not-false, not-true}
-use Rattle.book_laws.specs.Held.{Held}
+use Rattle.answer.specs.Answers.{given}
 use Rattle.lookup.specs.Lookups.{find}
-use Rattle.book_check.proofs.Held.{checked-damaged, checked-held}
+use Rattle.book_check.proofs.Refusing.{passed}
+use Rattle.lookup_find.proofs.Finding.{found-is, place-low}
+use Rattle.lookup_name_calls.proofs.Refused.{find-refused}
 use Rattle.lookup_name_calls.proofs.find.Statement.{statement}
 use Rattle.lookup_name_calls.proofs.find.Tie as tie
 
--- places that the proofs below look back to
-abbrev begin : tie.After-n → tie.Start
-begin c = c .before .before .before .before .before
-
-held : (k : tie.After-n) → Held (begin k .args .book .now) (k .n .given .0 .0)
-held k = checked-held _ (k .before .before .check .ensures) (k .n .given .1)
+-- the check, from the places behind it
+abbrev checked : tie.Else1 → tie.After-check
+checked e = e .before .before
 
 check-requires : tie.Need-check-requires
 check-requires c κs = tt
 
-enum-known-n : tie.Need-enum-known-n
-enum-known-n c = search needs
-
-enum-told : tie.Need-enum-told
-enum-told c = search needs
-
 returns : tie.Need-returns
-unfolding find
-returns c = rw (checked-damaged _ (c .before .before .check .ensures) (c .enum-told .given .1))
+returns c = find-refused _ _ (c .before .before .check .ensures) (c .if1 .taken)
 
 is-name-requires : tie.Need-is-name-requires
 is-name-requires c κs = tt
@@ -35,32 +26,30 @@ is-name-requires c κs = tt
 returns-2 : tie.Need-returns-2
 unfolding find
 returns-2 c =
-    let k = c .before .before .before in
-    rw (held k .isIt, sym (c .before .is-name .ensures) ∙ not-true (c .before .is-name .result) (c .if1 .taken))
+    let e = c .before .before in
+    rw (
+      passed (checked e .check .ensures) (e .if1 .left) _ _,
+      sym (c .before .is-name .ensures) ∙ not-true (c .before .is-name .result) (c .if2 .taken),
+    )
 
 find-in-requires : tie.Need-find-in-requires
-find-in-requires c κs = held (c .before .before .before)
+find-in-requires c κs =
+    let e = c .before .before in
+    let g = checked e .check .ensures in
+    place-low _ _ (g .held (e .if1 .left)) (g .located (e .if1 .left))
 
 returns-3 : tie.Need-returns-3
 unfolding find
 returns-3 c =
-    let e = c .before .before in
-    let k = e .before .before in
+    let k = c .before .before in
+    let e = k .before in
+    let g = checked e .check .ensures in
     rw (
-      held k .isIt,
-      sym (e .is-name .ensures)
-          ∙ not-false (e .is-name .result) (c .before .if1 .left),
-    ) (c .find-in .ensures)
+      passed g (e .if1 .left) _ _,
+      sym (k .is-name .ensures) ∙ not-false (k .is-name .result) (c .before .if2 .left),
+    ) (c .find-in .ensures ∙ ap given (found-is _ _ (g .held (e .if1 .left)) (g .located (e .if1 .left))))
 
 pub find-spec : {M : Type 1} → statement M
 find-spec =
     tie.close
-    (tie.spec
-    check-requires
-    enum-known-n
-    enum-told
-    returns
-    is-name-requires
-    returns-2
-    find-in-requires
-    returns-3)
+    (tie.spec check-requires returns is-name-requires returns-2 find-in-requires returns-3)

@@ -9,6 +9,7 @@ use lib.ListN.{length, take}
 use lib.Seq.{length-take-le}
 use native.Mathlib.Omega.{arith}
 use borrow.Author.Needs.{needs}
+use Rattle.book.specs.Book.{today}
 use Rattle.entries.specs.Names.{longestName}
 use Rattle.book_laws.specs.Cursor.{cursorOf}
 use Rattle.merge_calls.specs.Merging.{goesOn}
@@ -17,7 +18,7 @@ use Rattle.merge_calls.proofs.pass.Statement.{statement}
 use Rattle.merge_calls.proofs.pass.Tie as tie
 
 abbrev Inv-loop : tie.InvT-loop
-Inv-loop first n second m dst₀ count at store a₀ b₀ name₀ prev₀ prev-len₀ to-at₀ index₀ x₀ y₀ dst a b name prev prev-len
+Inv-loop first n second m dst₀ count at store l a₀ b₀ name₀ prev₀ prev-len₀ to-at₀ index₀ x₀ y₀ dst a b name prev prev-len
     to-at
     index x y =
     PassLeft first second dst₀ count at store x a y b dst (cursorOf to-at index prev prev-len)
@@ -25,16 +26,23 @@ Inv-loop first n second m dst₀ count at store a₀ b₀ name₀ prev₀ prev-l
     × (length prev ≡ longestName)
 
 abbrev μ-loop : tie.MeasureT-loop
-μ-loop first n second m dst₀ count at store a₀ b₀ name₀ prev₀ prev-len₀ to-at₀ index₀ x₀ y₀ dst a b name prev prev-len
+μ-loop first n second m dst₀ count at store l a₀ b₀ name₀ prev₀ prev-len₀ to-at₀ index₀ x₀ y₀ dst a b name prev prev-len
     to-at index
     x y = count - index
 
 -- before the loop
 abbrev start : tie.After-a Inv-loop μ-loop → tie.Start Inv-loop μ-loop
-start c = c .before .before .before .before
+start c = c .before .before .before .before .before
 
 abbrev one : tie.After-b Inv-loop μ-loop → tie.After-first-name Inv-loop μ-loop
 one c = c .before .before
+
+-- the layout is today's
+today-is : (c : tie.After-a Inv-loop μ-loop) → c .before .today .result ≡ today
+today-is c = c .before .today .ensures
+
+today-requires : tie.Need-today-requires Inv-loop μ-loop
+today-requires c κs = tt
 
 slice-aggregate-first-name : tie.Need-slice-aggregate-first-name Inv-loop μ-loop
 slice-aggregate-first-name c = search needs
@@ -64,8 +72,12 @@ goes-on-requires c κs = tt
 abbrev loop : tie.Then1 Inv-loop μ-loop → tie.At-loop Inv-loop μ-loop
 loop k = k .before .before
 
+-- from the loop's head, where the passing began
+abbrev begun : tie.At-loop Inv-loop μ-loop → tie.After-a Inv-loop μ-loop
+begun l = one (l .before .before .before) .before
+
 abbrev count : tie.At-loop Inv-loop μ-loop → ℕ
-count l = start (one (l .before .before .before) .before) .args .count
+count l = start (begun l) .args .count
 
 goes : (k : tie.Then1 Inv-loop μ-loop)
     → let l = loop k .loop in goesOn (l .index) (count (loop k)) (l .x .len) (l .y .len) ≡ true
@@ -123,7 +135,7 @@ pass-next-requires c κs =
     let r = lent c in
     let k = turn r in
     let v = loop k .loop .inv in
-    (left-fits (v .0) (r .next-entry .ensures) (goes k), v .2)
+    (left-fits (v .0) (r .next-entry .ensures) (goes k) (today-is (begun (loop k))), v .2)
 
 abbrev done : tie.After-y Inv-loop μ-loop → tie.After-pass-next Inv-loop μ-loop
 done c = c .before .before .before .before .before
@@ -144,7 +156,7 @@ loop-again c =
     let k = turn r in
     let v = loop k .loop .inv in
     let l = name-length r in (
-      left-turn (v .0) (r .next-entry .ensures) (goes k) (rw l at (p .pass-next .ensures)),
+      left-turn (v .0) (r .next-entry .ensures) (goes k) (today-is (begun (loop k))) (rw l at (p .pass-next .ensures)),
       name-long r,
       p .pass-next .kept .1 .1 .0 ∙ v .2,
     )
@@ -169,6 +181,7 @@ pass-spec =
     (tie.spec
     Inv-loop
     μ-loop
+    today-requires
     slice-aggregate-first-name
     first-name-requires
     slice-aggregate-first-name-2

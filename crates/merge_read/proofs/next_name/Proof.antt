@@ -28,7 +28,7 @@ read-name-requires c κs = let e = c .before in let q = start e .pre in loaded-i
 given :
     (r : tie.After-read-name)
     → let a = start (other r) .args in
-    Given (a .book .now) (a .at) (a .index) (r .read-name .last .1 .1 .1 .0) (r .read-name .result)
+    Given (a .book .now) (a .at) (a .index) (r .read-name .last .1 .1 .1 .1 .0) (r .read-name .result)
 given r = let e = other r in let q = start e .pre in
     loaded-given (q .0) (q .2) (q .3) (e .if1 .left) (r .read-name .ensures)
 

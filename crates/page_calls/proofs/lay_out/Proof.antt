@@ -6,8 +6,8 @@ use lib.Seq.{length-take-le}
 use native.Mathlib.Omega.{arith}
 use borrow.Author.Needs.{needs}
 use Rattle.octets.specs.Octets.{overwrite}
-use Rattle.answer_write.proofs.Converting.{no-room, whole}
-use Rattle.book.specs.Book.{inBook, readBook}
+use Rattle.book_check.proofs.FromBook.{from-no-room, from-whole}
+use Rattle.book.specs.Book.{inBook}
 use Rattle.book_laws.proofs.Held.{held-stored}
 use Rattle.page.specs.Page.{pageImage, writePage}
 use Rattle.page_calls.proofs.Laying.{table-valid, total-is}
@@ -66,7 +66,7 @@ unfolding writePage
 returns c =
     let p = c .before in
     let h = begin (unpacked p) .pre .0 in
-    no-room readBook pageImage _ _ (h .isIt) (omega (arith, total p, c .if1 .taken))
+    from-no-room pageImage _ h (omega (arith, total p, c .if1 .taken))
 
 slice-reshare-prefix-write : tie.Need-slice-reshare-prefix-write
 slice-reshare-prefix-write c = search needs
@@ -106,7 +106,7 @@ returns-2 c =
     let p = measured w in
     let u = unpacked p in
     let h = begin u .pre .0 in
-    whole readBook pageImage _ _ (h .isIt) _ (h .count) (total p)
+    from-whole pageImage _ _ h (total p)
     (omega (arith, w .before .before .before .before .before .if1 .left))
     (w .write .ensures ∙ ap (λ es. overwrite (begin u .args .dst .now) (pageImage es)) (u .unpack .ensures .same))
 

@@ -12,7 +12,7 @@ use Rattle.panel.specs.Panel.{highlighted, heldIn, offeredFor, panelOf, rowWith
 use Rattle.panel_typing.proofs.Text.{typed-length}
 use Rattle.panel_typing.specs.Typing.{movedRow, takes}
 use Rattle.panel_rows.specs.declared.Row.{Row}
-use Rattle.panel_rows.specs.Rows.{OnRow, rowAt}
+use Rattle.panel_rows.specs.Rows.{OnRow, Rows, rowAt}
 use Rattle.panel_rows.proofs.Rows.{on-row-of}
 use Rattle.panel_keys.proofs.Acts as acts
 use Rattle.panel_keys.proofs.act.Statement.{statement}
@@ -35,11 +35,17 @@ long c = search needs
 typed : (c : tie.Start) → length (typedIn (c .args .p)) ≡ c .args .p .len
 typed c = typed-length (c .args .p) (long c) (c .pre .1 .short)
 
+-- the rows of the text before the key
+offered : (r : tie.After-rows-of)
+    → let z = start (r .before .before) in
+    Rows (inBook (z .args .book .now)) (typedIn (z .args .p)) (r .rows-of .result)
+offered r = let z = start (r .before .before) in r .rows-of .ensures (typedIn (z .args .p)) (z .pre .2)
+
 -- how many rows there are, and the row to start from, one of them
 count : (h : tie.After-held-row)
     → rows h .rows-of .result .count ≡ length
     (offeredFor (inBook (begin h .args .book .now)) (typedIn (begin h .args .p)))
-count h = rows h .rows-of .ensures .count
+count h = offered (rows h) .count
 
 row : (h : tie.After-held-row)
     → h .held-row .result ≡ acts.row (inBook (begin h .args .book .now)) (begin h .args .p) (begin h .args .key)
@@ -64,7 +70,7 @@ shown-row : (h : tie.After-held-row) {r : Row} (i : ℕ) → r ≡ rowAt (rows h
     → OnRow (inBook (begin h .args .book .now)) (typedIn (begin h .args .p)) r
 shown-row h i e on =
     let z = begin h in
-    on-row-of (inBook (z .args .book .now)) (typedIn (z .args .p)) (rows h .rows-of .result) (rows h .rows-of .ensures)
+    on-row-of (inBook (z .args .book .now)) (typedIn (z .args .p)) (rows h .rows-of .result) (offered (rows h))
     (places (rows h)) i on e
 
 -- whether the key takes a name, as it was told
@@ -95,14 +101,15 @@ returns c =
     ∙ acts.changed es (z .args .p) (z .args .key) (typed z) (sym (k .changes-text .ensures) ∙ e .before .if1 .taken)
 
 rows-of-requires : tie.Need-rows-of-requires
-rows-of-requires c κs = let z = start (c .before) in (z .pre .0, z .pre .1 .short)
+rows-of-requires c κs = let z = start (c .before) in
+    (z .pre .0, record { key = typedIn (z .args .p); located = z .pre .2 })
 
 lower-requires : tie.Need-lower-requires
 lower-requires c κs = tt
 
 held-row-requires : tie.Need-held-row-requires
 held-row-requires c κs =
-    let r = c .before in let z = start (r .before .before) in (z .pre .0, r .rows-of .ensures, z .pre .1 .heldShort)
+    let r = c .before in let z = start (r .before .before) in (z .pre .0, offered r, z .pre .1 .heldShort)
 
 takes-requires : tie.Need-takes-requires
 takes-requires c κs = tt
@@ -110,7 +117,7 @@ takes-requires c κs = tt
 row-at-requires : tie.Need-row-at-requires
 row-at-requires c κs =
     let h = c .before .before in
-    omega (arith, on h, h .before .lower .ensures, rows h .rows-of .ensures .few)
+    omega (arith, on h, h .before .lower .ensures, offered (rows h) .few)
 
 take-name-requires : tie.Need-take-name-requires
 take-name-requires c κs =
@@ -140,7 +147,7 @@ moved-requires c κs = let h = c .before .before in omega (arith, on h, h .befor
 row-at-requires-2 : tie.Need-row-at-requires-2
 row-at-requires-2 c κs =
     let h = c .before .before .before in
-    omega (arith, c .moved .ensures .1, rows h .rows-of .ensures .few)
+    omega (arith, c .moved .ensures .1, offered (rows h) .few)
 
 show-requires : tie.Need-show-requires
 show-requires c κs =

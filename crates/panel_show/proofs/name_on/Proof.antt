@@ -14,8 +14,8 @@ returns : tie.Need-returns
 returns c =
     let z = c .before .before .before in row-none (inBook (z .args .book .now)) (z .args .r) (c .if1 .taken)
 
-cursor-at-requires : tie.Need-cursor-at-requires
-cursor-at-requires c κs =
+name-at-requires : tie.Need-name-at-requires
+name-at-requires c κs =
     let z = start c in (z .pre .0, omega (arith, z .pre .0 .count, z .pre .1 (omega (arith, c .if1 .left))))
 
 returns-2 : tie.Need-returns-2
@@ -23,8 +23,8 @@ returns-2 c =
     let k = c .before in
     let e = k .before in
     let z = start e in
-    row-named (inBook (z .args .book .now)) (z .args .r) (e .if1 .left) (k .cursor-at .ensures .1)
-    (k .cursor-at .ensures .0)
+    row-named (inBook (z .args .book .now)) (z .args .r) (e .if1 .left) (k .name-at .ensures .1)
+    (k .name-at .ensures .0)
 
 pub name-on-spec : {M : Type 1} → statement M
-name-on-spec = tie.close (tie.spec returns cursor-at-requires returns-2)
+name-on-spec = tie.close (tie.spec returns name-at-requires returns-2)

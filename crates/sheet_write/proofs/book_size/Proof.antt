@@ -23,18 +23,22 @@ in-loop c = c .before .before .before .before
 
 -- in the loop: the entry, and what stands at the index reached
 abbrev start : tie.In-loop Inv-loop μ-loop → tie.Start Inv-loop μ-loop
-start k = k .before .before .before .before
+start k = k .before .before .before .before .before
 
 there :
     (k : tie.In-loop Inv-loop μ-loop)
     → let sheet = start k .args .sheet .now in Here sheet (inSheet sheet) (k .before .loop .i) (k .before .loop .at)
 there k = size-here (start k .pre) (k .before .loop .inv) (k .loop-test .taken)
 
+today-requires : tie.Need-today-requires Inv-loop μ-loop
+today-requires c κs = tt
+
 records-at-requires : tie.Need-records-at-requires Inv-loop μ-loop
-records-at-requires c κs = sheet-few (c .before .pre)
+records-at-requires c κs = sheet-few (c .before .before .pre)
 
 loop-holds : tie.Need-loop-holds Inv-loop μ-loop
-loop-holds c = size-start (c .before .before .pre) (c .records-at .ensures)
+loop-holds c = let t = c .before in
+    size-start (t .before .before .pre) (rw (t .today .ensures) at (c .records-at .ensures))
 
 add-start : tie.Need-add-start Inv-loop μ-loop
 add-start c = omega (arith, there c .room)
@@ -89,7 +93,7 @@ loop-again c =
     size-turn (start k .pre) (k .before .loop .inv) (k .loop-test .taken) (c .record-size .ensures)
 
 returns : tie.Need-returns Inv-loop μ-loop
-returns c = let l = c .before in size-end (l .before .before .before .pre) (l .loop .inv) (c .loop-test .left)
+returns c = let l = c .before in size-end (l .before .before .before .before .pre) (l .loop .inv) (c .loop-test .left)
 
 pub book-size-spec : {M : Type 1} → statement M
 book-size-spec =
@@ -97,6 +101,7 @@ book-size-spec =
     (tie.spec
     Inv-loop
     μ-loop
+    today-requires
     records-at-requires
     loop-holds
     add-start

@@ -1,8 +1,9 @@
 -- `sheet_write::fill_book` meets its contract. The loop's invariant: a book half written, the next entry of the sheet
 -- at the index reached. The measure is the number of entries left. Assumes nothing.
 use Prim.Native.Nat.{_-_}
-use mathlib.Core.Path.{_∙_}
+use mathlib.Core.Path.{_∙_, _≡_}
 use native.Mathlib.Omega.{arith}
+use Rattle.book.specs.Book.{today}
 use Rattle.book.proofs.Size.{book-length}
 use Rattle.sheet.specs.Sheet.{inSheet}
 use Rattle.sheet_write.proofs.Building.{Filling, fill-end, fill-here, fill-room, fill-start, fill-turn}
@@ -12,11 +13,11 @@ use Rattle.sheet_write.proofs.fill_book.Statement.{statement}
 use Rattle.sheet_write.proofs.fill_book.Tie as tie
 
 abbrev Inv-loop : tie.InvT-loop
-Inv-loop sheet n total dst₀ at₀ from₀ prev₀ prev-end₀ i₀ dst at from prev prev-end i = Filling sheet dst₀ at from prev
+Inv-loop sheet n total dst₀ l at₀ from₀ prev₀ prev-end₀ i₀ dst at from prev prev-end i = Filling sheet dst₀ at from prev
     prev-end i dst
 
 abbrev μ-loop : tie.MeasureT-loop
-μ-loop sheet n total dst₀ at₀ from₀ prev₀ prev-end₀ i₀ dst at from prev prev-end i = n - i
+μ-loop sheet n total dst₀ l at₀ from₀ prev₀ prev-end₀ i₀ dst at from prev prev-end i = n - i
 
 -- places that the proofs below look back to
 abbrev in-loop : tie.After-put-entry-arg Inv-loop μ-loop → tie.In-loop Inv-loop μ-loop
@@ -24,7 +25,11 @@ in-loop c = c .before .before .before .before
 
 -- in the loop: the entry, and what stands at the index reached
 abbrev start : tie.At-loop Inv-loop μ-loop → tie.Start Inv-loop μ-loop
-start l = l .before .before .before .before
+start l = l .before .before .before .before .before
+
+-- the layout is today's
+today-is : (l : tie.At-loop Inv-loop μ-loop) → l .before .before .today .result ≡ today
+today-is l = l .before .before .today .ensures
 
 there :
     (k : tie.In-loop Inv-loop μ-loop)
@@ -33,11 +38,17 @@ there :
     Here sheet (inSheet sheet) (l .loop .i) (l .loop .from)
 there k = let l = k .before in fill-here (start l .pre .0) (l .loop .inv) (k .loop-test .taken)
 
+today-requires : tie.Need-today-requires Inv-loop μ-loop
+today-requires c κs = tt
+
 records-at-requires : tie.Need-records-at-requires Inv-loop μ-loop
-records-at-requires c κs = sheet-few (c .before .before .pre .0)
+records-at-requires c κs = sheet-few (c .before .before .before .pre .0)
 
 loop-holds : tie.Need-loop-holds Inv-loop μ-loop
-loop-holds c = let s = c .before .before .before in fill-start (s .pre .0) (omega arith) (c .records-at .ensures)
+loop-holds c =
+    let t = c .before in
+    let s = t .before .before .before in
+    fill-start (s .pre .0) (omega arith) (rw (t .today .ensures) at (c .records-at .ensures))
 
 add-start : tie.Need-add-start Inv-loop μ-loop
 add-start c = omega (arith, there c .room)
@@ -83,7 +94,7 @@ put-entry-requires : tie.Need-put-entry-requires Inv-loop μ-loop
 put-entry-requires c κs =
     let k = turn c in
     let l = k .before in
-    fill-room (start l .pre .0) (l .loop .inv) (k .loop-test .taken)
+    rw (today-is l) (fill-room (start l .pre .0) (l .loop .inv) (k .loop-test .taken))
 
 add-from : tie.Need-add-from Inv-loop μ-loop
 add-from c = omega (arith, there (turn (c .before .before .before)) .room)
@@ -101,12 +112,12 @@ loop-again c =
     let k = turn (p .before) in
     let l = k .before in
     fill-turn (start l .pre .0) (l .loop .inv) (k .loop-test .taken) (read (p .before) .read-u32 .ensures)
-    (p .put-entry .ensures)
+    (rw (today-is l) at (p .put-entry .ensures))
 
 finish-requires : tie.Need-finish-requires Inv-loop μ-loop
 finish-requires c κs =
     let s = start (c .before .before) in
-    (sheet-few (s .pre .0), omega (arith, book-length (inSheet (s .args .sheet .now)) (sheet-ok (s .pre .0))))
+    (sheet-few (s .pre .0), omega (arith, book-length today (inSheet (s .args .sheet .now)) (sheet-ok (s .pre .0))))
 
 same-length : tie.Need-same-length Inv-loop μ-loop
 same-length c =
@@ -118,7 +129,7 @@ returns c =
     let f = c .before .before in
     let e = f .before .before in
     let l = e .before in
-    f .finish .ensures ∙ fill-end (start l .pre .0) (l .loop .inv) (e .loop-test .left) (start l .pre .1)
+    (rw (today-is l) at (f .finish .ensures)) ∙ fill-end (start l .pre .0) (l .loop .inv) (e .loop-test .left) (start l .pre .1)
 
 pub fill-book-spec : {M : Type 1} → statement M
 fill-book-spec =
@@ -126,6 +137,7 @@ fill-book-spec =
     (tie.spec
     Inv-loop
     μ-loop
+    today-requires
     records-at-requires
     loop-holds
     add-start

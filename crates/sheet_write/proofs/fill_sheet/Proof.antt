@@ -23,7 +23,7 @@ abbrev begin : tie.After-slice-known2 Inv-loop μ-loop → tie.Start Inv-loop μ
 begin c = c .before .before .before .before .before .before
 
 abbrev after-put-frame : tie.At-loop Inv-loop μ-loop → tie.After-put-frame Inv-loop μ-loop
-after-put-frame c = c .before .before .before .before
+after-put-frame c = c .before .before .before .before .before
 
 put-frame-requires : tie.Need-put-frame-requires Inv-loop μ-loop
 put-frame-requires c κs = let s = c .before .before .before in
@@ -31,19 +31,23 @@ put-frame-requires c κs = let s = c .before .before .before in
 
 -- the entry, from the place where the first record's index is computed
 abbrev start : tie.After-records-at Inv-loop μ-loop → tie.Start Inv-loop μ-loop
-start a = a .before .before .before .before .before .before .before
+start a = begin (a .before .before)
+
+today-requires : tie.Need-today-requires Inv-loop μ-loop
+today-requires c κs = tt
 
 records-at-requires : tie.Need-records-at-requires Inv-loop μ-loop
-records-at-requires c κs = held-few (begin c .pre .0)
+records-at-requires c κs = held-few (begin (c .before) .pre .0)
 
 -- what the frame's stores have left of the length
 kept : (a : tie.After-records-at Inv-loop μ-loop)
-    → length (a .before .before .before .put-frame .last .0) ≡ length (start a .args .dst .now)
-kept a = a .before .before .before .put-frame .kept .0
+    → length (a .before .before .before .before .put-frame .last .0) ≡ length (start a .args .dst .now)
+kept a = a .before .before .before .before .put-frame .kept .0
 
 loop-holds : tie.Need-loop-holds Inv-loop μ-loop
 loop-holds c = let s = start c in
-    write-start _ (s .pre .0) (c .records-at .ensures) (search needs) (omega (arith, kept c, s .pre .1, s .pre .2))
+    write-start _ (s .pre .0) (rw (c .before .today .ensures) at (c .records-at .ensures)) (search needs)
+    (omega (arith, kept c, s .pre .1, s .pre .2))
 
 slice-aggregate-read-name : tie.Need-slice-aggregate-read-name Inv-loop μ-loop
 slice-aggregate-read-name c = search needs
@@ -61,7 +65,7 @@ turn r = r .before .before
 given :
     (r : tie.After-read-name Inv-loop μ-loop)
     → let l = turn r .before in
-    Given (start (l .before) .args .book .now) (l .loop .from) (l .loop .i) (r .read-name .last .1 .1 .1 .0)
+    Given (start (l .before) .args .book .now) (l .loop .from) (l .loop .i) (r .read-name .last .1 .1 .1 .1 .0)
     (r .read-name .result)
 given r =
     let k = turn r in
@@ -86,7 +90,7 @@ array-share-prefix-name c = omega (arith, given (read c) .small, given (read c) 
 taken :
     (c : tie.After-put-entry-arg Inv-loop μ-loop)
     → let p = read c .read-name .result in
-    length (take (p .kept + p .own) (read c .read-name .last .1 .1 .1 .0)) ≡ p .kept + p .own
+    length (take (p .kept + p .own) (read c .read-name .last .1 .1 .1 .1 .0)) ≡ p .kept + p .own
 taken c = length-take-le _ _ (omega (arith, given (read c) .small, given (read c) .next .long))
 
 slice-aggregate-put-entry : tie.Need-slice-aggregate-put-entry Inv-loop μ-loop
@@ -145,6 +149,7 @@ fill-sheet-spec =
     Inv-loop
     μ-loop
     put-frame-requires
+    today-requires
     records-at-requires
     loop-holds
     slice-aggregate-read-name

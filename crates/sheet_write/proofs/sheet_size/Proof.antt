@@ -6,6 +6,7 @@ use lib.ListN.{drop, length, length-drop}
 use native.Mathlib.Omega.{arith}
 use Rattle.entries.specs.Names.{longestName}
 use Rattle.octets.proofs.Stores.{to-end}
+use Rattle.book.specs.Book.{today}
 use Rattle.book_laws.proofs.Held.{held-few}
 use Rattle.book_read.specs.Record.{partsAt}
 use Rattle.sheet_write.proofs.Listing.{Measuring, measure-end, measure-room, measure-small, measure-start}
@@ -21,7 +22,7 @@ abbrev μ-loop : tie.MeasureT-loop
 
 -- in the loop: its head, the entry, and the two bytes that stand at the record
 abbrev start : tie.At-loop Inv-loop μ-loop → tie.Start Inv-loop μ-loop
-start l = l .before .before .before
+start l = l .before .before .before .before
 
 two : (k : tie.In-loop Inv-loop μ-loop)
     → let l = k .before in 2 ≤ length (drop (l .loop .at) (start l .args .book .now))
@@ -33,7 +34,7 @@ inside a = a .before .before
 
 told :
     (a : tie.After-parts-at Inv-loop μ-loop)
-    → let l = inside a .before in a .parts-at .result ≡ partsAt (l .loop .i)
+    → let l = inside a .before in a .parts-at .result ≡ partsAt (today .heads) (l .loop .i)
     (drop (l .loop .at) (start l .args .book .now))
 told a = let l = inside a .before in rw (to-end (start l .args .book .now) (l .loop .at)) at (a .parts-at .ensures)
 
@@ -47,11 +48,15 @@ room a =
     let l = k .before in
     measure-room (start l .pre) (l .loop .inv) (k .loop-test .taken) (told a)
 
+today-requires : tie.Need-today-requires Inv-loop μ-loop
+today-requires c κs = tt
+
 records-at-requires : tie.Need-records-at-requires Inv-loop μ-loop
-records-at-requires c κs = held-few (c .before .pre)
+records-at-requires c κs = held-few (c .before .before .pre)
 
 loop-holds : tie.Need-loop-holds Inv-loop μ-loop
-loop-holds c = measure-start (c .before .before .pre) (c .records-at .ensures)
+loop-holds c = let t = c .before in
+    measure-start (t .before .before .pre) (rw (t .today .ensures) at (c .records-at .ensures))
 
 sub-parts-at : tie.Need-sub-parts-at Inv-loop μ-loop
 sub-parts-at c = let l = c .before in omega (arith, two c, length-drop (l .loop .at) (start l .args .book .now))
@@ -106,6 +111,7 @@ sheet-size-spec =
     (tie.spec
     Inv-loop
     μ-loop
+    today-requires
     records-at-requires
     loop-holds
     sub-parts-at

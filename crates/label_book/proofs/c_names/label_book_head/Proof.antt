@@ -5,7 +5,7 @@ use borrow.Author.Needs.{needs}
 use Rattle.answer.specs.Answers.{given}
 use Rattle.lookup.specs.Lookups.{headLength}
 use Rattle.answer.specs.Reports.{lengthOf}
-use Rattle.label_book.proofs.HeadStart.{has-bucket, told-part, told-refused}
+use Rattle.label_book.proofs.HeadStart.{is-there, told-part, told-refused}
 use Rattle.label_book.proofs.c_names.label_book_head.Statement.{statement}
 use Rattle.label_book.proofs.c_names.label_book_head.Tie as tie
 
@@ -30,7 +30,7 @@ enum-known-k : tie.Need-enum-known-k
 enum-known-k c = search needs
 
 head-start-requires : tie.Need-head-start-requires
-head-start-requires c κs = has-bucket _ _ _ (gave (c .before))
+head-start-requires c κs = is-there _ _ _ (gave (c .before)) .0
 
 returns : tie.Need-returns
 returns c =

@@ -1,3 +1,0 @@
-pub mod Bucket
-pub mod Held
-pub mod Search

@@ -1,0 +1,4 @@
+pub mod Found
+pub mod Order
+pub mod Seeking
+pub mod Settling

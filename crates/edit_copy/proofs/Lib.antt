@@ -1,0 +1,7 @@
+pub mod Edits
+pub mod Plans
+pub mod Puts
+pub mod Records
+pub mod Results
+pub mod Runs
+pub mod Written
