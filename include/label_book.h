@@ -23,7 +23,13 @@
  *                 in name order.
  *   rank          the higher score first, at equal scores the earlier name.
  *   book          the image of at most 1,024 entries, no name twice, that most calls read and edits
- *                 write. Entries have exactly one such image, so equal books are equal bytes.
+ *                 write. Entries have exactly one such image, so equal books are equal bytes. Its
+ *                 byte 0 is its version, 0x22.
+ *   old book      a buffer whose byte 0 is 0x21, whatever follows: the version of books that
+ *                 libraries before 1.6 read and write. It is refused with 10 by every call that is
+ *                 given a book. No call of this version reads or converts one; the converter comes
+ *                 with the next version. Until then keep the library that wrote it, with which
+ *                 label_book_list makes a sheet of it, and sheets are as they were.
  *   sheet         the image that lists the same entries in plain, to exchange with other programs.
  *   trie          the image that holds the same entries as a tree, for completion without ranges.
  *                 It is written from a book and never edited: write it again after an edit.
@@ -71,9 +77,13 @@
  *
  * Answers and refusals
  *
- * Every call returns LABEL_BOOK_OK, which is 0, or the number of its refusal, the smallest that
- * applies. Each call's comment lists its causes in that order.
+ * Every call returns LABEL_BOOK_OK, which is 0, or the number of its refusal: of the causes that
+ * apply the first in the order of this table, in which 10 comes before all others. Each call's
+ * comment lists its causes in that order. A buffer lent as a sheet or trie never gives 10, and an
+ * empty buffer lent as a book gives 1.
  *
+ *  10  LABEL_BOOK_OLD_VERSION         an old book: its byte 0 is 0x21, even where it is damaged or
+ *                                     cut off, and of two books either
  *   1  LABEL_BOOK_NOT_LAID_OUT        a book, sheet, trie or script that is not laid out as such,
  *                                     or is cut off by its buffer
  *   2  LABEL_BOOK_NOT_ALLOWED         a name or prefix that is not allowed: too long, not of whole
@@ -117,23 +127,23 @@
  * bound when it is first called (no -static, no -Wl,-z,now), that one call takes some 3 KB more:
  *
  *   label_book_empty               64
- *   label_book_set               1216
- *   label_book_withdraw          1152
- *   label_book_merge              768
- *   label_book_check              320
- *   label_book_find               384
- *   label_book_name_at            448
- *   label_book_name_of            384
- *   label_book_prefix_range       384
- *   label_book_head               320
+ *   label_book_set               1024
+ *   label_book_withdraw           960
+ *   label_book_merge              960
+ *   label_book_check              768
+ *   label_book_find               768
+ *   label_book_name_at            832
+ *   label_book_name_of            768
+ *   label_book_prefix_range       768
+ *   label_book_head               768
  *   label_book_build              320
- *   label_book_list               512
- *   label_book_page             60864
- *   label_book_complete         10112
- *   label_book_write_trie      170752
+ *   label_book_list               896
+ *   label_book_page             60928
+ *   label_book_complete         11072
+ *   label_book_write_trie      170880
  *   label_book_complete_trie    28736
- *   label_book_press             2880
- *   label_book_run               1280
+ *   label_book_press             2432
+ *   label_book_run               1152
  *
  *
  * What is proved
@@ -162,9 +172,11 @@ extern "C" {
  * has grown: a program that has a panel must be compiled anew. Since 1.3 names may have µ and Ω; a
  * library before it declines an image with such a name. Since 1.4 LABEL_BOOK_COUNT_MAX is lower:
  * counts past it that were accepted before are refused with 3, and the buffers and ranges that a
- * program sizes by it shrink with it. A program that names it must be compiled anew. */
-#define LABEL_BOOK_VERSION "1.5.0"
-#define LABEL_BOOK_VERSION_NUMBER 0x010500
+ * program sizes by it shrink with it. A program that names it must be compiled anew. Since 1.6
+ * books are of version 0x22: a book from a library before it is refused with 10, and such a library
+ * declines a book from this one with 1. Of the buckets of names only bucket 0 is left. */
+#define LABEL_BOOK_VERSION "1.6.0"
+#define LABEL_BOOK_VERSION_NUMBER 0x010600
 
 /* The most there can be. */
 #define LABEL_BOOK_NAME_MAX 48      /* bytes of a name or prefix */
@@ -191,6 +203,7 @@ extern "C" {
 #define LABEL_BOOK_TOO_SHORT 7
 #define LABEL_BOOK_NO_SUCH_KEY 8
 #define LABEL_BOOK_TEXT_FULL 9
+#define LABEL_BOOK_OLD_VERSION 10
 
 /* The keys of label_book_press besides 0x20 to 0x7E. A terminal sends other codes for some of them
  * (0x7F for erase, several bytes for an arrow, the two bytes of µ or of Ω): translate those. A byte
@@ -252,16 +265,17 @@ uint8_t label_book_empty(uint8_t *dst, size_t dst_len, size_t *entries, size_t *
 
 /* Writes the book with the name added or, if it is held, given the new score, which may be the one
  * it has; tells the entries in it and its bytes. dst must not overlap the book.
- * Refusals: 1 the book; 2 the name; 5 the name is new and LABEL_BOOK_ENTRIES_MAX are held; 7 the
- * new book is longer than dst. */
+ * Refusals: 10 an old book; 1 the book; 2 the name; 5 the name is new and LABEL_BOOK_ENTRIES_MAX
+ * are held; 7 the new book is longer than dst. */
 uint8_t label_book_set(const uint8_t *book, size_t book_len, const uint8_t *name, size_t name_len,
                        uint32_t score, uint8_t *dst, size_t dst_len,
                        size_t *entries, size_t *bytes);
 
-/* Writes the book without the name; tells the entries in it and its bytes, which may be more than
- * before: a name that was stored as what follows the one before it may now stand in full. dst must
- * not overlap the book.
- * Refusals: 1 the book; 2 the name; 4 the name is not held; 7 the new book is longer than dst. */
+/* Writes the book without the name; tells the entries in it and its bytes, which are fewer than
+ * before: 7 is never the answer where dst has as many bytes as the old book, or more. dst must not
+ * overlap the book.
+ * Refusals: 10 an old book; 1 the book; 2 the name; 4 the name is not held; 7 the new book is
+ * longer than dst. */
 uint8_t label_book_withdraw(const uint8_t *book, size_t book_len,
                             const uint8_t *name, size_t name_len,
                             uint8_t *dst, size_t dst_len, size_t *entries, size_t *bytes);
@@ -269,8 +283,9 @@ uint8_t label_book_withdraw(const uint8_t *book, size_t book_len,
 /* Writes the book with every name of either book once; where both have it, the first book's score
  * counts, also where it is the lower one. Tells the entries in it and its bytes. dst must overlap
  * neither book; the two may be the same.
- * Refusals: 1 either book; 5 the two have more than LABEL_BOOK_ENTRIES_MAX names between them, a
- * shared one counted once; 7 the merged book is longer than dst. */
+ * Refusals: 10 either is an old book, even where the other is damaged; 1 either book; 5 the two
+ * have more than LABEL_BOOK_ENTRIES_MAX names between them, a shared one counted once; 7 the merged
+ * book is longer than dst. */
 uint8_t label_book_merge(const uint8_t *first, size_t first_len,
                          const uint8_t *second, size_t second_len,
                          uint8_t *dst, size_t dst_len, size_t *entries, size_t *bytes);
@@ -282,39 +297,39 @@ uint8_t label_book_merge(const uint8_t *first, size_t first_len,
 
 /* Checks a book, as every call that reads one does; for whoever has loaded one or wants to save it.
  * Tells the entries in it and its bytes, which are those to save.
- * Refusals: 1 the buffer holds no book. */
+ * Refusals: 10 an old book; 1 the buffer holds no book. */
 uint8_t label_book_check(const uint8_t *book, size_t book_len, size_t *entries, size_t *bytes);
 
 /* Tells whether the book holds the name, found 1 or 0, and its position and score, both 0 if not.
- * Refusals: 1 the book; 2 the name. That a name is absent is none. */
+ * Refusals: 10 an old book; 1 the book; 2 the name. That a name is absent is none. */
 uint8_t label_book_find(const uint8_t *book, size_t book_len, const uint8_t *name, size_t name_len,
                         size_t *found, size_t *position, uint32_t *score);
 
 /* Writes the entry at a position as one answer entry; tells 1 entry and its bytes, at most
  * LABEL_BOOK_ENTRY_MAX.
- * Refusals: 1 the book; 6 the position is the number of entries or more; 7 the answer entry is
- * longer than dst. */
+ * Refusals: 10 an old book; 1 the book; 6 the position is the number of entries or more; 7 the
+ * answer entry is longer than dst. */
 uint8_t label_book_name_at(const uint8_t *book, size_t book_len, size_t position,
                            uint8_t *dst, size_t dst_len, size_t *entries, size_t *bytes);
 
 /* Writes the given name with its score as one answer entry; tells 1 entry and its bytes.
- * Refusals: 1 the book; 2 the name; 4 the name is not held; 7 the answer entry is longer than
- * dst. */
+ * Refusals: 10 an old book; 1 the book; 2 the name; 4 the name is not held; 7 the answer entry is
+ * longer than dst. */
 uint8_t label_book_name_of(const uint8_t *book, size_t book_len,
                            const uint8_t *name, size_t name_len,
                            uint8_t *dst, size_t dst_len, size_t *entries, size_t *bytes);
 
 /* Tells the first position whose name the prefix begins, 0 if there is none, and the count of such
  * names, which follow each other.
- * Refusals: 1 the book; 2 the prefix. */
+ * Refusals: 10 an old book; 1 the book; 2 the prefix. */
 uint8_t label_book_prefix_range(const uint8_t *book, size_t book_len,
                                 const uint8_t *prefix, size_t prefix_len,
                                 size_t *first, size_t *count);
 
-/* A book keeps its names in buckets of 8, counted from 0, and the first name of each in full, its
- * head. Tells where in the book the head name of a bucket stands: it is book[start] to
- * book[start + length - 1], not copied.
- * Refusals: 1 the book; 6 the book has no such bucket. */
+/* A book's first name stands in it in full: it is the head name of bucket 0, the only bucket. Tells
+ * where it stands: it is book[start] to book[start + length - 1], not copied. Up to 1.5 there was a
+ * bucket for each 8 names.
+ * Refusals: 10 an old book; 1 the book; 6 bucket is not 0, or the book has no entries. */
 uint8_t label_book_head(const uint8_t *book, size_t book_len, size_t bucket,
                         size_t *start, size_t *length);
 
@@ -329,7 +344,7 @@ uint8_t label_book_build(const uint8_t *sheet, size_t sheet_len,
                          uint8_t *dst, size_t dst_len, size_t *entries, size_t *bytes);
 
 /* Writes the sheet of a book's entries; tells them and its bytes.
- * Refusals: 1 the book; 7 the sheet is longer than dst. */
+ * Refusals: 10 an old book; 1 the book; 7 the sheet is longer than dst. */
 uint8_t label_book_list(const uint8_t *book, size_t book_len,
                         uint8_t *dst, size_t dst_len, size_t *entries, size_t *bytes);
 
@@ -350,7 +365,7 @@ uint8_t label_book_list(const uint8_t *book, size_t book_len,
  * A column is one byte, so a µ or Ω may be split, its second byte on the next line. Tells the
  * entries and the bytes, 41 for each line; the page of an empty book is the heading line alone. It
  * is NOT zero-terminated: fwrite(dst, 1, bytes, stdout) prints it.
- * Refusals: 1 the book; 7 the page is longer than dst. */
+ * Refusals: 10 an old book; 1 the book; 7 the page is longer than dst. */
 uint8_t label_book_page(const uint8_t *book, size_t book_len,
                         uint8_t *dst, size_t dst_len, size_t *entries, size_t *bytes);
 
@@ -364,8 +379,8 @@ uint8_t label_book_page(const uint8_t *book, size_t book_len,
  * bytes, and the looks: how often the call looked for the best of a range, at most 2 * k - 1, so
  * never more than 17. Lent are at least k * LABEL_BOOK_ENTRY_MAX bytes, even if fewer would do, and
  * k ranges, counted as structs; after an answer anything may be in the ranges.
- * Refusals: 1 the book; 2 the prefix; 3 k; 7 dst has less than k * LABEL_BOOK_ENTRY_MAX bytes, or
- * ranges_len is less than k. */
+ * Refusals: 10 an old book; 1 the book; 2 the prefix; 3 k; 7 dst has less than
+ * k * LABEL_BOOK_ENTRY_MAX bytes, or ranges_len is less than k. */
 uint8_t label_book_complete(const uint8_t *book, size_t book_len,
                             const uint8_t *prefix, size_t prefix_len, size_t k,
                             uint8_t *dst, size_t dst_len,
@@ -374,7 +389,7 @@ uint8_t label_book_complete(const uint8_t *book, size_t book_len,
 
 /* Writes the trie of a book's entries; tells them and its bytes. A trie may be longer than any
  * book.
- * Refusals: 1 the book; 7 the trie is longer than dst. */
+ * Refusals: 10 an old book; 1 the book; 7 the trie is longer than dst. */
 uint8_t label_book_write_trie(const uint8_t *book, size_t book_len,
                               uint8_t *dst, size_t dst_len, size_t *entries, size_t *bytes);
 
@@ -418,9 +433,9 @@ uint8_t label_book_complete_trie(const uint8_t *trie, size_t trie_len,
  *
  * The rows given in are not read, nor the text past len and held past held_len, which an accepted
  * key makes zero.
- * Refusals: 1 the book; 2 len is over LABEL_BOOK_NAME_MAX, or the text is not of whole signs, or
- * the held name is neither of length 0 nor a name that is allowed; 8 another key; 9 a key that
- * appends, at LABEL_BOOK_NAME_MAX bytes, or with one byte left and two to append. */
+ * Refusals: 10 an old book; 1 the book; 2 len is over LABEL_BOOK_NAME_MAX, or the text is not of
+ * whole signs, or the held name is neither of length 0 nor a name that is allowed; 8 another key; 9
+ * a key that appends, at LABEL_BOOK_NAME_MAX bytes, or with one byte left and two to append. */
 uint8_t label_book_press(const uint8_t *book, size_t book_len, struct label_book_panel *panel,
                          uint8_t key, size_t *rows);
 
@@ -438,10 +453,11 @@ uint8_t label_book_press(const uint8_t *book, size_t book_len, struct label_book
  *   2 bytes   length of the name
  *             as many bytes of name, allowed or not
  *
- * A call that is refused changes nothing, and the script goes on. The answers are kept at the front
- * of out, one behind the other, 7 bytes each: its number in 1, the entries in 2, the bytes in 4.
- * Tells the calls, refused ones included, and as turned 1 if the second buffer holds the book at
- * the end, else 0. Behind the book, and in the other buffer, stands what the calls left there.
+ * A call that is refused changes nothing, and the script goes on; no withdraw of it is refused with
+ * 7. The answers are kept at the front of out, one behind the other, 7 bytes each: its number in 1,
+ * the entries in 2, the bytes in 4. Tells the calls, refused ones included, and as turned 1 if the
+ * second buffer holds the book at the end, else 0. Behind the book, and in the other buffer, stands
+ * what the calls left there.
  * Refusals of the whole run: 1 the script is not laid out so; 7 first has less than
  * LABEL_BOOK_FRONT bytes, second has another length, or out has less than 7 bytes for each call. */
 uint8_t label_book_run(const uint8_t *script, size_t script_len,

@@ -82,6 +82,9 @@ static inline const char *label_book_refusal_text(uint8_t number) {
         return "the panel has no such key";
     case LABEL_BOOK_TEXT_FULL:
         return "the panel's text is full";
+    case LABEL_BOOK_OLD_VERSION:
+        return "a book of the old version 21, which this version cannot read; "
+               "the converter comes with the next one";
     default:
         return "no such refusal";
     }
@@ -96,9 +99,10 @@ struct label_book_rows {
 };
 
 /* Fills the rows of a panel from the book; the panel stays as it is. Returns 0 or, with no rows,
- * the refusal: 1 the book; 2 the panel's len or text, as label_book_press says. The held name is
- * not read. Where the book may have changed since the last key, press LABEL_BOOK_KEY_RECOUNT first:
- * the panel's highlight is then one of these rows, that of its held name. */
+ * the refusal: 10 an old book; 1 the book; 2 the panel's len or text, as label_book_press says. The
+ * held name is not read. Where the book may have changed since the last key, press
+ * LABEL_BOOK_KEY_RECOUNT first: the panel's highlight is then one of these rows, that of its held
+ * name. */
 static inline uint8_t label_book_rows_of(const uint8_t *book, size_t book_len,
                                          const struct label_book_panel *panel,
                                          struct label_book_rows *rows) {

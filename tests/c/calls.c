@@ -1,18 +1,23 @@
 /*
  * Every call of label_book.h by its prototype, on the cases that document 01 shows on the bench (P1
- * to P10, entries E) and on the ends of its limits. What the calls do on other inputs is tested in
- * Rust; this is about the header.
+ * to P10, entries E; the books in version 22) and on the ends of its limits, and on old books. What
+ * the calls do on other inputs is tested in Rust; this is about the header.
  */
 #include <stdio.h>
 
 #include "support.h"
 
-#define E_BOOK "21 00 00 00 2C 00 04 00 00 00 05 00 00 00 09 00 00 00 09 00 00 00 0C 00 1B 00 03 " \
-               "02 61 63 00 02 72 63 02 05 20 73 74 65 70 01 01 6C"
+#define E_BOOK "22 00 00 00 2B 00 04 00 00 00 05 00 00 00 09 00 00 00 09 00 00 00 0C 00 03 " \
+               "00 02 61 63 00 02 72 63 02 05 20 73 74 65 70 01 01 6C"
 #define E_SHEET "11 00 00 00 28 00 04 02 61 63 00 00 00 05 02 72 63 00 00 00 09 " \
                 "07 72 63 20 73 74 65 70 00 00 00 09 02 72 6C 00 00 00 0C"
 #define E_TRIE "31 00 00 00 1C 00 04 51 0C 08 72 4A 07 61 63 01 6C 59 03 06 63 00 0D 20 73 74 65 70"
-#define E_BYTES 44
+#define E_BYTES 43
+
+/* E as a book of version 21, as document 01 prints it. */
+#define E_OLD_BOOK \
+    "21 00 00 00 2C 00 04 00 00 00 05 00 00 00 09 00 00 00 09 00 00 00 0C 00 1B 00 03 " \
+    "02 61 63 00 02 72 63 02 05 20 73 74 65 70 01 01 6C"
 
 /* What a destination holds before a call. */
 #define FILL 0xA5
@@ -58,7 +63,7 @@ static uint8_t *fresh(void) {
 static void the_empty_book(void) {
     GIVES(label_book_empty(fresh(), 7, &one, &two), LABEL_BOOK_OK, 0, LABEL_BOOK_FRONT);
     GIVES(label_book_empty(fresh(), 99, &one, &two), LABEL_BOOK_OK, 0, LABEL_BOOK_FRONT);
-    SAME_BYTES(dst, 8, "21 00 00 00 07 00 00 A5");
+    SAME_BYTES(dst, 8, "22 00 00 00 07 00 00 A5");
     GIVES(label_book_empty(fresh(), 6, &one, &two), LABEL_BOOK_TOO_SHORT, 0, 0);
     SAME_BYTES(dst, 7, FILL_7);
 }
@@ -70,8 +75,8 @@ static void a_book_by_sets(void) {
           E_BYTES);
     GIVES(label_book_set(BOOK, NAME("rc"), 9, fresh(), 99, &one, &two), LABEL_BOOK_OK, 4, E_BYTES);
     SAME_BYTES(dst, E_BYTES + 1, E_BOOK " A5");
-    GIVES(label_book_set(BOOK, NAME("sw"), 0x01020304, fresh(), 52, &one, &two), LABEL_BOOK_OK, 5,
-          52);
+    GIVES(label_book_set(BOOK, NAME("sw"), 0x01020304, fresh(), 51, &one, &two), LABEL_BOOK_OK, 5,
+          51);
     SAME_BYTES(dst + 7 + 4 * 4, 4, "01 02 03 04");
 }
 
@@ -102,7 +107,7 @@ static void names_with_signs(void) {
     bench_of_e(&bench);
     GIVES(label_book_set(BOOK, NAME("10 " MICRO "F"), 7, fresh(), 999, &one, &two), LABEL_BOOK_OK,
           5, E_BYTES + 4 + 2 + 6);
-    SAME_BYTES(dst + 31, 7, "06 31 30 20 C2 B5 46");
+    SAME_BYTES(dst + 29, 8, "00 06 31 30 20 C2 B5 46");
     for (size_t i = 0; i < sizeof refused / sizeof refused[0]; i++) {
         GIVES(label_book_set(BOOK, NAME(refused[i]), 7, fresh(), 999, &one, &two),
               LABEL_BOOK_NOT_ALLOWED, 0, 0);
@@ -117,25 +122,71 @@ static void names_with_signs(void) {
     bench_set(&bench, "10 " MICRO "F", 7);
     bench_set(&bench, "4.7 k" OHM, 8);
     GIVES(label_book_prefix_range(BOOK, NAME("10 " MICRO), &one, &two), LABEL_BOOK_OK, 0, 1);
-    GIVES(label_book_head(BOOK, 0, &one, &two), LABEL_BOOK_OK, 36, 6);
+    GIVES(label_book_head(BOOK, 0, &one, &two), LABEL_BOOK_OK, 35, 6);
     GIVES(label_book_name_of(BOOK, NAME("4.7 k" OHM), fresh(), 12, &one, &two), LABEL_BOOK_OK, 1,
           12);
     SAME_BYTES(dst, 12, "07 34 2E 37 20 6B CE A9 00 00 00 08");
 }
 
-static void ten_names_and_nine(void) {
+/* The book of P9's ten names. */
+static void bench_of_ten(void) {
     char digit[2] = "1";
     bench_empty(&bench);
     for (; digit[0] <= '8'; digit[0]++) bench_set(&bench, digit, 1);
     bench_set(&bench, letters(47), 1);
     bench_set(&bench, letters(48), 1);
-    SAME(bench_bytes(&bench), 127);
-    GIVES(label_book_withdraw(BOOK, NAME("1"), fresh(), 130, &one, &two), LABEL_BOOK_TOO_SHORT, 0,
+}
+
+static void ten_names_and_nine(void) {
+    bench_of_ten();
+    SAME(bench_bytes(&bench), 125);
+    GIVES(label_book_withdraw(BOOK, NAME("1"), fresh(), 130, &one, &two), LABEL_BOOK_OK, 9, 118);
+    GIVES(label_book_withdraw(BOOK, NAME("1"), fresh(), 118, &one, &two), LABEL_BOOK_OK, 9, 118);
+    SAME_BYTES(dst + 7 + 4 * 9 + 2, 7, "00 01 32 00 01 33 00");
+    SAME_BYTES(dst + 118 - 3, 4, "2F 01 78 A5");
+    GIVES(label_book_withdraw(BOOK, NAME("1"), fresh(), 117, &one, &two), LABEL_BOOK_TOO_SHORT, 0,
           0);
     SAME_BYTES(dst, 7, FILL_7);
-    GIVES(label_book_withdraw(BOOK, NAME("1"), fresh(), 167, &one, &two), LABEL_BOOK_OK, 9, 167);
-    GIVES(label_book_head(BOOK, 1, &one, &two), LABEL_BOOK_OK, 77, 47);
-    GIVES(label_book_head(BOOK, 2, &one, &two), LABEL_BOOK_NO_SUCH_PLACE, 0, 0);
+    GIVES(label_book_head(BOOK, 0, &one, &two), LABEL_BOOK_OK, 51, 1);
+    GIVES(label_book_head(BOOK, 1, &one, &two), LABEL_BOOK_NO_SUCH_PLACE, 0, 0);
+}
+
+/* Every name of the bench's book can be taken out into a buffer as long as the book, and into a
+ * longer one; the new book is shorter by 6 bytes or more, and one byte less than it has gives 7. */
+static void every_name_taken_out(void) {
+    uint8_t answer[LABEL_BOOK_ENTRY_MAX];
+    size_t entries, bytes, told;
+    SAME(label_book_check(BOOK, &entries, &bytes), LABEL_BOOK_OK);
+    for (size_t i = 0; i < entries; i++) {
+        SAME(label_book_name_at(BOOK, i, answer, sizeof answer, &one, &told), LABEL_BOOK_OK);
+        SAME(label_book_withdraw(BOOK, answer + 1, answer[0], fresh(), bytes + 1, &one, &two),
+             LABEL_BOOK_OK);
+        SAME(label_book_withdraw(BOOK, answer + 1, answer[0], fresh(), bytes, &one, &two),
+             LABEL_BOOK_OK);
+        SAME(one, entries - 1);
+        SAME(two + 6 <= bytes, 1);
+        SAME(dst[two], FILL);
+        told = two;
+        SAME(label_book_check(dst, told, &one, &two), LABEL_BOOK_OK);
+        SAME(label_book_withdraw(BOOK, answer + 1, answer[0], dst, told - 1, &one, &two),
+             LABEL_BOOK_TOO_SHORT);
+    }
+}
+
+static void withdrawals_fit(void) {
+    bench_of_e(&bench);
+    every_name_taken_out();
+    bench_of_ten();
+    every_name_taken_out();
+    bench_empty(&bench);
+    bench_set(&bench, letters(48), 1);
+    every_name_taken_out();
+    for (size_t length = 47; length > 20; length--) bench_set(&bench, letters(length), 1);
+    every_name_taken_out();
+    bench_full(&bench);
+    GIVES(label_book_withdraw(BOOK, NAME("0000xxxxxxxxxxxxxxxxxxxxxxxxxxxxxxxxxxxxxxxxxxxx"), dst,
+                              bench_bytes(&bench), &one, &two),
+          LABEL_BOOK_OK, 1023, bench_bytes(&bench) - 51);
 }
 
 static void withdrawals(void) {
@@ -158,11 +209,11 @@ static void merges(void) {
     bench_set(&course, "aa", 7);
     bench_set(&course, "rc", 1000);
     bench_set(&course, "sw", 2);
-    GIVES(label_book_merge(BOOK, bench_book(&course), LABEL_BOOK_BOOK_MAX, fresh(), 59, &one, &two),
-          LABEL_BOOK_OK, 6, 59);
+    GIVES(label_book_merge(BOOK, bench_book(&course), LABEL_BOOK_BOOK_MAX, fresh(), 58, &one, &two),
+          LABEL_BOOK_OK, 6, 58);
     SAME_BYTES(dst + 7, 24, "00 00 00 07 00 00 00 05 00 00 00 09 00 00 00 09 00 00 00 0C "
                             "00 00 00 02");
-    GIVES(label_book_merge(BOOK, bench_book(&course), LABEL_BOOK_BOOK_MAX, fresh(), 58, &one, &two),
+    GIVES(label_book_merge(BOOK, bench_book(&course), LABEL_BOOK_BOOK_MAX, fresh(), 57, &one, &two),
           LABEL_BOOK_TOO_SHORT, 0, 0);
     GIVES(label_book_merge(BOOK, no_book, sizeof no_book, fresh(), 99, &one, &two),
           LABEL_BOOK_NOT_LAID_OUT, 0, 0);
@@ -221,8 +272,16 @@ static void prefix_ranges(void) {
 
 static void bucket_heads(void) {
     bench_of_e(&bench);
-    GIVES(label_book_head(BOOK, 0, &one, &two), LABEL_BOOK_OK, 28, 2);
+    GIVES(label_book_head(BOOK, 0, &one, &two), LABEL_BOOK_OK, 27, 2);
     SAME_BYTES(bench_book(&bench) + one, two, "61 63");
+    GIVES(label_book_head(BOOK, 1, &one, &two), LABEL_BOOK_NO_SUCH_PLACE, 0, 0);
+    GIVES(label_book_head(BOOK, (size_t)-1, &one, &two), LABEL_BOOK_NO_SUCH_PLACE, 0, 0);
+    GIVES(label_book_head(bench_book(&bench), E_BYTES - 1, 1, &one, &two), LABEL_BOOK_NOT_LAID_OUT,
+          0, 0);
+    bench_empty(&bench);
+    GIVES(label_book_head(BOOK, 0, &one, &two), LABEL_BOOK_NO_SUCH_PLACE, 0, 0);
+    bench_full(&bench);
+    GIVES(label_book_head(BOOK, 0, &one, &two), LABEL_BOOK_OK, 7 + 4 * 1024 + 2 * 64 + 2, 48);
     GIVES(label_book_head(BOOK, 1, &one, &two), LABEL_BOOK_NO_SUCH_PLACE, 0, 0);
 }
 
@@ -643,8 +702,8 @@ static void five_rows(void) {
 #define FIRST_SET "00 00 00 00 05 00 02 61 63 "
 #define SCRIPT FIRST_SET "00 00 00 00 09 00 02 72 63 01 00 00 00 00 00 02 7A 7A " \
                "00 00 00 00 09 00 07 72 63 20 73 74 65 70 00 00 00 00 0C 00 02 72 6C"
-#define KEPT "00 00 01 00 00 00 12 00 00 02 00 00 00 1A 04 00 00 00 00 00 00 " \
-             "00 00 03 00 00 00 25 00 00 04 00 00 00 2C"
+#define KEPT "00 00 01 00 00 00 11 00 00 02 00 00 00 19 04 00 00 00 00 00 00 " \
+             "00 00 03 00 00 00 24 00 00 04 00 00 00 2B"
 
 static void histories(void) {
     uint8_t script[64], first[64], second[64], out[64];
@@ -656,7 +715,7 @@ static void histories(void) {
     SAME_BYTES(out, 36, KEPT " A5");
     GIVES(label_book_run(script, 9, first, 64, second, 64, out, 64, &one, &two), LABEL_BOOK_OK, 1,
           1);
-    SAME_BYTES(second, 18, "21 00 00 00 12 00 01 00 00 00 05 00 0F 00 00 02 61 63");
+    SAME_BYTES(second, 17, "22 00 00 00 11 00 01 00 00 00 05 00 00 00 02 61 63");
     SAME_BYTES(out, 36, KEPT " A5");
 }
 
@@ -716,7 +775,124 @@ static void null_with_length_0(void) {
     GIVES_3(label_book_complete(BOOK, NULL, 0, 1, fresh(), 53, NULL, 0, &one, &two, &three),
             LABEL_BOOK_TOO_SHORT, 0, 0, 0);
     GIVES(label_book_run(NULL, 0, first, 7, second, 7, NULL, 0, &one, &two), LABEL_BOOK_OK, 0, 0);
-    SAME_BYTES(first, 7, "21 00 00 00 07 00 00");
+    SAME_BYTES(first, 7, "22 00 00 00 07 00 00");
+}
+
+/* Every call that is given a book refuses this one with a number, whatever else is wrong too, and
+ * leaves the destination, the ranges and the panel as they were. */
+static void every_call_refuses(const uint8_t *book, size_t len, uint8_t number) {
+    static struct label_book_range before[LABEL_BOOK_COUNT_MAX + 1];
+    memset(before, FILL, sizeof before);
+    memset(ranges, FILL, sizeof ranges);
+    bench_of_e(&bench);
+    GIVES(label_book_set(book, len, NAME("rc"), 9, fresh(), 99, &one, &two), number, 0, 0);
+    GIVES(label_book_set(book, len, NAME(""), 9, dst, 0, &one, &two), number, 0, 0);
+    GIVES(label_book_withdraw(book, len, NAME("rc"), dst, 99, &one, &two), number, 0, 0);
+    GIVES(label_book_withdraw(book, len, NAME("zz"), dst, 0, &one, &two), number, 0, 0);
+    GIVES(label_book_merge(book, len, BOOK, dst, 99, &one, &two), number, 0, 0);
+    GIVES(label_book_merge(BOOK, book, len, dst, 0, &one, &two), number, 0, 0);
+    GIVES(label_book_merge(book, len, book, len, dst, 99, &one, &two), number, 0, 0);
+    GIVES(label_book_check(book, len, &one, &two), number, 0, 0);
+    told_score = UNTOLD;
+    GIVES(label_book_find(book, len, NAME("rc"), &one, &two, &told_score), number, 0, 0);
+    SAME(told_score, 0);
+    GIVES(label_book_name_at(book, len, 0, dst, 99, &one, &two), number, 0, 0);
+    GIVES(label_book_name_at(book, len, 4, dst, 0, &one, &two), number, 0, 0);
+    GIVES(label_book_name_of(book, len, NAME("rc"), dst, 99, &one, &two), number, 0, 0);
+    GIVES(label_book_name_of(book, len, NAME(""), dst, 0, &one, &two), number, 0, 0);
+    GIVES(label_book_prefix_range(book, len, NAME("r"), &one, &two), number, 0, 0);
+    GIVES(label_book_prefix_range(book, len, NAME("\x7F"), &one, &two), number, 0, 0);
+    GIVES(label_book_head(book, len, 0, &one, &two), number, 0, 0);
+    GIVES(label_book_head(book, len, 1, &one, &two), number, 0, 0);
+    GIVES(label_book_list(book, len, dst, 99, &one, &two), number, 0, 0);
+    GIVES(label_book_page(book, len, dst, 999, &one, &two), number, 0, 0);
+    GIVES(label_book_write_trie(book, len, dst, 99, &one, &two), number, 0, 0);
+    GIVES_3(label_book_complete(book, len, NAME("r"), 2, dst, 106, ranges, 2, &one, &two, &three),
+            number, 0, 0, 0);
+    GIVES_3(label_book_complete(book, len, NAME("\x7F"), 0, dst, 0, ranges, 0, &one, &two, &three),
+            number, 0, 0, 0);
+    SAME(memcmp(ranges, before, sizeof ranges) == 0, 1);
+    SAME_BYTES(dst, 7, FILL_7);
+    key_refused(book, len, panel_with("r", "rc"), LABEL_BOOK_KEY_DOWN, number);
+    key_refused(book, len, panel_with("\x1F", "rc"), 0x7F, number);
+    key_refused(book, len, panel_with(letters(48), "rc"), 'x', number);
+}
+
+/* Byte 0 decides, whatever follows and however long the buffer is. */
+static void old_books(void) {
+    uint8_t image[64], damaged[E_BYTES];
+    size_t len = from_hex(E_OLD_BOOK, image, sizeof image);
+    SAME(LABEL_BOOK_OLD_VERSION, 10);
+    every_call_refuses(image, len, LABEL_BOOK_OLD_VERSION);
+    every_call_refuses(image, sizeof image, LABEL_BOOK_OLD_VERSION);
+    every_call_refuses(image, len - 1, LABEL_BOOK_OLD_VERSION);
+    every_call_refuses(image, 7, LABEL_BOOK_OLD_VERSION);
+    every_call_refuses(image, 1, LABEL_BOOK_OLD_VERSION);
+    every_call_refuses(image, 0, LABEL_BOOK_NOT_LAID_OUT);
+    every_call_refuses(NULL, 0, LABEL_BOOK_NOT_LAID_OUT);
+    image[0] = 0x22; /* the old layout behind today's version */
+    every_call_refuses(image, len, LABEL_BOOK_NOT_LAID_OUT);
+    from_hex(E_BOOK, damaged, sizeof damaged);
+    damaged[0] = 0x21; /* and the other way round */
+    every_call_refuses(damaged, E_BYTES, LABEL_BOOK_OLD_VERSION);
+    damaged[0] = 0x20;
+    every_call_refuses(damaged, E_BYTES, LABEL_BOOK_NOT_LAID_OUT);
+    damaged[0] = 0x23;
+    every_call_refuses(damaged, E_BYTES, LABEL_BOOK_NOT_LAID_OUT);
+}
+
+/* The old empty book beside one that is damaged: 10, whichever comes first. */
+static void old_and_damaged_books(void) {
+    static const uint8_t old[] = {0x21, 0, 0, 0, 7, 0, 0};
+    GIVES(label_book_merge(old, sizeof old, no_book, sizeof no_book, fresh(), 99, &one, &two),
+          LABEL_BOOK_OLD_VERSION, 0, 0);
+    GIVES(label_book_merge(no_book, sizeof no_book, old, sizeof old, dst, 99, &one, &two),
+          LABEL_BOOK_OLD_VERSION, 0, 0);
+    GIVES(label_book_merge(old, 1, NULL, 0, dst, 99, &one, &two), LABEL_BOOK_OLD_VERSION, 0, 0);
+    GIVES(label_book_merge(NULL, 0, old, 1, dst, 99, &one, &two), LABEL_BOOK_OLD_VERSION, 0, 0);
+    GIVES(label_book_merge(NULL, 0, no_book, sizeof no_book, dst, 99, &one, &two),
+          LABEL_BOOK_NOT_LAID_OUT, 0, 0);
+    SAME_BYTES(dst, 7, FILL_7);
+}
+
+/* What is lent as a sheet, a trie or a script never gives 10. */
+static void old_books_as_others(void) {
+    uint8_t image[64], first[64], second[64], out[64];
+    size_t len = from_hex(E_OLD_BOOK, image, sizeof image);
+    for (size_t cut = 0; cut <= len; cut++) {
+        GIVES(label_book_build(image, cut, fresh(), 99, &one, &two), LABEL_BOOK_NOT_LAID_OUT, 0, 0);
+        GIVES_3(label_book_complete_trie(image, cut, NAME(""), 1, dst, 53, &one, &two, &three),
+                LABEL_BOOK_NOT_LAID_OUT, 0, 0, 0);
+    }
+    GIVES(label_book_run(image, len, first, 64, second, 64, out, 64, &one, &two),
+          LABEL_BOOK_NOT_LAID_OUT, 0, 0);
+    SAME_BYTES(dst, 7, FILL_7);
+}
+
+/* Withdrawals from ten names, in buffers of just the bytes of the ten: none is refused with 7. */
+static void histories_of_withdrawals(void) {
+    static uint8_t script[512], first[125], second[125], out[512];
+    size_t len = 0, calls = 0;
+    bench_of_ten();
+    for (uint8_t kind = 0; kind <= 1; kind++) {
+        for (size_t i = 0; i < 10; i++, calls++) {
+            uint8_t answer[LABEL_BOOK_ENTRY_MAX];
+            SAME(label_book_name_at(BOOK, i, answer, sizeof answer, &one, &two), LABEL_BOOK_OK);
+            const uint8_t head[] = {kind, 0, 0, 0, 1, 0, answer[0]};
+            memcpy(script + len, head, sizeof head);
+            memcpy(script + len + sizeof head, answer + 1, answer[0]);
+            len += sizeof head + answer[0];
+        }
+    }
+    GIVES(label_book_run(script, len, first, 125, second, 125, out, sizeof out, &one, &two),
+          LABEL_BOOK_OK, calls, 0);
+    for (size_t i = 0; i < calls; i++) {
+        SAME(out[7 * i], LABEL_BOOK_OK);
+        SAME(out[7 * i + 2], i < 10 ? i + 1 : 19 - i);
+    }
+    SAME(out[7 * 9 + 6], 125);
+    SAME(out[7 * 10 + 6], 118);
+    SAME_BYTES(first, 7, "22 00 00 00 07 00 00");
 }
 
 int main(void) {
@@ -724,14 +900,16 @@ int main(void) {
     test("set: P3, and its bytes where they were", a_book_by_sets);
     test("set: its refusals; 48 bytes of name and 49", refused_sets);
     test("set, prefix_range, name_of: names with signs, and with halves of them", names_with_signs);
-    test("withdraw, head: P9 and P10, in 130 bytes and in 167; two buckets", ten_names_and_nine);
+    test("withdraw, head: P9 and P10, in 130 bytes, in 118 and in 117; bucket 1",
+         ten_names_and_nine);
+    test("withdraw: every name, into a buffer as long as the old book", withdrawals_fit);
     test("withdraw: the book from before the name; its refusals", withdrawals);
     test("merge: the first book's scores; its refusals", merges);
     test("check: entries and bytes, in a longer buffer and cut", the_check);
     test("find: held, absent, refused", finding);
     test("name_at, name_of: answer entries and refusals", answer_entries);
     test("prefix_range: some, all, none, refused", prefix_ranges);
-    test("head: where the first bucket's name stands", bucket_heads);
+    test("head: where the first name stands; any other bucket; no entries", bucket_heads);
     test("list, build: E as a sheet and back; refusals", sheets);
     test("page: the empty book and E; refusals", pages);
     test("page: names of 28, 29 and 48 bytes, a sign on two lines", pages_of_long_names);
@@ -752,7 +930,11 @@ int main(void) {
     test("press: five rows of five names and of six", five_rows);
     test("run: E by a script with a refused call", histories);
     test("run: its refusals", refused_runs);
+    test("run: withdrawals in buffers of just the bytes needed", histories_of_withdrawals);
     test("a full book, within the sizes of the header", a_full_book);
     test("NULL with length 0", null_with_length_0);
+    test("old books: 10 before all, whole, cut, one byte; an empty buffer is 1", old_books);
+    test("old books: merged with a damaged one, 10", old_and_damaged_books);
+    test("old books: lent as a sheet, a trie or a script, 1", old_books_as_others);
     return status();
 }

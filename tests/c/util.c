@@ -159,7 +159,7 @@ static void names_as_text(void) {
 }
 
 static void words_of_refusals(void) {
-    for (int number = 0; number <= 10; number++) {
+    for (int number = 0; number <= 11; number++) {
         const char *words = label_book_refusal_text((uint8_t)number);
         SAME(strlen(words) > 0, 1);
         for (int other = 0; other < number; other++)
@@ -172,7 +172,10 @@ static void words_of_refusals(void) {
     SAME_TEXT(label_book_refusal_text(LABEL_BOOK_NOT_ALLOWED),
               "a name or prefix that is not allowed (a name has 1 to 48 bytes, "
               "each from 20 to 7E or in a whole \xC2\xB5 or \xCE\xA9)");
-    SAME_TEXT(label_book_refusal_text(10), "no such refusal");
+    SAME_TEXT(label_book_refusal_text(LABEL_BOOK_OLD_VERSION),
+              "a book of the old version 21, which this version cannot read; "
+              "the converter comes with the next one");
+    SAME_TEXT(label_book_refusal_text(11), "no such refusal");
     SAME_TEXT(label_book_refusal_text(255), "no such refusal");
 }
 
@@ -262,6 +265,9 @@ static void refused_rows(void) {
     refused_as_by_a_key(book, len - 1, panel_of("r", 1), LABEL_BOOK_NOT_LAID_OUT);
     refused_as_by_a_key(book, len - 1, panel_of("r", 49), LABEL_BOOK_NOT_LAID_OUT);
     refused_as_by_a_key(NULL, 0, panel_of("r", 1), LABEL_BOOK_NOT_LAID_OUT);
+    static const uint8_t old[] = {0x21};
+    refused_as_by_a_key(old, sizeof old, panel_of("r", 1), LABEL_BOOK_OLD_VERSION);
+    refused_as_by_a_key(old, sizeof old, panel_of("r", 49), LABEL_BOOK_OLD_VERSION);
 }
 
 int main(void) {

@@ -306,16 +306,55 @@ pub fn with_a_wrong_name(random: &mut Random, entries: &Entries) -> Entries {
     wrong
 }
 
+/// A record of a book, right or wrong: common byte, length of the rest, the rest.
+#[derive(Clone, Debug)]
+pub struct Record {
+    pub kept: u8,
+    pub length: u8,
+    pub rest: Vec<u8>,
+}
+
+impl Record {
+    pub fn bytes(&self) -> Vec<u8> {
+        [&[self.kept, self.length], &self.rest[..]].concat()
+    }
+}
+
+/// The records of the book of entries.
+pub fn records(entries: &Entries) -> Vec<Record> {
+    let mut before: &[u8] = &[];
+    let records = entries.keys().map(|name| {
+        let kept = common(before, name);
+        before = name;
+        let rest = name[kept..].to_vec();
+        Record { kept: kept as u8, length: rest.len() as u8, rest }
+    });
+    records.collect()
+}
+
+/// The book of entries with other records, its total length by their bytes.
+pub fn with_records(entries: &Entries, records: &[Record]) -> Vec<u8> {
+    let records: Vec<u8> = records.iter().flat_map(Record::bytes).collect();
+    with_record_bytes(entries, &records)
+}
+
+/// The book of entries with other bytes in place of its records.
+pub fn with_record_bytes(entries: &Entries, records: &[u8]) -> Vec<u8> {
+    let n = entries.len();
+    let tables = &book::image(entries)[7..book::Version::NoBuckets.records_at(n)];
+    framed(book::Version::NoBuckets as u8, n, &[tables, records].concat())
+}
+
 /// The book of entries with one record put in another way: as much of the name before as is said,
 /// often to the inside of a sign, and the rest of the name, or whole signs, or halves.
 pub fn respelled(random: &mut Random, entries: &Entries) -> Vec<u8> {
     let names: Vec<&Vec<u8>> = entries.keys().collect();
     let image = book::image(entries);
-    let Some(i) = (1..names.len()).rev().find(|&i| i % book::BUCKET != 0 && random.chance(3))
-    else {
+    let Some(i) = (0..names.len()).rev().find(|_| random.chance(3)) else {
         return image;
     };
-    let (before, name) = (names[i - 1], names[i]);
+    let none = Vec::new();
+    let (before, name) = (if i == 0 { &none } else { names[i - 1] }, names[i]);
     let places: Vec<usize> =
         (1..=before.len()).filter(|&at| text(&before[..at]).is_none()).collect();
     let kept = match places[..] {
@@ -331,29 +370,9 @@ pub fn respelled(random: &mut Random, entries: &Entries) -> Vec<u8> {
         2 => random.pick(&[MICRO, OHM]).to_string().into_bytes(),
         _ => wrong_sign(random),
     };
-    let old = common(before, name);
-    let (front, length) = (record_at(&names, entries.len(), i), 2 + name.len() - old);
-    let new = [&[kept as u8, rest.len() as u8][..], &rest].concat();
-    let mut bytes = [&image[..front], &new, &image[front + length..]].concat();
-    let grown = bytes.len() as isize - image.len() as isize;
-    let total = (bytes.len() as u32).to_be_bytes();
-    bytes[1..5].copy_from_slice(&total);
-    for bucket in i / book::BUCKET + 1..entries.len().div_ceil(book::BUCKET) {
-        let at = 7 + 4 * entries.len() + 2 * bucket;
-        let offset = u16::from_be_bytes([bytes[at], bytes[at + 1]]) as isize + grown;
-        bytes[at..at + 2].copy_from_slice(&(offset as u16).to_be_bytes());
-    }
-    bytes
-}
-
-/// Where the record of a position begins in a book of n names.
-fn record_at(names: &[&Vec<u8>], n: usize, position: usize) -> usize {
-    let tables = 7 + 4 * n + 2 * n.div_ceil(book::BUCKET) + 2 * n.div_ceil(book::BLOCK);
-    let lengths = (0..position).map(|i| match i % book::BUCKET {
-        0 => 1 + names[i].len(),
-        _ => 2 + names[i].len() - common(names[i - 1], names[i]),
-    });
-    tables + lengths.sum::<usize>()
+    let mut records = records(entries);
+    records[i] = Record { kept: kept as u8, length: rest.len() as u8, rest };
+    with_records(entries, &records)
 }
 
 /// A number to ask for near a limit, or far from all.
@@ -372,6 +391,16 @@ pub fn number(random: &mut Random, limit: usize) -> usize {
             256,
         ]),
         _ => random.below(limit),
+    }
+}
+
+/// The number of a bucket of a book of n names: 0, which has a head name if any has; 1, 2 and those
+/// that a book of version 21 has; far from all.
+pub fn bucket(random: &mut Random, n: usize) -> usize {
+    match random.below(4) {
+        0 | 1 => 0,
+        2 => random.pick(&[1, 2, 1 << 32, usize::MAX]),
+        _ => number(random, n.div_ceil(book::BUCKET)),
     }
 }
 

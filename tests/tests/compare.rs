@@ -11,8 +11,14 @@ use std::collections::BTreeSet;
 
 #[path = "compare/counts.rs"]
 mod counts;
+#[path = "compare/edits.rs"]
+mod edits;
 #[path = "compare/histories.rs"]
 mod histories;
+#[path = "compare/layouts.rs"]
+mod layouts;
+#[path = "compare/old_books.rs"]
+mod old_books;
 #[path = "compare/pages.rs"]
 mod pages;
 #[path = "compare/panels.rs"]
@@ -25,7 +31,7 @@ mod signs;
 /// Longer than every image and every page.
 const LONG_BUFFER: usize = 90_000;
 
-const SIZES: [usize; 16] = [0, 1, 2, 7, 8, 9, 15, 16, 17, 31, 32, 33, 127, 129, 1023, 1024];
+const SIZES: [usize; 17] = [0, 1, 2, 7, 8, 9, 15, 16, 17, 31, 32, 33, 127, 128, 129, 1023, 1024];
 
 /// The sizes of two books that are merged.
 const MERGED_SIZES: [usize; 11] = [0, 1, 7, 8, 9, 15, 16, 17, 512, 1023, 1024];
@@ -74,7 +80,7 @@ fn ask(compare: &mut Compare, random: &mut Random, buffer: &[u8], held: &Entries
     let position = make::number(random, n);
     let dst = destination(random, needed(|d| calls::name_at(buffer, position, d)));
     compare.name_at(buffer, position, &dst);
-    compare.head(buffer, make::number(random, n.div_ceil(8)));
+    compare.head(buffer, make::bucket(random, n));
     complete(compare, random, buffer, &name);
 }
 
@@ -188,7 +194,7 @@ fn any_image(compare: &mut Compare, random: &mut Random, buffer: &[u8], held: &E
             3 => compare.name_at(buffer, random.below(held.len()), &dst),
             4 => compare.name_of(buffer, &name, &dst),
             5 => compare.prefix_range(buffer, &name[..random.below(name.len() + 1)]),
-            6 => compare.head(buffer, 0),
+            6 => compare.head(buffer, make::bucket(random, held.len())),
             7 => {
                 compare.list(buffer, &dst);
             }
@@ -247,7 +253,7 @@ fn noise(compare: &mut Compare, random: &mut Random, rounds: usize) {
         let mut bytes = random.bytes(length);
         if bytes.len() >= 7 && !random.chance(10) {
             let total = if random.chance(3) { random.below(90) } else { length } as u32;
-            bytes[0] = random.pick(&[0x21, 0x11, 0x31]);
+            bytes[0] = random.pick(&[0x22, 0x22, 0x11, 0x31, 0x21]);
             bytes[1..5].copy_from_slice(&total.to_be_bytes());
             bytes[5] = 0;
             bytes[6] = random.below(4) as u8;
@@ -359,13 +365,13 @@ fn entries(of: &[(&str, u32)]) -> Entries {
 /// The cases that the document works out, made by the calls themselves.
 fn worked(compare: &mut Compare) {
     let (told, mut book) = compare.empty(&[0xEE; 200]);
-    assert_eq!((told, &book[..7]), ((0, [0, 7, 0]), &bytes("21 00 00 00 07 00 00")[..]));
+    assert_eq!((told, &book[..7]), ((0, [0, 7, 0]), &bytes("22 00 00 00 07 00 00")[..]));
     for (name, score) in [("rc step", 9), ("rl", 12), ("ac", 5), ("rc", 9)] {
         book = compare.set(&book, name.as_bytes(), score, &[0xEE; 200]).1;
     }
-    let p3 = "21 00 00 00 2C 00 04 00 00 00 05 00 00 00 09 00 00 00 09 00 00 00 0C 00 1B 00 03 \
-              02 61 63 00 02 72 63 02 05 20 73 74 65 70 01 01 6C";
-    assert_eq!(book[..44], bytes(p3));
+    let p3 = "22 00 00 00 2B 00 04 00 00 00 05 00 00 00 09 00 00 00 09 00 00 00 0C 00 03 \
+              00 02 61 63 00 02 72 63 02 05 20 73 74 65 70 01 01 6C";
+    assert_eq!(book[..43], bytes(p3));
     let (told, trie) = compare.write_trie(&book, &[0xEE; 28]);
     assert_eq!(told, (0, [4, 28, 0]));
     assert_eq!(
@@ -386,9 +392,10 @@ fn worked(compare: &mut Compare) {
     ten.insert(vec![b'x'; 47], 0);
     ten.insert(vec![b'x'; 48], 0);
     let book = book::image(&ten);
-    assert_eq!(book.len(), 127);
-    assert_eq!(compare.withdraw(&book, b"1", &[0; 130]).0, (7, [0; 3]));
-    assert_eq!(compare.withdraw(&book, b"1", &[0; 167]).0, (0, [9, 167, 0]));
+    assert_eq!(book.len(), 125);
+    assert_eq!(compare.withdraw(&book, b"1", &[0; 117]).0, (7, [0; 3]));
+    assert_eq!(compare.withdraw(&book, b"1", &[0; 118]).0, (0, [9, 118, 0]));
+    assert_eq!(compare.withdraw(&book, b"1", &[0; 125]).0, (0, [9, 118, 0]));
     assert_eq!(compare.set(&book, &[b'y'; 48], 1, &[0; 400]).0 .0, 0);
     assert_eq!(compare.set(&book, &[b'y'; 49], 1, &[0; 400]).0 .0, 2);
 }
@@ -398,14 +405,14 @@ fn worked(compare: &mut Compare) {
 fn worked_merges(compare: &mut Compare) {
     let one = book::image(&[(b"rc".to_vec(), 9)].into());
     let two = book::image(&[(b"rc".to_vec(), 20), (b"rl".to_vec(), 12)].into());
-    let merged = "21 00 00 00 19 00 02 00 00 00 09 00 00 00 0C 00 13 00 01 02 72 63 01 01 6C";
-    assert_eq!(compare.merge(&one, &two, &[0; 25]), ((0, [2, 25, 0]), bytes(merged)));
-    let merged = "21 00 00 00 19 00 02 00 00 00 14 00 00 00 0C 00 13 00 00 02 72 63 01 01 6C";
-    assert_eq!(compare.merge(&two, &one, &[0; 25]), ((0, [2, 25, 0]), bytes(merged)));
-    assert_eq!(compare.merge(&one, &two, &[0; 24]), ((7, [0; 3]), vec![0; 24]));
+    let merged = "22 00 00 00 18 00 02 00 00 00 09 00 00 00 0C 00 01 00 02 72 63 01 01 6C";
+    assert_eq!(compare.merge(&one, &two, &[0; 24]), ((0, [2, 24, 0]), bytes(merged)));
+    let merged = "22 00 00 00 18 00 02 00 00 00 14 00 00 00 0C 00 00 00 02 72 63 01 01 6C";
+    assert_eq!(compare.merge(&two, &one, &[0; 24]), ((0, [2, 24, 0]), bytes(merged)));
+    assert_eq!(compare.merge(&one, &two, &[0; 23]), ((7, [0; 3]), vec![0; 23]));
     // A book and itself, lent as the same bytes.
-    let mut dst = [0; 25];
-    assert_eq!((ours::merge(&two, &two, &mut dst), &dst[..]), ((0, [2, 25, 0]), &two[..]));
+    let mut dst = [0; 24];
+    assert_eq!((ours::merge(&two, &two, &mut dst), &dst[..]), ((0, [2, 24, 0]), &two[..]));
 }
 
 /// A history's run by bytes, refusals included, on buffers of 30 bytes each.
@@ -415,17 +422,17 @@ fn worked_run(compare: &mut Compare) {
                   00 00 00 00 00 00 00  00 00 00 00 01 00 07 72 63 20 73 74 65 70 \
                   01 00 00 00 00 00 02 72 6C";
     let answers =
-        "00 00 01 00 00 00 12  00 00 02 00 00 00 19  04 00 00 00 00 00 00  02 00 00 00 00 00 00 \
-                   07 00 00 00 00 00 00  00 00 01 00 00 00 12";
+        "00 00 01 00 00 00 11  00 00 02 00 00 00 18  04 00 00 00 00 00 00  02 00 00 00 00 00 00 \
+                   07 00 00 00 00 00 00  00 00 01 00 00 00 11";
     let both =
-        "21 00 00 00 19 00 02 00 00 00 09 00 00 00 0C 00 13 00 01 02 72 63 01 01 6C EE EE EE EE EE";
+        "22 00 00 00 18 00 02 00 00 00 09 00 00 00 0C 00 01 00 02 72 63 01 01 6C EE EE EE EE EE EE";
     let one =
-        "21 00 00 00 12 00 01 00 00 00 09 00 0F 00 00 02 72 63 EE EE EE EE EE EE EE EE EE EE EE EE";
+        "22 00 00 00 11 00 01 00 00 00 09 00 00 00 02 72 63 EE EE EE EE EE EE EE EE EE EE EE EE EE";
     let (told, left) = compare.run(&bytes(script), [&[0xEE; 30], &[0xEE; 30], &[0; 42]]);
     assert_eq!((told, left), ((0, [6, 1, 0]), [both, one, answers].map(bytes)));
     assert_eq!(
         (ours::check(&bytes(both)), ours::check(&bytes(one)[1..])),
-        ((0, [2, 25, 0]), (1, [0; 3]))
+        ((0, [2, 24, 0]), (1, [0; 3]))
     );
 }
 
@@ -439,6 +446,8 @@ fn round(compare: &mut Compare, seed: u64) {
     signs::worked(compare);
     counts::worked(compare);
     pages::worked(compare);
+    old_books::worked(compare);
+    layouts::worked(compare);
     sizes(compare, &mut random, 40);
     every_place(compare, &mut random, 6);
     damage(compare, &mut random, 600);
@@ -457,7 +466,7 @@ fn round(compare: &mut Compare, seed: u64) {
     for (length, names) in books.into_iter().chain([(20_000, Names::Any)]) {
         histories::long_history(compare, &mut random, length, 20_000, names);
     }
-    for (length, names) in [7, 18, 25, 130, 300, 900, 3000]
+    for (length, names) in [7, 17, 24, 118, 130, 300, 900, 3000]
         .into_iter()
         .flat_map(|length| NAMES.map(|names| (length, names)))
     {
@@ -473,6 +482,13 @@ fn round(compare: &mut Compare, seed: u64) {
     damaged_merges(compare, &mut random, 300);
     counts::books(compare, &mut random);
     pages::books(compare, &mut random);
+    old_books::books(compare, &mut random, 60);
+    layouts::records(compare, &mut random);
+    layouts::peaks(compare, &mut random);
+    edits::small_books(compare, &mut random);
+    edits::neighbours(compare, &mut random, 12);
+    edits::withdrawals(compare, &mut random);
+    edits::kin(compare, &mut random, 30);
 }
 
 fn main() {

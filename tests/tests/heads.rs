@@ -1,13 +1,13 @@
 //! The head names that the library hands out as parts of the lent book, as the program lookup_heads
-//! prints them: on books of all sizes, damaged ones and noise. Each line is the second
+//! prints them: on books of all sizes, damaged ones, old ones and noise. Each line is the second
 //! implementation's head name, and what the call for C that tells its place and length says; it is
 //! empty where they refuse. Seeded and bounded.
 use label_book_tests::make::{self, Scores, NAMES};
 use label_book_tests::programs::printed;
 use label_book_tests::random::Random;
-use label_book_tests::reference::{book, sheet, trie, Entries};
+use label_book_tests::reference::{book, calls, sheet, trie, Entries};
 
-/// One more than the buckets that a book of 1,024 names has.
+/// One more than the buckets that a book of 1,024 names had in version 21.
 const LINES: usize = 129;
 
 /// The program reads no more of its input.
@@ -23,9 +23,10 @@ struct Counts {
     names: usize,
 }
 
-/// The head names of the book at the front of a buffer, none where it is damaged.
-fn heads(buffer: &[u8]) -> Vec<Vec<u8>> {
-    book::read(buffer).unwrap_or_default().into_keys().step_by(book::BUCKET).collect()
+/// The head name of bucket 0 by the second implementation, empty where it refuses. No other bucket
+/// has one.
+fn head(buffer: &[u8]) -> &[u8] {
+    calls::head(buffer, 0).map_or(&[], |(start, length)| &buffer[start..start + length])
 }
 
 /// What the call for C says of a bucket: the part of the book, empty where it refuses.
@@ -33,7 +34,7 @@ fn part(book: &[u8], bucket: usize) -> &[u8] {
     match label_book_tests::calls::head(book, bucket) {
         (0, [start, length, _]) => &book[start as usize..][..length as usize],
         (number, told) => {
-            assert!([1, 6].contains(&number) && told == [0; 3], "bucket {bucket}: {number}");
+            assert!([1, 6, 10].contains(&number) && told == [0; 3], "bucket {bucket}: {number}");
             &[]
         }
     }
@@ -42,22 +43,22 @@ fn part(book: &[u8], bucket: usize) -> &[u8] {
 /// Every line that the program prints for an input.
 fn compare(counts: &mut Counts, input: &[u8]) {
     let lent = &input[..input.len().min(BUFFER)];
-    let heads = heads(lent);
+    let head = head(lent);
     let printed = printed("lookup_heads", input);
     let lines: Vec<&[u8]> = printed.split(|byte| *byte == b'\n').collect();
     let agrees = lines.len() == LINES + 1
         && lines[LINES].is_empty()
         && (0..LINES).all(|bucket| {
-            let second = heads.get(bucket).map_or(&[][..], Vec::as_slice);
+            let second = if bucket == 0 { head } else { &[] };
             lines[bucket] == second && lines[bucket] == part(lent, bucket)
         });
     if !agrees {
         let (input, printed) = (input.escape_ascii(), printed.escape_ascii());
-        panic!("lookup_heads: a difference\ninput  {input}\nours   {printed}\nsecond {heads:?}");
+        panic!("lookup_heads: a difference\ninput  {input}\nours   {printed}\nsecond {head:?}");
     }
     counts.inputs += 1;
-    counts.refused += book::read(lent).is_none() as usize;
-    counts.names += heads.len();
+    counts.refused += book::read(lent).is_err() as usize;
+    counts.names += !head.is_empty() as usize;
 }
 
 /// A book exact, with bytes behind it, cut by one byte, and damaged.
@@ -70,6 +71,9 @@ fn of_entries(counts: &mut Counts, random: &mut Random, held: &Entries) {
     for _ in 0..4 {
         compare(counts, &make::damaged(random, &image));
     }
+    let old = book::Version::Buckets.image(held);
+    compare(counts, &old);
+    compare(counts, &old[..random.between(1, old.len())]);
 }
 
 /// Inputs that are no books.
@@ -77,7 +81,7 @@ fn noise(counts: &mut Counts, random: &mut Random) {
     let length = random.below(200);
     let mut bytes = random.bytes(length);
     if length >= 7 {
-        bytes[..7].copy_from_slice(&[0x21, 0, 0, 0, length as u8, 0, random.below(4) as u8]);
+        bytes[..7].copy_from_slice(&[0x22, 0, 0, 0, length as u8, 0, random.below(4) as u8]);
     }
     compare(counts, &bytes);
     compare(counts, &bytes[..random.below(8).min(length)]);

@@ -16,20 +16,20 @@ const RANGE: usize = size_of::<Range>();
 /// The numbers that each call returns when a buffer of it is NULL, and any other arguments.
 const NUMBERS: [(&str, &[u8]); 18] = [
     ("empty", &[7]),
-    ("set", &[1, 2, 7]),
-    ("withdraw", &[1, 2, 4, 7]),
-    ("merge", &[1, 7]),
+    ("set", &[1, 2, 7, 10]),
+    ("withdraw", &[1, 2, 4, 7, 10]),
+    ("merge", &[1, 7, 10]),
     ("check", &[1]),
-    ("find", &[1, 2]),
-    ("name_at", &[1, 6, 7]),
-    ("name_of", &[1, 2, 4, 7]),
-    ("prefix_range", &[0, 1]),
+    ("find", &[1, 2, 10]),
+    ("name_at", &[1, 6, 7, 10]),
+    ("name_of", &[1, 2, 4, 7, 10]),
+    ("prefix_range", &[0, 1, 10]),
     ("head", &[1]),
     ("build", &[1, 7]),
-    ("list", &[1, 7]),
-    ("page", &[1, 7]),
-    ("write_trie", &[1, 7]),
-    ("complete", &[0, 1, 2, 3, 7]),
+    ("list", &[1, 7, 10]),
+    ("page", &[1, 7, 10]),
+    ("write_trie", &[1, 7, 10]),
+    ("complete", &[0, 1, 2, 3, 7, 10]),
     ("complete_trie", &[0, 1, 2, 3, 7]),
     ("press", &[1]),
     ("run", &[0, 1, 7]),
@@ -170,6 +170,12 @@ fn with_cut([none, some]: [Vec<u8>; 2]) -> Vec<Vec<u8>> {
     vec![vec![], none, some, cut]
 }
 
+/// Books, and two of version 21, of which one is cut to a byte.
+fn with_old(books: Vec<Vec<u8>>, some: &Entries) -> Vec<Vec<u8>> {
+    let old = book::Version::Buckets.image(some);
+    books.into_iter().chain([old[..1].to_vec(), old]).collect()
+}
+
 fn given() -> Given {
     let some = [("ac", 5), ("rc", 9), ("rc step", 9), ("rl", 12)];
     let some: Entries = some.map(|(name, score)| (name.as_bytes().to_vec(), score)).into();
@@ -178,7 +184,7 @@ fn given() -> Given {
     let calls = [call(Kind::Set, b"rc"), call(Kind::Set, b""), call(Kind::Withdraw, b"rc")];
     let names = [&b""[..], b"rc", b"r\xC2\xB5", b"zz", b"\xC2", &[b'x'; NAME_MAX + 1]];
     Given {
-        books: with_cut([book::image(&none), book::image(&some)]),
+        books: with_old(with_cut([book::image(&none), book::image(&some)]), &some),
         names: names.map(<[u8]>::to_vec).into(),
         sheets: with_cut([sheet::image(&none), sheet::image(&some)]),
         tries: with_cut([trie::image(&none), trie::image(&some)]),

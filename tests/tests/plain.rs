@@ -21,7 +21,7 @@ fn ask(random: &mut Random, buffer: &[u8], sheet: &[u8], held: &Entries) {
     let name = make::asked(random, held);
     let prefix = &name[..random.below(name.len() + 1)];
     let (position, bucket, k) =
-        (make::number(random, held.len()), make::number(random, 3), make::count(random));
+        (make::number(random, held.len()), make::bucket(random, held.len()), make::count(random));
     let whole = random.bytes(LONG_BUFFER);
     let dst = &whole[..make::room(random, book::image(held).len())];
     let lines = &whole[..make::room(random, page::bytes(held).len())];
@@ -74,11 +74,16 @@ fn ask_trie(random: &mut Random, image: &[u8], held: &Entries) {
 /// Pairs of books, one or both damaged or none, into a destination of about the bytes needed.
 fn ask_merge(random: &mut Random, sizes: [usize; 2], shared: usize, names: Names) {
     let (places, scores) = (random.pick(&PLACES), random.pick(&SCORES));
-    let images =
-        make::pair(random, sizes, shared, places, names, scores).map(|held| book::image(&held));
+    let pair = make::pair(random, sizes, shared, places, names, scores);
+    let old = pair.each_ref().map(|held| book::Version::Buckets.image(held));
+    let images = pair.map(|held| book::image(&held));
     let whole = random.bytes(LONG_BUFFER);
     let needed =
         calls::merge(&images[0], &images[1], &mut whole.clone()).map_or(60_000, |(_, bytes)| bytes);
+    for [first, second] in [[&images[0], &old[1]], [&old[0], &images[1]], [&old[0], &old[1]]] {
+        let first = if random.chance(2) { first } else { &make::damaged(random, first) };
+        same(&whole, |d| plain::merge(first, second, d), |d| calls::merge(first, second, d));
+    }
     for damaged in [[false, false], [true, false], [false, true], [true, true]] {
         let dst = &whole[..make::room(random, needed)];
         let [first, second] = [0, 1].map(|i| {
@@ -123,6 +128,13 @@ fn plain_calls_agree() {
                 let held = make::entries(&mut random, n, names, scores);
                 let (image, sheet) = (book::image(&held), sheet::image(&held));
                 ask_trie(&mut random, &trie::image(&held), &held);
+                let old = book::Version::Buckets.image(&held);
+                ask(&mut random, &old, &sheet, &held);
+                ask(&mut random, &old[..1], &sheet, &held);
+                let changed = make::damaged(&mut random, &old);
+                ask(&mut random, &changed, &sheet, &held);
+                let changed = make::respelled(&mut random, &held);
+                ask(&mut random, &changed, &sheet, &held);
                 for _ in 0..8 {
                     ask(&mut random, &image, &sheet, &held);
                     let (buffer, paper) =

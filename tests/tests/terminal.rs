@@ -667,7 +667,7 @@ fn window_closed() {
 }
 
 /// What is said, and the status, where the panel does not start.
-const NOT_STARTED: [(&str, &str, &str, i32); 9] = [
+const NOT_STARTED: [(&str, &str, &str, i32); 10] = [
     ("no argument", "../terminal", "usage: terminal BOOKFILE", 2),
     ("two arguments", "../terminal lesson.book lesson.book", "usage: terminal BOOKFILE", 2),
     ("no keyboard", "../terminal lesson.book </dev/null", NO_TERMINAL, 2),
@@ -677,13 +677,15 @@ const NOT_STARTED: [(&str, &str, &str, i32); 9] = [
     ("pipe", "rm -f p; mkfifo p; ../terminal p", "terminal: p: not a regular file", 1),
     ("empty file", ">e; ../terminal e", "terminal: e: refused, 1: NOT_LAID_OUT", 1),
     ("no book", "echo >n; ../terminal n", "terminal: n: refused, 1: NOT_LAID_OUT", 1),
+    ("old book", "printf '!' >o; ../terminal o", "terminal: o: refused, 10: OLD_VERSION", 1),
 ];
 
 fn not_started(case: &str, command: &str, message: &str, status: i32) {
     let command = format!("{command}; echo \"left with $?\"; read line");
-    let mut window = Window::with_command(case, &command, lesson().image(), (LINES, 100));
+    let mut window = Window::with_command(case, &command, lesson().image(), (LINES, 140));
     window.wait_until_left(status);
     let message = message.replace("NOT_LAID_OUT", NOT_LAID_OUT);
+    let message = message.replace("OLD_VERSION", &Refusal::OldVersion.to_string());
     assert_eq!(window.screen.line(1), message, "{case}");
     assert_eq!(window.screen.line(2), format!("left with {status}"), "{case}");
 }

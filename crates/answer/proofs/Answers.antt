@@ -80,12 +80,6 @@ module _ {B : Type 0} (front : List Check) (b : B) (ds : List Check) where
   unfolding writing
   writing-refused n h a bytes dst = rw (unless-refused front b n h ds a)
 
-  pub writing-clear :
-      (x : B) → unless front b ≡ given x → {A : Type 0} (a : A) (bytes dst : List ℕ)
-      → writing (front ++ ds) a bytes dst ≡ writing ds a bytes dst
-  unfolding writing
-  writing-clear x h a bytes dst = rw (unless-clear front b x h ds a)
-
 -- and of an image that a call writes
 module _ {B : Type 0} (front : List Check) (b : B) (ds : List Check) (es : List Entry) (image dst : List ℕ) where
   abbrev behind : List Check
@@ -96,9 +90,3 @@ module _ {B : Type 0} (front : List Check) (b : B) (ds : List Check) (es : List 
   unfolding writingImage
   image-refused n h =
       rw (append-assoc front ds (7 when tooShort dst image ∷ [])) (writing-refused front b behind n h _ image dst)
-
-  pub image-clear :
-      (x : B) → unless front b ≡ given x → writingImage (front ++ ds) es image dst ≡ writingImage ds es image dst
-  unfolding writingImage
-  image-clear x h =
-      rw (append-assoc front ds (7 when tooShort dst image ∷ [])) (writing-clear front b behind x h _ image dst)

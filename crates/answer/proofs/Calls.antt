@@ -1,15 +1,12 @@
 -- Calls by their checks: the number of a refusal, and the destination after an answer.
-use Prim.Native.Nat.{_<_, _≤_, ℕ}
+use Prim.Native.Nat.{ℕ}
 use mathlib.Core.Path.{_≡_, refl, sym}
-use mathlib.Core.Logic.{_⊎_, inl, inr}
-use mathlib.Core.Bool.{Bool, _&&_, true}
+use mathlib.Core.Logic.{inl}
 use mathlib.Core.List.{List, [], _∷_}
-use lib.Dec.{ltb}
 use native.Mathlib.Omega.{arith}
-use borrow.Author.Tests.{ltb-true}
 use Rattle.octets.specs.Lists.{_∈_}
 use Rattle.octets.specs.Octets.{overwrite}
-use Rattle.octets.proofs.Tests.{and-true, by-test}
+use Rattle.octets.proofs.Tests.{by-test}
 use Rattle.answer.specs.Answers.{Answer, Check, applying, given, refused, unless, writing}
 
 given-refused : {A : Type 0} {G : Type 0} (a : A) (n : ℕ) → given a ≡ refused n → G

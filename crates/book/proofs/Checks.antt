@@ -1,16 +1,15 @@
 -- What every call that is given books declines for first: a book that is read is not an old one, so that it passes; and
 -- the number for two books is the greater of the numbers for each.
 use Prim.Native.Nat.{_≤_, max, ℕ}
-use mathlib.Core.Path.{_∙_, _≡_, ap, refl, sym}
-use mathlib.Core.Bool.{Bool, _||_, false, not, true}
-use mathlib.Core.List.{List, [], _++_, _∷_}
+use mathlib.Core.Path.{_∙_, _≡_, ap, sym}
+use mathlib.Core.Bool.{false, not, true}
+use mathlib.Core.List.{List, [], _∷_}
 use lib.ListN.{getD}
 use native.Mathlib.Omega.{arith}
 use borrow.Author.Tests.{ne-eqb}
 use Rattle.octets.proofs.Order.{begins-first}
 use Rattle.octets.proofs.Tests.{by-test}
 use Rattle.answer.specs.Answers.{Check, given, number, refused, unless}
-use Rattle.answer.proofs.Answers.{unless-clear}
 use Rattle.book.specs.Book.{inBook, isBook, layout21, today}
 use Rattle.book.specs.Checks.{bookChecks, isOld}
 use Rattle.book.proofs.Reading.{book-exact, book-read}
@@ -27,22 +26,6 @@ read-not-old buf h =
 pub book-clear : (buf : List ℕ) → isBook buf ≡ true → unless {A = ℕ} (bookChecks (buf ∷ [])) 0 ≡ given 0
 book-clear buf h = rw (read-not-old buf h, h)
 
-pub book-passes :
-    {A : Type 0} (buf : List ℕ) → isBook buf ≡ true → (ds : List Check) (a : A)
-    → unless (bookChecks (buf ∷ []) ++ ds) a ≡ unless ds a
-book-passes buf h ds a = unless-clear {B = ℕ} (bookChecks (buf ∷ [])) 0 0 (book-clear buf h) ds a
-
-pub books-clear :
-    (first second : List ℕ) → isBook first ≡ true → isBook second ≡ true
-    → unless {A = ℕ} (bookChecks (first ∷ second ∷ [])) 0 ≡ given 0
-books-clear first second f s = rw (read-not-old first f, read-not-old second s, f, s)
-
-pub books-pass :
-    {A : Type 0} (first second : List ℕ) → isBook first ≡ true → isBook second ≡ true → (ds : List Check) (a : A)
-    → unless (bookChecks (first ∷ second ∷ []) ++ ds) a ≡ unless ds a
-books-pass first second f s ds a =
-    unless-clear {B = ℕ} (bookChecks (first ∷ second ∷ [])) 0 0 (books-clear first second f s) ds a
-
 -- The number for one book: 10, 1, or 0 where it is none of the two.
 abbrev pub refusalOf : List ℕ → ℕ
 refusalOf book = number (unless {A = ℕ} (bookChecks (book ∷ [])) 0)
@@ -55,16 +38,6 @@ refusal-damaged book t u = rw (t, u)
 
 pub refusal-none : (book : List ℕ) → isBook book ≡ true → refusalOf book ≡ 0
 refusal-none book h = ap number (book-clear book h)
-
--- a book of which nothing is declined is read
-pub refusal-read : (book : List ℕ) → refusalOf book ≡ 0 → isBook book ≡ true
-refusal-read book h =
-    by-test (isBook book)
-    (λ t. t)
-    (λ t.
-    by-test (isOld book)
-    (λ u. let z = refusal-old book u in absurd (omega arith))
-    (λ u. let z = refusal-damaged book u t in absurd (omega arith)))
 
 pub one-refused :
     (book : List ℕ) {t : ℕ} → t ≡ refusalOf book → (t ≡ 0 → ⊥) → unless {A = ℕ} (bookChecks (book ∷ [])) 0 ≡ refused t

@@ -1,4 +1,5 @@
--- The marked book cases of document 01 as printed there, in version 21, with others that have several buckets: one table,
+-- The marked book cases of document 01 as printed there, in version 21, with others that have several buckets: one
+-- table,
 -- one proposition.
 use Prim.Native.Nat.{ℕ}
 use mathlib.Core.Path.{_≡_, refl}
@@ -7,12 +8,11 @@ use lib.ListN.{drop, length, replicate, take}
 use Rattle.octets.specs.Lists.{concatMap, countFrom}
 use Rattle.octets.specs.Octets.{be, fromBe}
 use Rattle.octets.specs.Table.{Row, _gives_, failing}
-use Rattle.octets.specs.Text.{text}
 use Rattle.entries.specs.Entries.{valid}
 use Rattle.entries.specs.Names.{allowedBytes, isName, isPrefix, isScore}
 use Rattle.book.specs.Records.{recordLength, recordName, recordOf}
-use Rattle.book.specs.Book.{entriesIn, imageIn, layout21, layout22, offset, offsets, peak, peaks, readIn, recordsAt}
-use Rattle.book.specs.Book.{scores}
+use Rattle.book.specs.Book.{entriesIn, imageIn, layout21, layout22, offset, offsets, peak, peaks, readIn}
+use Rattle.book.specs.Book.{recordsAt, scores}
 use Rattle.frame.specs.Frame.{countOf, framed, readAs}
 use Rattle.book.specs.Shown.{E, P1, P10, P3, P9, changed, letters, listed, seventeen, shownRead, spare}
 

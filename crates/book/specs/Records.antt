@@ -1,5 +1,6 @@
 -- Front coding (document 01, "Book image", Records; source document 002). A bucket's head is written whole; another
--- name gives what it shares with the name before. Whether there are heads, `heads`, is a parameter: it differs by version.
+-- name gives what it shares with the name before. Whether there are heads, `heads`, is a parameter: it differs by
+-- version.
 use Prim.Native.Nat.{_%_, _+_, _-_, suc, zero, ℕ}
 use mathlib.Core.Bool.{Bool, false, true}
 use mathlib.Core.List.{List, [], _++_, _∷_}

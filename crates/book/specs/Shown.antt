@@ -12,7 +12,8 @@ use Rattle.entries.specs.Names.{micro, ohm}
 use Rattle.answer.specs.Answers.{Answer, FoundCounts, OfferedCounts, Outcome, SpanCounts, WrittenCounts, counts, given}
 use Rattle.answer.specs.Answers.{noneOffered, noneSpan, noneWritten, number, refused}
 
--- "Shown on the bench": entries E; P1 the empty book, P2 the empty trie, P3 E as book, P4 E as trie. The books are worked
+-- "Shown on the bench": entries E; P1 the empty book, P2 the empty trie, P3 E as book, P4 E as trie. The books are
+-- worked
 -- again for version 22 (document 02, request f); as printed there, for version 21, they stand in `Old`.
 abbrev pub E : List Entry
 E = entry (text "ac") 5 ∷ entry (text "rc") 9 ∷ entry (text "rc step") 9 ∷ entry (text "rl") 12 ∷ []

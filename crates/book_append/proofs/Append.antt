@@ -30,7 +30,8 @@ last-append prev [] ws = refl
 last-append prev (v ∷ vs) ws = last-append v vs ws
 
 -- what is put keeps the buffer's length
-length-put : (l : Layout) (n i : ℕ) (prev : List ℕ) (at : ℕ) (e : Entry) (d : List ℕ) → length (putEntry l n i prev at e d) ≡ length d
+length-put : (l : Layout) (n i : ℕ) (prev : List ℕ) (at : ℕ) (e : Entry) (d : List ℕ)
+    → length (putEntry l n i prev at e d) ≡ length d
 unfolding putEntry putOffset
 length-put l n i prev at e d =
     rw length-sets
@@ -101,7 +102,8 @@ module _ {l : Layout} {c : Cursor} {es : List Entry} {r : Cursor} (p : Went l c 
       }
 
   pub fits-rest :
-      {store : Bool} {n : ℕ} {d new : List ℕ} → length new ≡ length d → (fs : List Entry) → Fits l store n c (es ++ fs) d
+      {store : Bool} {n : ℕ} {d new : List ℕ} → length new ≡ length d → (fs : List Entry)
+      → Fits l store n c (es ++ fs) d
       → Fits l store n r fs new
   fits-rest long fs f =
       record {
@@ -146,7 +148,8 @@ module _ {l : Layout} {store : Bool} {n : ℕ} {c : Cursor} {es : List Entry} {d
       rw a (length-putAll l n (c .index) (nameIn c) (c .at) es d))
       (λ t. let a : new ≡ d = rw t at (p .bytes) in rw a)
 
-pub fits-first : {l : Layout} {store : Bool} {n : ℕ} {c : Cursor} (es fs : List Entry) {d : List ℕ} → Fits l store n c (es ++ fs) d
+pub fits-first : {l : Layout} {store : Bool} {n : ℕ} {c : Cursor} (es fs : List Entry) {d : List ℕ}
+    → Fits l store n c (es ++ fs) d
     → Fits l store n c es d
 fits-first {l} {store} {n} {c} es fs {d} f =
     let e = end-split l c es fs in
@@ -224,7 +227,8 @@ module _ {l : Layout} {store : Bool} {n i at : ℕ} {prev w : List ℕ} {s : ℕ
       }
 
   pub passed-put :
-      {r : ℕ} {new : List ℕ} → store ≡ true → EntryPut (record { layout = l; n = n; index = i; at = at }) d new prev w s r
+      {r : ℕ} {new : List ℕ} → store ≡ true
+      → EntryPut (record { layout = l; n = n; index = i; at = at }) d new prev w s r
       → AppendDone l store n (cursorBehind at i prev) (entry w s ∷ []) d (cursorBehind r (i + 1) w) new
   passed-put t p = record { bytes = rw (t, take-length) (p .bytes); went = one-went (p .end) }
 

@@ -1,7 +1,7 @@
 -- The loop of a pass, whatever gives the entries: to pass those that are left gives what to pass all of them at first
 -- gives.
 use Prim.Native.Nat.{ℕ}
-use mathlib.Core.Path.{_∙_, _≡_, refl}
+use mathlib.Core.Path.{_∙_, _≡_}
 use mathlib.Core.Bool.{Bool}
 use mathlib.Core.List.{List, [], _++_}
 use lib.ListN.{length}
@@ -12,18 +12,16 @@ use Rattle.book_append.proofs.Append.{fits-first, fits-rest, passed-app
 use Rattle.book_laws.specs.declared.Cursor.{Cursor}
 
 -- es are left of all, and the first of them comes at the cursor w; d is the buffer then, d₀ the one at first
-pub record Left (l : Layout) (store : Bool) (n : ℕ) (to : Cursor) (all : List Entry) (d₀ : List ℕ) (w : Cursor) (es : List Entry)
+pub record Left (l : Layout) (store : Bool) (n : ℕ) (to : Cursor) (all : List Entry) (d₀ : List ℕ) (w : Cursor)
+    (es : List Entry)
     (d : List ℕ) : Type 0 where
   pub sameLength : length d ≡ length d₀
   pub fits : Fits l store n w es d
   pub whole : {r : Cursor} {new : List ℕ} → AppendDone l store n w es d r new → AppendDone l store n to all d₀ r new
 
-pub all-left : {l : Layout} {store : Bool} {n : ℕ} {to : Cursor} {all : List Entry} {d₀ : List ℕ} → Fits l store n to all d₀
-    → Left l store n to all d₀ to all d₀
-all-left f = record { sameLength = refl; fits = f; whole = λ p. p }
-
 module _
-    {l : Layout} {store : Bool} {n : ℕ} {to : Cursor} {all : List Entry} {d₀ : List ℕ} {w : Cursor} {es : List Entry} {d : List ℕ}
+    {l : Layout} {store : Bool} {n : ℕ} {to : Cursor} {all : List Entry} {d₀ : List ℕ} {w : Cursor} {es : List Entry}
+    {d : List ℕ}
     (a : Left l store n to all d₀ w es d)
   where
     -- the next ones

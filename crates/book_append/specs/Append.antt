@@ -52,7 +52,8 @@ abbrev pub afterPass : Layout → Bool → ℕ → Cursor → List Entry → Lis
 afterPass l store n c es d = if store then putAll l n (c .index) (nameIn c) (c .at) es d else d
 
 -- and what it leaves
-pub record AppendDone (l : Layout) (store : Bool) (n : ℕ) (c : Cursor) (es : List Entry) (d : List ℕ) (r : Cursor) (new : List ℕ) :
+pub record AppendDone (l : Layout) (store : Bool) (n : ℕ) (c : Cursor) (es : List Entry) (d : List ℕ) (r : Cursor)
+    (new : List ℕ) :
     Type
     0 where
   pub bytes : new ≡ afterPass l store n c es d

@@ -3,13 +3,11 @@
 use Prim.Native.Nat.{max, ℕ}
 use mathlib.Core.Path.{_∙_, _≡_}
 use mathlib.Core.List.{List, [], _++_, _∷_}
-use native.Mathlib.Omega.{arith}
 use Rattle.entries.specs.Entries.{Entry}
 use Rattle.answer.specs.Answers.{Check, given, refused, unless, writing, writingImage}
-use Rattle.answer.proofs.Answers.{declined, image-clear, image-refused, unless-clear, unless-refused, writing-clear}
-use Rattle.answer.proofs.Answers.{writing-refused}
+use Rattle.answer.proofs.Answers.{declined, image-refused, unless-clear, unless-refused}
 use Rattle.book.specs.Checks.{bookChecks}
-use Rattle.book.proofs.Checks.{book-clear, books-clear, one-refused, two-refused}
+use Rattle.book.proofs.Checks.{book-clear, one-refused, two-refused}
 use Rattle.book_check.specs.Checked.{CheckedAs}
 use Rattle.book_check.specs.declared.Checked.{Checked}
 
@@ -22,11 +20,6 @@ module _ {book key : List ℕ} {r : Checked} (c : CheckedAs book key r) where
   module _ (h : r .refusal ≡ 0 → ⊥) (ds : List Check) where
     pub refused-first : {A : Type 0} (a : A) → unless (checks ++ ds) a ≡ refused (r .refusal)
     refused-first a = unless-refused {B = ℕ} checks 0 (r .refusal) (one-refused book (c .refusal) h) ds a
-
-    pub refused-writing :
-        {A : Type 0} (a : A) (bytes dst : List ℕ) → writing (checks ++ ds) a bytes dst ≡ declined (r .refusal) dst
-    refused-writing a bytes dst =
-        writing-refused {B = ℕ} checks 0 ds (r .refusal) (one-refused book (c .refusal) h) a bytes dst
 
     pub refused-image :
         (es : List Entry) (image dst : List ℕ) → writingImage (checks ++ ds) es image dst ≡ declined (r .refusal) dst
@@ -41,15 +34,6 @@ module _ {book key : List ℕ} {r : Checked} (c : CheckedAs book key r) where
     pub passed : {A : Type 0} (a : A) → unless (checks ++ ds) a ≡ unless ds a
     passed a = unless-clear {B = ℕ} checks 0 0 clear ds a
 
-    pub passed-writing :
-        {A : Type 0} (a : A) (bytes dst : List ℕ) → writing (checks ++ ds) a bytes dst ≡ writing ds a bytes dst
-    passed-writing a bytes dst = writing-clear {B = ℕ} checks 0 ds 0 clear a bytes dst
-
-    pub passed-image :
-        (es : List Entry) (image dst : List ℕ)
-        → writingImage (checks ++ ds) es image dst ≡ writingImage ds es image dst
-    passed-image es image dst = image-clear {B = ℕ} checks 0 ds es image dst 0 clear
-
 -- two books: t is the greater of their numbers
 module _
     {first second key key′ : List ℕ} {r s : Checked} (c : CheckedAs first key r) (d : CheckedAs second key′ s) (t : ℕ)
@@ -62,32 +46,6 @@ module _
       declines : unless {A = ℕ} both 0 ≡ refused t
       declines = two-refused first second (e ∙ rw (c .refusal, d .refusal)) h
 
-      pub refused-first-two : {A : Type 0} (a : A) → unless (both ++ ds) a ≡ refused t
-      refused-first-two a = unless-refused {B = ℕ} both 0 t declines ds a
-
-      pub refused-writing-two :
-          {A : Type 0} (a : A) (bytes dst : List ℕ) → writing (both ++ ds) a bytes dst ≡ declined t dst
-      refused-writing-two a bytes dst = writing-refused {B = ℕ} both 0 ds t declines a bytes dst
-
       pub refused-image-two :
           (es : List Entry) (image dst : List ℕ) → writingImage (both ++ ds) es image dst ≡ declined t dst
       refused-image-two es image dst = image-refused {B = ℕ} both 0 ds es image dst t declines
-
-    module _ (h : t ≡ 0) (ds : List Check) where
-      both-clear : unless {A = ℕ} both 0 ≡ given 0
-      both-clear =
-          let x : r .refusal ≡ 0 = omega arith in
-          let y : s .refusal ≡ 0 = omega arith in
-          books-clear first second (c .held x .isIt) (d .held y .isIt)
-
-      pub passed-two : {A : Type 0} (a : A) → unless (both ++ ds) a ≡ unless ds a
-      passed-two a = unless-clear {B = ℕ} both 0 0 both-clear ds a
-
-      pub passed-writing-two :
-          {A : Type 0} (a : A) (bytes dst : List ℕ) → writing (both ++ ds) a bytes dst ≡ writing ds a bytes dst
-      passed-writing-two a bytes dst = writing-clear {B = ℕ} both 0 ds 0 both-clear a bytes dst
-
-      pub passed-image-two :
-          (es : List Entry) (image dst : List ℕ)
-          → writingImage (both ++ ds) es image dst ≡ writingImage ds es image dst
-      passed-image-two es image dst = image-clear {B = ℕ} both 0 ds es image dst 0 both-clear

@@ -1,5 +1,5 @@
-// The check of a book image in one pass: first bytes, records with their offsets, peaks; and in the same pass the place
-// of a key among its names.
+// The check of a book image: first bytes, records, with heads their offsets too, and peaks; the walk over the records
+// also finds the place of a key among their names.
 use book::Layout;
 use book_seek::Seek;
 use frame_code::Ended;

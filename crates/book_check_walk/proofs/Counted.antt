@@ -148,7 +148,8 @@ module _
     rest = take own (drop (c .at + 2) buf)
 
     more :
-        lowCount (between start (c .at + 2 + own) buf) ≡ lowCount (between start (c .at) buf) + (a + (b + lowCount rest))
+        lowCount (between start (c .at + 2 + own) buf) ≡ lowCount (between start (c .at) buf) +
+        (a + (b + lowCount rest))
     more = area-more buf start (c .at) own (g .from) (omega (arith, h .inside)) ∙ rw (first, second)
 
     no-head : (l : Layout) → l .heads ≡ false → headAt (l .heads) (c .index) ≡ false

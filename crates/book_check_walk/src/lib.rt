@@ -2,12 +2,12 @@
 // way. Without heads and where no byte of the records is over 7E, names are tested all at once, by counting; else one
 // by one.
 use book::Layout;
-use book_record_quick::HEADER_BYTES;
 use book_record_quick::NAME_ROOM;
 use book_seek::Record;
 use book_seek::Seek;
 use frame_code::Ended;
 use limits::BUCKET_SIZE;
+use limits::HEADER_BYTES;
 use limits::LAST_PLAIN;
 use limits::LONGEST_NAME;
 ghost use mathlib.Core.Path.{_≡_};

@@ -1,13 +1,12 @@
 -- Cursors in a buffer that holds a book: where they start, and that each step gives the next name.
-use Prim.Native.Nat.{_%_, _*_, _+_, _<_, _≤_, suc, zero, ℕ}
+use Prim.Native.Nat.{_+_, _<_, _≤_, suc, zero, ℕ}
 use mathlib.Core.Path.{_∙_, _≡_, ap, refl, sym}
-use mathlib.Core.Bool.{Bool, true}
+use mathlib.Core.Bool.{true}
 use mathlib.Core.List.{List, [], _++_, _∷_, append-assoc}
-use lib.ListN.{drop, getD, length, take}
+use lib.ListN.{drop, getD, length}
 use lib.Seq.{drop-append-seam, drop-cons, drop-drop}
 use native.Mathlib.Numerals.{add-one}
 use native.Mathlib.Omega.{arith}
-use borrow.Author.Tests.{eq-eqb}
 use Rattle.octets.specs.Octets.{begins, below}
 use Rattle.octets.proofs.Lists.{at-all}
 use Rattle.octets.proofs.Order.{begins-append, begins-split}
@@ -16,14 +15,12 @@ use Rattle.entries.specs.Names.{allowedBytes, isName, isPrefix}
 use Rattle.entries.proofs.Span.{rising-at}
 use Rattle.entries.proofs.Valid.{Valid, length-names, name-above, name-prefix, valid-of}
 use Rattle.book_laws.specs.Cursor.{Sound, Step, Stepped, nameIn, recordIs}
-use Rattle.book.specs.Records.{bucketSize, headAt, lastOr, recordName, recordOf, records}
+use Rattle.book.specs.Records.{recordName, recordOf, records}
 use Rattle.book_laws.specs.Ahead.{AheadIn}
-use Rattle.book.specs.Book.{imageIn, offset, recordsAt}
+use Rattle.book.specs.Book.{imageIn, recordsAt}
 use Rattle.book.specs.declared.Layout.{Layout}
-use Rattle.book.proofs.Places.{offset-stands}
 use Rattle.book.proofs.Reading.{image-length, image-records}
-use Rattle.book.proofs.Records.{head-there}
-use Rattle.book_laws.proofs.Stored.{StoredIn, offset-within}
+use Rattle.book_laws.proofs.Stored.{StoredIn}
 use Rattle.book_laws.proofs.Walk.{standing-length, standing-name}
 use Rattle.book_laws.specs.declared.Cursor.{Cursor}
 
@@ -103,14 +100,6 @@ module _
           inside = k .inside;
         }
 
--- a cursor with no name before it, at a bucket's head
-records-head :
-    (heads : Bool) (i : ℕ) (prev prev′ : List ℕ) (ws : List (List ℕ)) → headAt heads i ≡ true
-    → records heads i prev ws ≡ records heads i prev′ ws
-unfolding recordOf
-records-head heads i prev prev′ [] h = refl
-records-head heads i prev prev′ (w ∷ ws) h = rw h
-
 empty-allowed : isPrefix [] ≡ true
 unfolding isPrefix allowedBytes
 empty-allowed = refl
@@ -146,21 +135,5 @@ module _ (l : Layout) (buf : List ℕ) (es : List Entry) (s : StoredIn l buf es)
   ahead-first p q z =
       let within = image-length l es in
       let inside = s .inside in
-      ahead-alone 0 (rw p (ap (drop (recordsAt l (length es))) split ∙ image-records l es left)) (rw p (omega arith)) q z
-
-  -- at the head of bucket j
-  pub ahead-bucket :
-      (j : ℕ) → l .heads ≡ true → bucketSize * j ≤ length es → c .at ≡ offset l es j → c .index ≡ bucketSize * j
-      → c .len ≡ 0
-      → AheadIn l es buf c
-  ahead-bucket j on h p q z =
-      let within = offset-within l es j in
-      let inside = s .inside in
-      ahead-alone (bucketSize * j)
-      (rw p
-      (ap (drop (offset l es j)) split
-      ∙ offset-stands l es left j h
-      ∙ ap (λ r. r ++ left) (records-head (l .heads) (bucketSize * j)
-      (lastOr [] (take (bucketSize * j) (names es))) [] (drop (bucketSize * j) (names es))
-      (head-there (l .heads) (bucketSize * j) on (eq-eqb (bucketSize * j % bucketSize) 0 (omega arith))))))
-      (rw p (omega arith)) q z
+      ahead-alone 0 (rw p (ap (drop (recordsAt l (length es))) split
+      ∙ image-records l es left)) (rw p (omega arith)) q z

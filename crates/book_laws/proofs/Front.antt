@@ -1,21 +1,17 @@
 -- The records in front of a position, and one more; cursors that stand in front of a position.
 use Prim.Native.Nat.{_+_, _<_, suc, ℕ}
-use mathlib.Core.Path.{_∙_, _≡_, ap, refl, sym}
+use mathlib.Core.Path.{_∙_, _≡_, ap, refl}
 use mathlib.Core.List.{List, [], _++_, _∷_, append-nil}
 use lib.ListN.{length, length-append, take}
 use lib.Seq.{length-take-le, take-suc}
-use native.Mathlib.Nat.{add-zero}
 use native.Mathlib.Omega.{arith}
 use Rattle.entries.specs.Entries.{Entry, at, names}
 use Rattle.entries.proofs.Valid.{length-names}
 use Rattle.book.specs.Records.{lastOr, recordOf, records}
 use Rattle.book.proofs.Records.{records-append}
-use Rattle.book_laws.specs.Ahead.{InFrontIn, nameBefore, recordAtIn}
-use Rattle.book.specs.Book.{recordsAt}
+use Rattle.book_laws.specs.Ahead.{nameBefore, recordAtIn}
 use Rattle.book.specs.declared.Layout.{Layout}
-use Rattle.book_laws.proofs.Ahead.{ahead-first, names-at}
-use Rattle.book_laws.proofs.Stored.{StoredIn}
-use Rattle.book_laws.specs.declared.Cursor.{Cursor}
+use Rattle.book_laws.proofs.Ahead.{names-at}
 
 -- names up to a position, and one more
 pub names-next :
@@ -53,16 +49,3 @@ module _ (l : Layout) (es : List Entry) (i : ℕ) (h : i < length es) where
       let z = ap length records-next ∙ length-append (records (l .heads) 0 [] (take i (names es)))
       (recordOf (l .heads) i prev w) in
       omega arith
-
--- the cursor at the first record
-pub front-first :
-    (l : Layout) (buf : List ℕ) (es : List Entry) → StoredIn l buf es → (c : Cursor) → c .at ≡ recordsAt l (length es)
-    → c .index ≡ 0 → c .len ≡ 0
-    → InFrontIn l es buf 0 c
-front-first l buf es s c p q z =
-    record {
-      ahead = ahead-first l buf es s c p q z;
-      index = q;
-      start = p ∙ sym (add-zero (recordsAt l (length es)));
-      name = rw z;
-    }

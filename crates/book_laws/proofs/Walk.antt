@@ -17,7 +17,7 @@ use Rattle.octets.proofs.Order.{begins-at, begins-split}
 use Rattle.octets.proofs.Tests.{and-true, by-test, other}
 use Rattle.entries.specs.Entries.{at}
 use Rattle.entries.specs.Names.{isName}
-use Rattle.book.specs.Records.{bucketHead, bucketSize, headAt, namesFrom, recordLength, recordName, recordOf, records}
+use Rattle.book.specs.Records.{bucketSize, headAt, namesFrom, recordLength, recordName, recordOf, records}
 use Rattle.book_laws.specs.Cursor.{recordIs}
 use Rattle.book.specs.declared.Layout.{Layout}
 use Rattle.book.proofs.Records.{head-parts, head-there, recordLength-of, recordName-of}

@@ -29,19 +29,9 @@ recordAtIn l es i = recordsAt l (length es) + length (records (l .heads) 0 [] (t
 abbrev pub nameBefore : List Entry → ℕ → List ℕ
 nameBefore es i = lastOr [] (take i (names es))
 
--- the cursor stands in front of position i, where its record begins, and has the name before
-pub record InFrontIn (l : Layout) (es : List Entry) (s : List ℕ) (i : ℕ) (c : Cursor) : Type 0 where
-  pub ahead : AheadIn l es s c
-  pub index : c .index ≡ i
-  pub start : c .at ≡ recordAtIn l es i
-  pub name : nameIn c ≡ nameBefore es i
-
 -- the same in a book of today
 abbrev pub Ahead : List Entry → List ℕ → Cursor → Type 0
 Ahead es s c = AheadIn today es s c
 
 abbrev pub recordAt : List Entry → ℕ → ℕ
 recordAt es i = recordAtIn today es i
-
-abbrev pub InFront : List Entry → List ℕ → ℕ → Cursor → Type 0
-InFront es s i c = InFrontIn today es s i c

@@ -100,7 +100,8 @@ module _
         }
 
     -- reading it is a step of the cursor
-    pub step-read : {name : List ℕ} {q : Parts} → Read (l .heads) s (c .index) (c .name) name q → Stepped (l .heads) book c (stepBy c name q)
+    pub step-read : {name : List ℕ} {q : Parts} → Read (l .heads) s (c .index) (c .name) name q
+        → Stepped (l .heads) book c (stepBy c name q)
     step-read r = rw (r .bytes, r .parts) (own-step tests-hold)
 
     -- the name left has the bytes that the parts tell
@@ -108,7 +109,8 @@ module _
         → q .kept + q .own ≡ length (at es (c .index) .name)
     read-bytes r = rw (r .parts) name-bytes
 
-    pub read-long : {name : List ℕ} {q : Parts} → Read (l .heads) s (c .index) (c .name) name q → length name ≡ longestName
+    pub read-long : {name : List ℕ} {q : Parts} → Read (l .heads) s (c .index) (c .name) name q
+        → length name ≡ longestName
     read-long {q = q} r = rw (r .bytes) (length-sets (c .name) (q .kept) (ownBytes s q) ∙ long)
 
 -- The next record starts at index k, at position i; the name before it stands at the front of the 48 bytes in name.
@@ -126,7 +128,8 @@ pub record GivenIn (l : Layout) (book : List ℕ) (k i : ℕ) (new : List ℕ) (
   pub next : ReadingIn l book (k + (p .start + p .own)) (i + 1) new
 
 pub read-start :
-    {l : Layout} {book : List ℕ} {n k : ℕ} (name : List ℕ) → HeldIn l book n → k ≡ recordsAt l n → length name ≡ longestName
+    {l : Layout} {book : List ℕ} {n k : ℕ} (name : List ℕ) → HeldIn l book n → k ≡ recordsAt l n
+    → length name ≡ longestName
     → ReadingIn l book k 0 name
 read-start {l} {book} {k = k} name b e long =
     record {

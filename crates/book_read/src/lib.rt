@@ -1,4 +1,5 @@
 // The records of a book that was checked, read without testing them again.
+use limits::HEADER_BYTES;
 ghost use mathlib.Core.Path.{_≡_};
 ghost use Prim.Native.Nat.{_≤_};
 ghost use lib.ListN.{drop, length};
@@ -27,7 +28,7 @@ pub fn parts_at(heads: bool, index: usize, s: &[u8]) -> Parts
     let own = s[1] as usize;
     Parts {
         kept: first,
-        start: 2,
+        start: HEADER_BYTES,
         own: own,
     }
 }

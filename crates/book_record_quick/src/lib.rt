@@ -2,6 +2,7 @@
 // tested. What is told of it is a step of the cursor wherever the name before and the rest are bytes 20 to 7E
 // (proofs/Step).
 use limits::FIRST_PLAIN;
+use limits::HEADER_BYTES;
 use limits::LONGEST_NAME;
 ghost use mathlib.Core.Path.{_≡_};
 ghost use mathlib.Core.Bool.{false, true};
@@ -13,8 +14,6 @@ ghost use Rattle.book_record_quick.specs.Quick.{Headed, ReadAs, nameRoom
 
 // The bytes of the array that names are read to, 48 of them behind any bytes kept: `nameRoom`.
 pub const NAME_ROOM: usize = 2 * LONGEST_NAME;
-// The bytes of a record before its rest: the common byte and the rest's length.
-pub const HEADER_BYTES: usize = 2;
 // The bytes that are read of a record where as many are left.
 const READ_BYTES: usize = HEADER_BYTES + LONGEST_NAME;
 

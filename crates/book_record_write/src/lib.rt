@@ -1,4 +1,5 @@
 // Records written one by one, and their sizes.
+use limits::HEADER_BYTES;
 ghost use Prim.Native.Nat.{_≤_};
 ghost use lib.ListN.{length};
 ghost use Rattle.entries.specs.Names.{longestName};
@@ -25,8 +26,8 @@ fn put_tail(dst: &mut [u8], at: usize, prev: &[u8], name: &[u8]) -> usize
     let rest = &name[kept..];
     dst[at] = kept as u8;
     dst[at + 1] = rest.len() as u8;
-    octets_code::copy(dst, at + 2, rest);
-    at + 2 + rest.len()
+    octets_code::copy(dst, at + HEADER_BYTES, rest);
+    at + HEADER_BYTES + rest.len()
 }
 
 // Writes the record of a name, at a position behind the name prev, and answers where it ends.
@@ -57,6 +58,6 @@ pub fn record_size(heads: bool, index: usize, prev: &[u8], name: &[u8]) -> usize
     if book_layout::is_head(heads, index) {
         1 + name.len()
     } else {
-        2 + (name.len() - octets_code::common_prefix(prev, name))
+        HEADER_BYTES + (name.len() - octets_code::common_prefix(prev, name))
     }
 }

@@ -4,6 +4,7 @@ use book::Layout;
 use book_seek::PAST;
 use book_seek::Record;
 use book_seek::Seek;
+use limits::HEADER_BYTES;
 ghost use mathlib.Core.Path.{_≡_};
 ghost use mathlib.Core.Bool.{false};
 ghost use Rattle.entries.specs.Entries.{names};
@@ -25,7 +26,7 @@ pub fn seek(book: &[u8], l: Layout, n: usize, key: &[u8]) -> Seek
     while index < n {
         let kept = book[at] as usize;
         let own = book[at + 1] as usize;
-        let from = at + 2;
+        let from = at + HEADER_BYTES;
         let end = from + own;
         let next = index + 1;
         if kept < limit {

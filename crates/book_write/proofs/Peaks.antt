@@ -33,7 +33,8 @@ peaks-start l d₀ n =
 
 -- the peak of the next block
 pub peaks-turn :
-    {l : Layout} {d₀ : List ℕ} {n : ℕ} {d new : List ℕ} {j : ℕ} → PeaksLeft l d₀ n d j → j < ceil n blockSize → new ≡ putPeak l n j d
+    {l : Layout} {d₀ : List ℕ} {n : ℕ} {d new : List ℕ} {j : ℕ} → PeaksLeft l d₀ n d j → j < ceil n blockSize
+    → new ≡ putPeak l n j d
     → PeaksLeft l d₀ n new (j + 1)
 peaks-turn {l} {d₀} {n} {d} {new} {j} p h w =
     let z : ceil n blockSize - j ≡ suc (ceil n blockSize - (j + 1)) = omega arith in

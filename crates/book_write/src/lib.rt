@@ -1,17 +1,15 @@
-// Writes a book entry by entry: scores, offsets and records; then its peaks, computed from the scores written, and its
-// frame.
+// Writes a book entry by entry: scores and records, with heads their offsets too; then its peaks, computed from the
+// scores written, and its frame.
 use book::Layout;
-use book_laws::Cursor;
 use limits::BLOCK_SIZE;
 use limits::BUCKET_SIZE;
-use limits::LONGEST_NAME;
 ghost use mathlib.Core.Path.{_≡_};
 ghost use Prim.Native.Nat.{_<_, _≤_};
 ghost use Rattle.octets.specs.Lists.{ceil};
 ghost use Rattle.entries.specs.Entries.{maxEntries};
 ghost use Rattle.book.specs.Book.{blockSize};
 ghost use Rattle.book_write.specs.Writing.{finished, putOffset, putPeak, putPeaks};
-ghost use Rattle.book_write.specs.Calls.{EntryPut, PutRoom, Started};
+ghost use Rattle.book_write.specs.Calls.{EntryPut, PutRoom};
 
 // Where an entry is put: as the one at position `index` of a book of n entries in a layout, its record at offset `at`.
 pub struct Slot {
@@ -19,19 +17,6 @@ pub struct Slot {
     pub n: usize,
     pub index: usize,
     pub at: usize,
-}
-
-// The cursor at the first record of a book of n entries.
-pub fn start(l: Layout, n: usize) -> Cursor
-    requires { ⌜ n ≤ maxEntries ⌝ }
-    ensures { λ r. ⌜ Started l n r ⌝ }
-{
-    Cursor {
-        at: book_layout::records_at(l, n),
-        index: 0,
-        name: [0; LONGEST_NAME],
-        len: 0,
-    }
 }
 
 // Stores at as the offset of the bucket whose head is at this position; another position has none.

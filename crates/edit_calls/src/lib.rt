@@ -1,4 +1,5 @@
 // The edits: empty, set and withdraw. Each writes the new book at the front of another buffer.
+use answer::Found;
 use answer::Written;
 use limits::FRAME_LENGTH;
 use limits::MAX_ENTRIES;
@@ -53,9 +54,12 @@ pub fn withdraw(book: &[u8], name: &[u8], dst: &mut [u8]) -> Written
     if !entries_check::is_name(name) {
         return Written::Refused(2);
     }
-    let found = c.seek;
-    if !found.same {
+    let Found::At {
+        position: _,
+        score: _,
+    } = lookup_find::find_in(book, c.seek)
+    else {
         return Written::Refused(4);
-    }
-    edit_copy::write_without(book_layout::today(), book, c.n, found, name, dst)
+    };
+    edit_copy::write_without(book_layout::today(), book, c.n, c.seek, name, dst)
 }

@@ -1,5 +1,5 @@
 -- The copies make the image of an edit's result whole.
-use Prim.Native.Nat.{_*_, _+_, _-_, _<_, _≤_, ℕ}
+use Prim.Native.Nat.{_*_, _+_, _-_, _≤_, ℕ}
 use mathlib.Core.Path.{_∙_, _≡_, ap, refl, subst, sym}
 use mathlib.Core.Logic.{inl}
 use mathlib.Core.Bool.{false, false≢true, true}

@@ -5,6 +5,7 @@ use answer::Written;
 use book::Layout;
 use book_seek::Seek;
 use limits::FRAME_LENGTH;
+use limits::HEADER_BYTES;
 use limits::TOTAL_AT;
 ghost use mathlib.Core.Path.{_≡_};
 ghost use Prim.Native.Nat.{_+_, _<_, _≤_};
@@ -17,9 +18,6 @@ ghost use Rattle.edit_copy.specs.Asked.{Adds, Withdraws};
 ghost use Rattle.edit_copy.specs.Copies.{BehindRoom, GoneRoom, HeaderPut, NewRoom, PlannedWith};
 ghost use Rattle.edit_copy.specs.Copies.{PlannedWithout, ScoreRoom, behindBytes, behindGone};
 ghost use Rattle.edit_copy.specs.Copies.{behindNew, behindSize, nothing, scoresWith, scoresWithout};
-
-// The bytes of a record's header: how many bytes it keeps of the name before it, and how many it goes on with.
-const HEADER_BYTES: usize = 2;
 
 // What stands behind the place of an edit in the result: the header of the record there, if there is one, and bytes of
 // the old image in two runs.

@@ -11,7 +11,6 @@ use lib.Seq.{drop-set-add, drop-set-lt, getD-set-other, getD-set-same, map-set-s
 use native.Mathlib.Numerals.{add-one}
 use native.Mathlib.Omega.{arith}
 use borrow.Author.Tests.{eqb-false, eqb-true, lt-ltb, ltb-false, ltb-true}
-use Rattle.octets.specs.Lists.{ceil, concatMap, countFrom}
 use Rattle.octets.specs.Octets.{be}
 use Rattle.octets.proofs.Lists.{all-at, at-all}
 use Rattle.octets.proofs.Tests.{and-intro, by-test}
@@ -20,7 +19,7 @@ use Rattle.entries.specs.Names.{isName, isScore}
 use Rattle.entries_laws.proofs.Place.{position-at}
 use Rattle.entries_laws.proofs.Splice.{with-held}
 use Rattle.entries.proofs.Valid.{rising-names, valid-all, valid-intro, valid-of}
-use Rattle.book.specs.Records.{bucketSize, records}
+use Rattle.book.specs.Records.{records}
 use Rattle.book.specs.Book.{blockSize, bookImage, offsets, peak, today}
 use Rattle.book.proofs.Reading.{image-length}
 use Rattle.edit_rescore.specs.Rescored.{rescored}

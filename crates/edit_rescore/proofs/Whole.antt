@@ -114,7 +114,8 @@ module _
     peak-inside = omega arith
 
     peak-room : place + length top ≤ length e
-    peak-room = let f = fits in let g = image-long today es in let p = peak-inside in rw (length-be, long-e) (omega arith)
+    peak-room = let f = fits in let g = image-long today es in let p = peak-inside in
+        rw (length-be, long-e) (omega arith)
 
     -- what stands elsewhere stays
     kept :

@@ -48,6 +48,9 @@ pub const SHEET_VERSION: u8 = 0x11;
 
 pub const TRIE_VERSION: u8 = 0x31;
 
+// The bytes of a record before its rest, where it is no bucket's head: the common byte, and the length of the rest.
+pub const HEADER_BYTES: usize = 2;
+
 // The names in a bucket of a book: `bucketSize`.
 pub const BUCKET_SIZE: usize = 8;
 // The entries in a block that has a peak: `blockSize`.

@@ -7,7 +7,7 @@ use mathlib.Core.List.{List, [], _++_, _∷_}
 use lib.Dec.{eqb, ltb}
 use lib.ListN.{length}
 use native.Mathlib.Omega.{arith}
-use borrow.Author.Tests.{eq-eqb, ltb-true, ne-eqb, not-false}
+use borrow.Author.Tests.{eq-eqb, eqb-true, ltb-true, ne-eqb, not-false}
 use Rattle.octets.specs.Lists.{_∈_}
 use Rattle.octets.proofs.Lists.{at-all}
 use Rattle.octets.proofs.Tests.{and-true, or-false}
@@ -48,6 +48,7 @@ pub head-part : (book : List ℕ) (j : ℕ) → HeadPart book j
 unfolding headName headLength
 head-part book j = record {
   empty = λ n h. rw h;
+  first = λ k h. (bucket-0 (clear checks len k h), rw h);
   whole = λ k h. (rw h (given-is checks len k h), (λ e. some-name (clear checks len k h) (rw h at e)));
 }
   where
@@ -56,6 +57,11 @@ head-part book j = record {
 
     checks : List Check
     checks = bookChecks (book ∷ []) ++ (6 when not (hasHead (inBook book) j) ∷ [])
+
+    bucket-0 : ((c : Check) → c ∈ checks → c .applies ≡ false) → j ≡ 0
+    bucket-0 ok =
+        let h = not-false (hasHead (inBook book) j) (ok _ (inr (inr (inl refl)))) in
+        eqb-true j 0 (and-true (eqb j 0) (ltb 0 (length (inBook book))) h .0)
 
     some-name : ((c : Check) → c ∈ checks → c .applies ≡ false) → at (inBook book) 0 .name ≡ [] → ⊥
     some-name ok e =

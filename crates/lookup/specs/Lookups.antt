@@ -64,7 +64,9 @@ headName book j = onAnswer (headLength book j) [] (at (inBook book) 0 .name)
 pub record HeadPart (book : List ℕ) (j : ℕ) : Type 0 where
   -- where the companion refuses, the part is empty
   pub empty : (n : ℕ) → headLength book j ≡ refused n → headName book j ≡ []
-  -- else it gives the part's length, and the part is not empty
+  -- else the bucket is 0 and the part the first name
+  pub first : (k : ℕ) → headLength book j ≡ given k → (j ≡ 0) × (headName book j ≡ at (inBook book) 0 .name)
+  -- the companion then gives the part's length, and the part is not empty
   pub whole : (k : ℕ) → headLength book j ≡ given k → (length (headName book j) ≡ k) × (headName book j ≡ [] → ⊥)
 
 -- the check: 10 for an old book, 1 where the image is not laid out as a book's, or cut off by its buffer; else how many

@@ -30,8 +30,7 @@ use Rattle.book_seek.specs.Seek.{Seeking}
 use Rattle.book_seek.specs.declared.Seek.{Seek}
 use Rattle.book_seek.proofs.Found.{seeking-place, seeking-same}
 use Rattle.answer.specs.Reports.{foundOf}
-use Rattle.lookup_find.specs.Finding.{foundAt, spotAt, spotOf}
-use Rattle.lookup_find.specs.declared.Spot.the-variants as spots
+use Rattle.lookup_find.specs.Finding.{foundAt}
 use Rattle.answer.specs.declared.Found.{Found}
 use Rattle.answer.specs.declared.Found.the-variants as found
 
@@ -46,25 +45,18 @@ module _ (b w : List ℕ) {n start : ℕ} {s : Seek} (h : Held b n) (k : Seeking
   told : s .same ≡ isAt (inBook b) i w
   told = seeking-same (inBook b) k ∙ ap (λ j. isAt (inBook b) j w) (seeking-place (inBook b) k)
 
-  gap-there : s .same ≡ false → holds w (inBook b) ≡ false
+  pub gap-there : s .same ≡ false → holds w (inBook b) ≡ false
   gap-there t =
       let z : isAt (inBook b) i w ≡ false = sym told ∙ t in
       place-absent w (inBook b) (held-valid h .order) (λ m. rw (lt-ltb i (length (inBook b)) m) at z)
 
-  held-there : s .same ≡ true → (holds w (inBook b) ≡ true) × (position w (inBook b) ≡ i)
+  pub held-there : s .same ≡ true → (holds w (inBook b) ≡ true) × (position w (inBook b) ≡ i)
   held-there t =
       let a = and-true (ltb i (length (inBook b))) (same (at (inBook b) i .name) w) (sym told ∙ t) in
       place-held w (inBook b) (held-valid h .order) (ltb-true i (length (inBook b)) (a .0))
       (same-eq (at (inBook b) i .name) w (a .1))
 
-  -- so it tells the spot
-  pub spot-is : spotAt s ≡ spotOf w (inBook b)
-  spot-is =
-      by-test (s .same)
-      (λ t. rw (t, held-there t .0, held-there t .1, seeking-place (inBook b) k))
-      (λ t. rw (t, gap-there t, seeking-place (inBook b) k))
-
-  -- and finding gives the place with its score, or none
+  -- so finding gives the place with its score, or none
   pub found-is : foundAt b s ≡ foundIn w (inBook b)
   unfolding foundIn
   found-is = by-test (s .same) there (λ t. rw (t, gap-there t))
@@ -89,28 +81,6 @@ module _ (b : List ℕ) (s : Seek) where
       → _≡_ {A = Answer (Option FoundCounts)} (given (some (record { position = s .place; score = score })))
       (given (foundAt b s))
   found-there t e = ap (λ x. given (some (record { position = s .place; score = x }))) e ∙ ap when (sym t)
-
--- taken apart: a position is that of a name that is held, a gap the place of one that is not
-pub at-held : (w : List ℕ) (es : List Entry) {i : ℕ} → spots.Held i ≡ spotOf w es → (holds w es ≡ true)
-    × (i ≡ position w es)
-at-held w es {i} e =
-    by-test (holds w es)
-    (λ t. (t, (let z : spots.Held i ≡ spots.Held (position w es) = rw t at e in cc)))
-    (λ t. let z : spots.Held i ≡ spots.Gap (place false w es) = rw t at e in let y : _≡_ {A = ℕ} 0 1 = cc in
-    absurd (omega arith))
-
-pub at-gap : (w : List ℕ) (es : List Entry) {i : ℕ} → spots.Gap i ≡ spotOf w es → (holds w es ≡ false)
-    × (i ≡ place false w es)
-at-gap w es {i} e =
-    by-test (holds w es)
-    (λ t. let z : spots.Gap i ≡ spots.Held (position w es) = rw t at e in let y : _≡_ {A = ℕ} 0 1 = cc in
-    absurd (omega arith))
-    (λ t. (t, (let z : spots.Gap i ≡ spots.Gap (place false w es) = rw t at e in cc)))
-
-pub held-low : (b w : List ℕ) (n : ℕ) {i : ℕ} → Held b n → spots.Held i ≡ spotOf w (inBook b) → i < n
-held-low b w n {i} h e =
-    let f = at-held w (inBook b) e in
-    omega (arith, h .count, f .1, position-at w (inBook b) (f .0) .0)
 
 scoreIn : Answer (Option FoundCounts) → ℕ
 scoreIn (refused n) = 0
@@ -141,18 +111,6 @@ found-entry w es i s h =
     here t e =
         let q : s ≡ at es (position w es) .score = ap scoreIn e in
         entry-eq (entry w s) (at es (position w es)) (sym (position-at w es t .1)) q
-
-pub found-position :
-    (w : List ℕ) (es : List Entry) (i s : ℕ)
-    → _≡_ {A = Answer (Option FoundCounts)} (given (some (record { position = i; score = s }))) (given (foundIn w es))
-    → (holds w es ≡ true) × (i ≡ position w es)
-unfolding foundIn positionIn
-found-position w es i s h =
-    by-test (holds w es)
-    (λ t. (t, ap positionIn (rw t at h)))
-    (λ t. let y : _≡_ {A = Answer (Option FoundCounts)} (given (some (record { position = i; score = s })))
-    (given none) = rw
-    t at h in let z : _≡_ {A = ℕ} 0 1 = cc in absurd (omega arith))
 
 found-not : (w : List ℕ) (es : List Entry)
     → _≡_ {A = Answer (Option FoundCounts)} (given none) (given (foundIn w es))

@@ -6,23 +6,7 @@ ghost use Prim.Native.Nat.{_≤_};
 ghost use Rattle.entries.specs.Entries.{maxEntries};
 ghost use Rattle.answer.specs.Answers.{given};
 ghost use Rattle.answer.specs.Reports.{foundOf};
-ghost use Rattle.lookup_find.specs.Finding.{foundAt, spotAt};
-
-// A position, or the gap that a name would fill.
-pub enum Spot {
-    Held(usize),
-    Gap(usize),
-}
-
-// The position of the name that was sought, or the gap that it would fill.
-pub fn look_up(s: Seek) -> Spot
-    ensures { λ r. ⌜ r ≡ spotAt s ⌝ }
-{
-    if s.same {
-        return Spot::Held(s.place);
-    }
-    Spot::Gap(s.place)
-}
+ghost use Rattle.lookup_find.specs.Finding.{foundAt};
 
 // The position and score of the name that was sought in a book.
 pub fn find_in(book: &[u8], s: Seek) -> Found

@@ -1,6 +1,7 @@
 // The head name of a bucket, a part of the lent book, and its length: only bucket 0 of a book with entries has one, the
 // first name.
 use answer::HeadLength;
+use limits::HEADER_BYTES;
 ghost use mathlib.Core.Path.{_≡_};
 ghost use mathlib.Core.Bool.{_&&_, true};
 ghost use Prim.Native.Nat.{_+_, _<_, _≤_};
@@ -27,7 +28,7 @@ pub fn head_start(n: usize) -> usize
     requires { ⌜ n ≤ maxEntries ⌝ }
     ensures { λ r. ⌜ r ≡ recordsAt today n + 2 ⌝ }
 {
-    book_layout::records_at(book_layout::today(), n) + 2
+    book_layout::records_at(book_layout::today(), n) + HEADER_BYTES
 }
 
 // The first name of a book with entries, a part of the book: its length is the byte before.

@@ -6,7 +6,7 @@ ghost use mathlib.Core.Path.{_≡_};
 ghost use Rattle.lookup.specs.Lookups.{checkBook, nameAt};
 ghost use Rattle.answer.specs.Reports.{Answered, checkedOf};
 
-// Checks the book at the front of a buffer, in one pass: how many entries it has, and how many bytes its image.
+// Checks the book at the front of a buffer: how many entries it has, and how many bytes its image.
 pub fn check(book: &[u8]) -> Checked
     ensures { λ r. ⌜ checkedOf r ≡ checkBook (now (book .entry)) ⌝ }
 {

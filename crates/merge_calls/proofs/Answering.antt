@@ -49,7 +49,10 @@ module _ {one : List ℕ} {n : ℕ} {other : List ℕ} {m : ℕ} (b : Both one n
   unfolding mergeBooks writingImage writing
   too-many t =
       let u : ltb maxEntries (length (mergedEntries one other)) ≡ true = sym (c .more) ∙ t in
-      record { answer = rw (first-new, second-new, b .one .isIt, b .other .isIt, u); left = rw (first-new, second-new, b .one .isIt, b .other .isIt, u) }
+      record {
+        answer = rw (first-new, second-new, b .one .isIt, b .other .isIt, u);
+        left = rw (first-new, second-new, b .one .isIt, b .other .isIt, u);
+      }
 
   pub merged : r .more ≡ false → {w : Written} {left : List ℕ}
       → Answered (wholeBook (mergedEntries one other) dst) w left

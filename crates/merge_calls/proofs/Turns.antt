@@ -89,7 +89,8 @@ module _
                   enough = f .enough;
                 });
             whole = λ {r} {new} q.
-                let s : AppendDone today store count (cursorOf at 0 prev 0) (take count (mergedEntries first second)) d r
+                let s : AppendDone today store count (cursorOf at 0 prev 0) (take count (mergedEntries first second)) d
+                r
                 new =
                 rw (z, l .1, k .1) at q
                 in

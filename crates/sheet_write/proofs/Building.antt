@@ -66,7 +66,8 @@ module _ {sheet : List ℕ} {n : ℕ} (s : HeldSheet sheet n) {total k a b i : �
     size-here = here sheet es (valid-all es (sheet-ok s)) i k low (g .stands)
 
     pub size-turn :
-        {r : ℕ} → Sized (recordOf (today .heads) i (between a b sheet) (between (k + 1) (k + 1 + getD sheet k 0) sheet)) r
+        {r : ℕ} → Sized (recordOf (today .heads) i (between a b sheet)
+        (between (k + 1) (k + 1 + getD sheet k 0) sheet)) r
         → Sizing sheet (total + r) (k + 1 + getD sheet k 0 + 4) (k + 1) (k + 1 + getD sheet k 0) (i + 1)
     size-turn {r} z =
         let w = at es i .name in
@@ -74,7 +75,8 @@ module _ {sheet : List ℕ} {n : ℕ} (s : HeldSheet sheet n) {total k a b i : �
         let ws = drop (suc i) (names es) in
         let q : drop i (names es) ≡ w ∷ ws = drop-cons (names es) i [] (omega (arith, length-names es, low))
         ∙ rw (names-at es i low) in
-        let m = rw (q, length-append (recordOf (today .heads) i p w) (records (today .heads) (suc i) w ws)) at (g .left) in
+        let m = rw (q, length-append (recordOf (today .heads) i p w) (records (today .heads) (suc i) w ws)) at
+        (g .left) in
         let o : r ≡ length (recordOf (today .heads) i p w) = rw (size-here .name) at (z .long) in
         record {
           ordered = omega arith;
@@ -122,12 +124,14 @@ module _
       pub fill-here : Here sheet (inSheet sheet) i k
       fill-here = here sheet (inSheet sheet) (valid-all (inSheet sheet) (sheet-ok s)) i k before (g .stands)
 
-      pub fill-room : PutRoom (slotAt today n (cursor sheet m a b i)) d (between a b sheet) (between (k + 1) (k + 1 + getD sheet k 0) sheet)
+      pub fill-room : PutRoom (slotAt today n (cursor sheet m a b i)) d (between a b sheet)
+          (between (k + 1) (k + 1 + getD sheet k 0) sheet)
       fill-room = partial-room (g .put) (s .count) before (fill-here .name) (sheet-ok s)
 
       pub fill-turn :
           {v r : ℕ} {new : List ℕ} → v ≡ numberAt 4 sheet (k + 1 + getD sheet k 0)
-          → EntryPut (slotAt today n (cursor sheet m a b i)) d new (between a b sheet) (between (k + 1) (k + 1 + getD sheet k 0) sheet) v r
+          → EntryPut (slotAt today n (cursor sheet m a b i)) d new (between a b sheet)
+          (between (k + 1) (k + 1 + getD sheet k 0) sheet) v r
           → Filling sheet d₀ r (k + 1 + getD sheet k 0 + 4) (k + 1) (k + 1 + getD sheet k 0) (i + 1) new
       fill-turn {r = r} e p =
           let l = length-take-le (k + 1 + getD sheet k 0 - (k + 1)) (drop (k + 1) sheet)

@@ -34,8 +34,14 @@ impl Book {
 
     /// The book at the front of some bytes; those behind it are not looked at.
     ///
+    /// ```
+    /// // A book of version 21, as this library wrote it up to 1.5, is not read.
+    /// let old = [0x21, 0, 0, 0, 7, 0, 0];
+    /// assert_eq!(label_book::Book::from_image(&old), Err(label_book::Refusal::OldVersion));
+    /// ```
+    ///
     /// # Errors
-    /// [`Refusal::NotLaidOut`].
+    /// [`Refusal::OldVersion`], [`Refusal::NotLaidOut`].
     pub fn from_image(image: &[u8]) -> Result<Book, Refusal> {
         Book::written(|dst| {
             let told = calls::check(image)?;
@@ -87,7 +93,7 @@ impl Book {
     /// Adds the names of a second book that this one does not have.
     ///
     /// # Errors
-    /// [`Refusal::NotLaidOut`] of the second book, [`Refusal::Full`].
+    /// [`Refusal::OldVersion`] and [`Refusal::NotLaidOut`] of the second book, [`Refusal::Full`].
     pub fn merge(&mut self, second: &[u8]) -> Result<Written, Refusal> {
         self.edit(|book, dst| calls::merge(book, second, dst))
     }

@@ -83,7 +83,8 @@ pub fn empty(dst: &mut [u8]) -> Result<Written, Refusal> {
 /// Writes the book with the name added, or given a new score.
 ///
 /// # Errors
-/// [`Refusal::NotLaidOut`], [`Refusal::NotAllowed`], [`Refusal::Full`], [`Refusal::TooShort`].
+/// [`Refusal::OldVersion`], [`Refusal::NotLaidOut`], [`Refusal::NotAllowed`], [`Refusal::Full`],
+/// [`Refusal::TooShort`].
 pub fn set(book: &[u8], name: &[u8], score: u32, dst: &mut [u8]) -> Result<Written, Refusal> {
     let (at, len) = (dst.as_mut_ptr(), dst.len());
     written(|e, b| unsafe {
@@ -101,10 +102,12 @@ pub fn set(book: &[u8], name: &[u8], score: u32, dst: &mut [u8]) -> Result<Writt
     })
 }
 
-/// Writes the book without the name. It may be longer than the book was.
+/// Writes the book without the name. It is shorter than the book was, so that a destination of as
+/// many bytes as that has is never too short.
 ///
 /// # Errors
-/// [`Refusal::NotLaidOut`], [`Refusal::NotAllowed`], [`Refusal::NotHeld`], [`Refusal::TooShort`].
+/// [`Refusal::OldVersion`], [`Refusal::NotLaidOut`], [`Refusal::NotAllowed`], [`Refusal::NotHeld`],
+/// [`Refusal::TooShort`].
 pub fn withdraw(book: &[u8], name: &[u8], dst: &mut [u8]) -> Result<Written, Refusal> {
     let (at, len) = (dst.as_mut_ptr(), dst.len());
     written(|e, b| unsafe {
@@ -115,7 +118,8 @@ pub fn withdraw(book: &[u8], name: &[u8], dst: &mut [u8]) -> Result<Written, Ref
 /// Writes the book of two books' entries; where both have a name, the first one's score counts.
 ///
 /// # Errors
-/// [`Refusal::NotLaidOut`] of either, [`Refusal::Full`], [`Refusal::TooShort`].
+/// [`Refusal::OldVersion`] of either, [`Refusal::NotLaidOut`] of either, [`Refusal::Full`],
+/// [`Refusal::TooShort`].
 pub fn merge(first: &[u8], second: &[u8], dst: &mut [u8]) -> Result<Written, Refusal> {
     let (at, len) = (dst.as_mut_ptr(), dst.len());
     written(|e, b| unsafe {
@@ -136,7 +140,7 @@ pub fn merge(first: &[u8], second: &[u8], dst: &mut [u8]) -> Result<Written, Ref
 /// which are those to save.
 ///
 /// # Errors
-/// [`Refusal::NotLaidOut`].
+/// [`Refusal::OldVersion`], [`Refusal::NotLaidOut`].
 pub fn check(book: &[u8]) -> Result<Written, Refusal> {
     written(|e, b| unsafe { c::label_book_check(book.as_ptr(), book.len(), e, b) })
 }
@@ -144,7 +148,7 @@ pub fn check(book: &[u8]) -> Result<Written, Refusal> {
 /// The position and score of a name, if the book holds it.
 ///
 /// # Errors
-/// [`Refusal::NotLaidOut`], [`Refusal::NotAllowed`].
+/// [`Refusal::OldVersion`], [`Refusal::NotLaidOut`], [`Refusal::NotAllowed`].
 pub fn find(book: &[u8], name: &[u8]) -> Result<Option<Found>, Refusal> {
     let mut score = 0;
     let told = counts(|found, position| unsafe {
@@ -158,7 +162,8 @@ pub fn find(book: &[u8], name: &[u8]) -> Result<Option<Found>, Refusal> {
 /// [`ENTRY_MAX`](crate::ENTRY_MAX) bytes.
 ///
 /// # Errors
-/// [`Refusal::NotLaidOut`], [`Refusal::NoSuchPlace`], [`Refusal::TooShort`].
+/// [`Refusal::OldVersion`], [`Refusal::NotLaidOut`], [`Refusal::NoSuchPlace`],
+/// [`Refusal::TooShort`].
 pub fn name_at(book: &[u8], position: usize, dst: &mut [u8]) -> Result<Written, Refusal> {
     let (at, len) = (dst.as_mut_ptr(), dst.len());
     written(|e, b| unsafe {
@@ -169,7 +174,8 @@ pub fn name_at(book: &[u8], position: usize, dst: &mut [u8]) -> Result<Written, 
 /// Writes the given name with its score in the same way.
 ///
 /// # Errors
-/// [`Refusal::NotLaidOut`], [`Refusal::NotAllowed`], [`Refusal::NotHeld`], [`Refusal::TooShort`].
+/// [`Refusal::OldVersion`], [`Refusal::NotLaidOut`], [`Refusal::NotAllowed`], [`Refusal::NotHeld`],
+/// [`Refusal::TooShort`].
 pub fn name_of(book: &[u8], name: &[u8], dst: &mut [u8]) -> Result<Written, Refusal> {
     let (at, len) = (dst.as_mut_ptr(), dst.len());
     written(|e, b| unsafe {
@@ -180,7 +186,7 @@ pub fn name_of(book: &[u8], name: &[u8], dst: &mut [u8]) -> Result<Written, Refu
 /// The positions whose names a prefix begins.
 ///
 /// # Errors
-/// [`Refusal::NotLaidOut`], [`Refusal::NotAllowed`].
+/// [`Refusal::OldVersion`], [`Refusal::NotLaidOut`], [`Refusal::NotAllowed`].
 pub fn prefix_range(book: &[u8], prefix: &[u8]) -> Result<Span, Refusal> {
     let told = counts(|first, count| unsafe {
         let (at, len) = (prefix.as_ptr(), prefix.len());
@@ -189,10 +195,11 @@ pub fn prefix_range(book: &[u8], prefix: &[u8]) -> Result<Span, Refusal> {
     told.map(|(first, count)| Span { first, count })
 }
 
-/// The head name of a bucket of 8 names, as a part of the book.
+/// The head name of a bucket, as a part of the book. Only bucket 0 of a book with entries has one,
+/// the first name; up to version 1.5 there was a bucket for each 8 names.
 ///
 /// # Errors
-/// [`Refusal::NotLaidOut`], [`Refusal::NoSuchPlace`].
+/// [`Refusal::OldVersion`], [`Refusal::NotLaidOut`], [`Refusal::NoSuchPlace`].
 pub fn head(book: &[u8], bucket: usize) -> Result<&[u8], Refusal> {
     let told = counts(|start, length| unsafe {
         c::label_book_head(book.as_ptr(), book.len(), bucket, start, length)
@@ -212,7 +219,7 @@ pub fn build(sheet: &[u8], dst: &mut [u8]) -> Result<Written, Refusal> {
 /// Writes the sheet of a book's entries.
 ///
 /// # Errors
-/// [`Refusal::NotLaidOut`], [`Refusal::TooShort`].
+/// [`Refusal::OldVersion`], [`Refusal::NotLaidOut`], [`Refusal::TooShort`].
 pub fn list(book: &[u8], dst: &mut [u8]) -> Result<Written, Refusal> {
     let (at, len) = (dst.as_mut_ptr(), dst.len());
     written(|e, b| unsafe { c::label_book_list(book.as_ptr(), book.len(), at, len, e, b) })
@@ -223,7 +230,7 @@ pub fn list(book: &[u8], dst: &mut [u8]) -> Result<Written, Refusal> {
 /// most [`PAGE_MAX`](crate::PAGE_MAX) bytes.
 ///
 /// # Errors
-/// [`Refusal::NotLaidOut`], [`Refusal::TooShort`].
+/// [`Refusal::OldVersion`], [`Refusal::NotLaidOut`], [`Refusal::TooShort`].
 pub fn page(book: &[u8], dst: &mut [u8]) -> Result<Written, Refusal> {
     let (at, len) = (dst.as_mut_ptr(), dst.len());
     written(|e, b| unsafe { c::label_book_page(book.as_ptr(), book.len(), at, len, e, b) })
@@ -232,7 +239,7 @@ pub fn page(book: &[u8], dst: &mut [u8]) -> Result<Written, Refusal> {
 /// Writes the trie of a book's entries.
 ///
 /// # Errors
-/// [`Refusal::NotLaidOut`], [`Refusal::TooShort`].
+/// [`Refusal::OldVersion`], [`Refusal::NotLaidOut`], [`Refusal::TooShort`].
 pub fn write_trie(book: &[u8], dst: &mut [u8]) -> Result<Written, Refusal> {
     let (at, len) = (dst.as_mut_ptr(), dst.len());
     written(|e, b| unsafe { c::label_book_write_trie(book.as_ptr(), book.len(), at, len, e, b) })
@@ -243,8 +250,8 @@ pub fn write_trie(book: &[u8], dst: &mut [u8]) -> Result<Written, Refusal> {
 /// and `k` ranges are lent; after an answer anything may be in the ranges.
 ///
 /// # Errors
-/// [`Refusal::NotLaidOut`], [`Refusal::NotAllowed`], [`Refusal::CountOutOfRange`],
-/// [`Refusal::TooShort`].
+/// [`Refusal::OldVersion`], [`Refusal::NotLaidOut`], [`Refusal::NotAllowed`],
+/// [`Refusal::CountOutOfRange`], [`Refusal::TooShort`].
 pub fn complete(
     book: &[u8],
     prefix: &[u8],
@@ -317,8 +324,8 @@ pub fn complete_trie(
 /// edit, press [`key::RECOUNT`](crate::key::RECOUNT) first.
 ///
 /// # Errors
-/// [`Refusal::NotLaidOut`], [`Refusal::NotAllowed`], [`Refusal::NoSuchKey`],
-/// [`Refusal::TextFull`].
+/// [`Refusal::OldVersion`], [`Refusal::NotLaidOut`], [`Refusal::NotAllowed`],
+/// [`Refusal::NoSuchKey`], [`Refusal::TextFull`].
 pub fn press(book: &[u8], panel: &mut Panel, key: u8) -> Result<usize, Refusal> {
     let mut rows = 0;
     let number = unsafe { c::label_book_press(book.as_ptr(), book.len(), panel, key, &mut rows) };

@@ -10,6 +10,11 @@
 //! nor changed. A name is 1 to 48 bytes of UTF-8 whose signs are 20 to 7E, `µ` (C2 B5) and `Ω`
 //! (CE A9); lengths count bytes. A refusal changes nothing.
 //!
+//! Books are of version 22. One of version 21, as this library wrote them up to 1.5, is declined by
+//! every call that is given a book ([`Refusal::OldVersion`]), and no call converts it yet: the
+//! converter comes with the next version. Sheets have not changed, so that a sheet written by the
+//! library that wrote such a book can be built again ([`build`]).
+//!
 //! ```
 //! use label_book::{Book, Panel};
 //!

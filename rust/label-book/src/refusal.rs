@@ -2,7 +2,8 @@
 use std::error::Error;
 use std::fmt;
 
-/// Why a call declined: the smallest of the numbers that apply. It has then changed no lent byte.
+/// Why a call declined: of the causes that apply the first in the order 10, 1, 2 and so on to 9. It
+/// has then changed no lent byte.
 #[derive(Clone, Copy, Debug, PartialEq, Eq, Hash)]
 #[repr(u8)]
 pub enum Refusal {
@@ -29,11 +30,16 @@ pub enum Refusal {
     NoSuchKey = 8,
     /// A key that appends, where its sign of one byte or two does not fit into the panel's text.
     TextFull = 9,
+    /// An old book: its byte 0 is 21, whatever follows, the version of books up to 1.5 of this
+    /// library. It comes before all others, and of two books it is enough that one is old. No call
+    /// of this version reads or converts an old book; the converter comes with the next version.
+    /// Bytes given as a sheet or trie never give it, nor do empty ones.
+    OldVersion = 10,
 }
 
 impl Refusal {
     /// Every refusal, in the order of the numbers.
-    pub const ALL: [Refusal; 9] = [
+    pub const ALL: [Refusal; 10] = [
         Refusal::NotLaidOut,
         Refusal::NotAllowed,
         Refusal::CountOutOfRange,
@@ -43,6 +49,7 @@ impl Refusal {
         Refusal::TooShort,
         Refusal::NoSuchKey,
         Refusal::TextFull,
+        Refusal::OldVersion,
     ];
 
     /// Its number, from 1.
@@ -71,6 +78,10 @@ impl fmt::Display for Refusal {
             Refusal::TooShort => "the destination is too short",
             Refusal::NoSuchKey => "the panel has no such key",
             Refusal::TextFull => "the panel's text is full",
+            Refusal::OldVersion => {
+                "a book of the old version 21, which this version cannot read; \
+                 the converter comes with the next one"
+            }
         })
     }
 }

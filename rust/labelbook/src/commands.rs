@@ -86,7 +86,8 @@ fn edit(
 
 /// The other book is read before the file is held: it may come from a command that edits the file.
 fn merge(path: &Path, other: &Source) -> Result<(), Failure> {
-    let other = other.book()?.book;
+    let file = || Source::File(path.to_path_buf()).book();
+    let other = other.book().map_err(|failure| first_of(failure, file))?.book;
     edit(path, |book| book.merge(other.image()))
 }
 
@@ -94,10 +95,22 @@ fn merge_into(file: &Source, other: &Source, out: &Target, force: bool) -> Resul
     out.allow(force)?;
     apart(out, file, "FILE")?;
     apart(out, other, "OTHER")?;
-    let mut book = file.book()?.book;
+    let mut book = file.book().map_err(|failure| first_of(failure, || other.book()))?.book;
     let other = other.book()?.book;
     book.merge(other.image()).map_err(|refusal| Failure::refused(file, refusal))?;
     out.write(book.image(), force)
+}
+
+/// Why two books cannot be merged, of which one failed: whether either is old is looked at, as the
+/// library does, before either is said to be no book.
+fn first_of(failure: Failure, other: impl FnOnce() -> Result<Loaded, Failure>) -> Failure {
+    if !failure.is(Refusal::NotLaidOut) {
+        return failure;
+    }
+    match other() {
+        Err(old) if old.is(Refusal::OldVersion) => old,
+        _ => failure,
+    }
 }
 
 fn trie(file: &Source, out: &Target, force: bool) -> Result<(), Failure> {

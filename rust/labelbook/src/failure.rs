@@ -33,6 +33,11 @@ impl Failure {
         Failure::Refused { place: place.to_string(), refusal, hint }
     }
 
+    /// Whether the library declined, for this cause.
+    pub fn is(&self, cause: Refusal) -> bool {
+        matches!(self, Failure::Refused { refusal, .. } if *refusal == cause)
+    }
+
     pub fn data(place: impl Display, words: impl Into<String>) -> Failure {
         Failure::Data { place: place.to_string(), words: words.into() }
     }

@@ -45,9 +45,13 @@ needs no lock. A symbolic link is followed, and the file keeps its mode; a secon
 file (a hard link) keeps the old book. A crash can leave a file .labelbook-*.tmp in the folder;
 while no labelbook runs there, such files can be deleted.
 
+Old books. A book that labelbook wrote up to version 1.5 (its first byte is 21 in hexadecimal) is
+refused, 10. No command here reads it; the one that converts it comes with the next version. Until
+then the labelbook that wrote it can list it, and `labelbook build` makes a new book of these lines.
+
 Exit status:
   0         done
-  1 to 9    refused; the message says the number and why
+  1 to 10   refused; the message says the number and why
   64        the command line is wrong
   65        the lines for build are wrong
   74        a file cannot be read or written
@@ -61,10 +65,11 @@ labelbook check FILE
 
 Says how many entries the book in FILE has, and how many bytes:
 
-  4 entries, 44 bytes
+  4 entries, 43 bytes
 
 A second line says if bytes stand behind the book. They are not part of it, and the next edit of
-FILE leaves them out. Where FILE is no book, or was damaged or cut, the exit status is 1.
+FILE leaves them out. Where FILE is no book, or was damaged or cut, the exit status is 1; where it
+is an old book, of version 21, it is 10.
 - as FILE is standard input.
 ";
 
@@ -105,8 +110,9 @@ Adds NAME to the book in FILE, or gives it the new score if it is there.
   labelbook set term.book 9 '4.7 kΩ'
   labelbook set term.book 3 -- '-3 dB'
 
-Refused: 1, FILE is no book; 2, NAME is not allowed; 5, NAME is new and the book has 1,024 names.
-FILE must be there; `labelbook build FILE /dev/null` makes a book without names.
+Refused: 10, FILE is an old book; 1, FILE is no book; 2, NAME is not allowed; 5, NAME is new and the
+book has 1,024 names. FILE must be there; `labelbook build FILE /dev/null` makes a book without
+names.
 ";
 
 pub const WITHDRAW: &str = "\
@@ -114,7 +120,8 @@ labelbook withdraw FILE NAME
 
 Takes NAME out of the book in FILE.
 
-Refused: 1, FILE is no book; 2, NAME is not allowed; 4, the book does not hold NAME.
+Refused: 10, FILE is an old book; 1, FILE is no book; 2, NAME is not allowed; 4, the book does not
+hold NAME.
 ";
 
 pub const TOP: &str = "\
@@ -124,7 +131,7 @@ Prints the best K names, from 1 to 9, that begin with PREFIX, or all if there ar
 SCORE NAME, the highest score first. Without PREFIX it is the best of all names. FILE is a book, or
 the trie of one, which gives the same lines. - as FILE is standard input.
 
-Refused: 1, FILE is neither; 2, PREFIX is not allowed; 3, K is not 1 to 9.
+Refused: 10, FILE is an old book; 1, FILE is neither; 2, PREFIX is not allowed; 3, K is not 1 to 9.
 ";
 
 pub const PAGE: &str = "\
@@ -156,7 +163,8 @@ already is replaced only with --force.
 
   labelbook merge bench.book term.book
 
-Refused: 1, FILE or OTHER is no book; 5, there would be more than 1,024 names.
+Refused: 10, FILE or OTHER is an old book; 1, FILE or OTHER is no book; 5, there would be more than
+1,024 names.
 ";
 
 pub const TRIE: &str = "\

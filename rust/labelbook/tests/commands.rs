@@ -3,6 +3,7 @@ mod common;
 
 use common::{book_of, lines_of, long_names, run_all, Desk, BOOK, EMPTY_BOOK, LINES, TRIE};
 use common::{A_TRIE, FULL, NOT_ALLOWED, NOT_A_BOOK, NOT_A_COUNT, NOT_HELD};
+use common::{OLD, OLD_BOOK, OLD_EMPTY_BOOK};
 use label_book::{COUNT_MAX, PAGE_MAX};
 use label_book_tests::random::Random;
 use std::collections::BTreeMap;
@@ -27,6 +28,7 @@ fn main() {
         ("merge", merge),
         ("merge with bytes behind", merge_with_bytes_behind),
         ("merge into another file", merge_into),
+        ("merge with old and damaged books", merge_with_old_books),
         ("trie", trie),
         ("names", names),
         ("names with signs", names_with_signs),
@@ -130,13 +132,13 @@ fn check(desk: &Desk) {
     desk.write("empty.book", &EMPTY_BOOK);
     desk.write("one.book", book_of(&[(5, "ac")]).image());
     desk.write("more.book", &[&BOOK[..], b"\0"].concat());
-    desk.prints(&["check", "a.book"], "4 entries, 44 bytes\n");
+    desk.prints(&["check", "a.book"], "4 entries, 43 bytes\n");
     desk.prints(&["check", "empty.book"], "0 entries, 7 bytes\n");
-    desk.prints(&["check", "one.book"], "1 entry, 18 bytes\n");
-    desk.prints(&["check", "more.book"], format!("4 entries, 44 bytes\n{BEHIND}"));
-    desk.run(&["check", "-"]).input(BOOK).gives(0, "4 entries, 44 bytes\n", "");
-    let much = [&BOOK[..], &[0x21; 200_000]].concat();
-    let wanted = format!("4 entries, 44 bytes\n{BEHIND}");
+    desk.prints(&["check", "one.book"], "1 entry, 17 bytes\n");
+    desk.prints(&["check", "more.book"], format!("4 entries, 43 bytes\n{BEHIND}"));
+    desk.run(&["check", "-"]).input(BOOK).gives(0, "4 entries, 43 bytes\n", "");
+    let much = [&BOOK[..], &[0x22; 200_000]].concat();
+    let wanted = format!("4 entries, 43 bytes\n{BEHIND}");
     desk.run(&["check", "-"]).input(much).gives(0, wanted, "");
     let full = book_of(&long_names(1024));
     desk.write("full.book", full.image());
@@ -145,6 +147,10 @@ fn check(desk: &Desk) {
     desk.write("a.trie", &TRIE);
     desk.fails(&["check", "a.trie"], 1, &format!("a.trie: {NOT_A_BOOK}; {A_TRIE}"));
     desk.run(&["check", "-"]).fails(desk, 1, &format!("standard input: {NOT_A_BOOK}"));
+    desk.run(&["check", "-"]).input(OLD_BOOK).fails(desk, 10, &format!("standard input: {OLD}"));
+    // What the help shows is what is said of these entries.
+    let help = String::from_utf8(desk.run(&["help", "check"]).outcome().out).unwrap();
+    assert!(help.contains("\n\n  4 entries, 43 bytes\n\n"), "{help}");
     desk.fails(&["check", "b.book"], 74, "b.book: No such file or directory (os error 2)");
 }
 
@@ -208,17 +214,17 @@ fn withdraw(desk: &Desk) {
         desk.does(&["withdraw", "a.book", name]);
     }
     assert_eq!(desk.read("a.book"), EMPTY_BOOK);
-    desk.write("no.book", &BOOK[..43]);
+    desk.write("no.book", &BOOK[..42]);
     desk.fails(&["withdraw", "no.book", "rc"], 1, &format!("no.book: {NOT_A_BOOK}"));
     desk.fails(&["withdraw", "b.book", "a"], 74, "b.book: No such file or directory (os error 2)");
 
-    // The ten names whose book grows when the first is withdrawn: 127 bytes, then 167.
+    // The ten names whose book of version 21 grew when the first was withdrawn: 125 bytes, then 118.
     let mut ten: Vec<(u32, String)> = (1..=8).map(|i| (1, i.to_string())).collect();
     ten.extend([47, 48].map(|length| (1, "x".repeat(length))));
     desk.write("ten.book", book_of(&ten).image());
-    desk.prints(&["check", "ten.book"], "10 entries, 127 bytes\n");
+    desk.prints(&["check", "ten.book"], "10 entries, 125 bytes\n");
     desk.does(&["withdraw", "ten.book", "1"]);
-    desk.prints(&["check", "ten.book"], "9 entries, 167 bytes\n");
+    desk.prints(&["check", "ten.book"], "9 entries, 118 bytes\n");
 }
 
 fn top(desk: &Desk) {
@@ -411,6 +417,36 @@ fn merge_into(desk: &Desk) {
     let force = |file, other| ["merge", "--force", "-o", "a.book", file, other];
     desk.fails(&force("a.book", "b.book"), 74, "a.book: it is FILE itself");
     desk.fails(&force("b.book", "./a.book"), 74, "a.book: it is OTHER itself");
+}
+
+/// Of an old book and one that is damaged the old one is told, whichever is which.
+fn merge_with_old_books(desk: &Desk) {
+    let old = &format!("old.book: {OLD}");
+    desk.write("a.book", &BOOK);
+    for image in [&OLD_BOOK[..], &OLD_EMPTY_BOOK, &OLD_BOOK[..40], &OLD_BOOK[..1]] {
+        desk.write("old.book", image);
+        for other in ["a.book", "no.book", "a.trie", "none", "old.book"] {
+            desk.write("no.book", &BOOK[..40]);
+            desk.write("a.trie", &TRIE);
+            desk.write("none", b"");
+            for (file, second) in [("old.book", other), (other, "old.book")] {
+                desk.fails(&["merge", file, second], 10, old);
+                desk.fails(&["merge", file, second, "-o", "c.book"], 10, old);
+                desk.fails(&["merge", file, second, "-o", "-"], 10, old);
+            }
+        }
+        // A file that cannot be read is another matter.
+        let missing = "c.book: No such file or directory (os error 2)";
+        desk.fails(&["merge", "old.book", "c.book"], 74, missing);
+        desk.fails(&["merge", "c.book", "old.book", "-o", "-"], 74, missing);
+    }
+    let words = format!("standard input: {OLD}");
+    desk.run(&["merge", "a.book", "-"]).input(OLD_BOOK).fails(desk, 10, &words);
+    desk.run(&["merge", "no.book", "-", "-o", "-"]).input(OLD_BOOK).fails(desk, 10, &words);
+    // Damaged ones alone: the first that is read.
+    let (no, none) = (&format!("no.book: {NOT_A_BOOK}"), &format!("none: {NOT_A_BOOK}"));
+    desk.fails(&["merge", "none", "no.book"], 1, no);
+    desk.fails(&["merge", "none", "no.book", "-o", "-"], 1, none);
 }
 
 fn trie(desk: &Desk) {

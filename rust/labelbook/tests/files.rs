@@ -2,9 +2,8 @@
 mod common;
 
 use common::shim::{Shim, EPERM};
-use common::{
-    book_of, long_names, refused, run_all, Desk, BOOK, EMPTY_BOOK, LINES, NOT_A_BOOK, TRIE,
-};
+use common::{book_of, long_names, refused, run_all, Desk, BOOK, EMPTY_BOOK, LINES, NOT_A_BOOK};
+use common::{OLD, OLD_BOOK, OLD_EMPTY_BOOK, TRIE};
 use label_book::COUNT_MAX;
 use label_book_tests::random::Random;
 use std::fs::{self, File, Permissions};
@@ -15,6 +14,7 @@ use std::process::Command;
 fn main() {
     run_all(&[
         ("damaged books", damaged_books),
+        ("old books", old_books),
         ("damaged tries", damaged_tries),
         ("cut files", cut_files),
         ("noise", noise),
@@ -38,7 +38,7 @@ fn same_verdict(desk: &Desk, image: &[u8]) {
     desk.write("a.book", image);
     let refused = format!("a.book: {}", refused(image));
     match label_book::check(image) {
-        Err(_) => desk.fails(&["check", "a.book"], 1, &refused),
+        Err(refusal) => desk.fails(&["check", "a.book"], refusal.number().into(), &refused),
         Ok(told) => {
             let out = format!("{} entries, {} bytes\n", told.entries, told.bytes);
             let run = desk.run(&["check", "a.book"]).outcome();
@@ -48,7 +48,7 @@ fn same_verdict(desk: &Desk, image: &[u8]) {
 }
 
 fn every_command_refuses(desk: &Desk, image: &[u8]) {
-    assert!(label_book::check(image).is_err());
+    let refusal = label_book::check(image).expect_err("it is no book");
     desk.write("a.book", image);
     desk.write("b.book", &BOOK);
     let refused = format!("a.book: {}", refused(image));
@@ -63,8 +63,36 @@ fn every_command_refuses(desk: &Desk, image: &[u8]) {
         &["merge", "b.book", "a.book", "-o", "c.book"],
         &["trie", "a.book", "c.trie"],
     ] {
-        desk.fails(arguments, 1, &refused);
+        desk.fails(arguments, refusal.number().into(), &refused);
     }
+}
+
+/// Byte 0 alone decides: a whole book of version 21, one that is cut or damaged, and its first byte.
+fn old_books(desk: &Desk) {
+    for image in [&OLD_BOOK[..], &OLD_EMPTY_BOOK, &OLD_BOOK[..43], &OLD_BOOK[..7], &OLD_BOOK[..1]] {
+        every_command_refuses(desk, image);
+        same_verdict(desk, image);
+    }
+    let mut image = BOOK;
+    image[0] = 0x21;
+    every_command_refuses(desk, &image);
+    // Nor is it a book where byte 0 alone is today's.
+    let mut image = OLD_BOOK;
+    image[0] = 0x22;
+    every_command_refuses(desk, &image);
+    // What stands behind it is not looked at, nor is the argument.
+    desk.write("a.book", &[&OLD_BOOK[..], &[7; 90_000]].concat());
+    for arguments in [
+        &["check", "a.book"][..],
+        &["set", "a.book", "1", ""],
+        &["withdraw", "a.book", "zz"],
+        &["top", "a.book", "0", "\t"],
+    ] {
+        desk.fails(arguments, 10, &format!("a.book: {OLD}"));
+    }
+    // It can be replaced, as any file.
+    desk.run(&["build", "--force", "a.book"]).input(LINES).gives(0, "", "");
+    assert_eq!(desk.read("a.book"), BOOK);
 }
 
 fn damaged_books(desk: &Desk) {
@@ -105,9 +133,9 @@ fn cut_files(desk: &Desk) {
         same_verdict(desk, &BOOK[..length]);
     }
     every_command_refuses(desk, b"");
-    every_command_refuses(desk, &BOOK[..43]);
+    every_command_refuses(desk, &BOOK[..42]);
     let full = book_of(&long_names(1024)).image().to_vec();
-    for length in [full.len() - 1, full.len() / 2, 4_487, 4_096, 7, 6] {
+    for length in [full.len() - 1, full.len() / 2, 4_231, 4_096, 7, 6] {
         same_verdict(desk, &full[..length]);
     }
 }
@@ -118,7 +146,7 @@ fn noise(desk: &Desk) {
         let length = random.below(200);
         let mut image: Vec<u8> = (0..length).map(|_| random.any() as u8).collect();
         if let Some(version) = image.first_mut() {
-            *version = 0x21;
+            *version = random.pick(&[0x21, 0x22, 0x22, 0x22]);
         }
         same_verdict(desk, &image);
     }
@@ -132,7 +160,7 @@ fn long_files(desk: &Desk) {
     };
     desk.write("a.book", &BOOK);
     lengthen("a.book");
-    desk.prints(&["check", "a.book"], format!("4 entries, 44 bytes\n{BEHIND}"));
+    desk.prints(&["check", "a.book"], format!("4 entries, 43 bytes\n{BEHIND}"));
     desk.prints(&["list", "a.book"], LINES);
     desk.prints(&["top", "a.book", "1", "a"], "5 ac\n");
     desk.fails(&["withdraw", "a.book", "q"], 4, &format!("a.book: {}", common::NOT_HELD));
@@ -146,7 +174,7 @@ fn long_files(desk: &Desk) {
     lengthen("zeros");
     desk.fails(&["check", "zeros"], 1, &format!("zeros: {NOT_A_BOOK}"));
     // As long as the file is, but longer than any book may be.
-    desk.write("zeros", b"\x21\x40\0\0\0\0\0");
+    desk.write("zeros", b"\x22\x40\0\0\0\0\0");
     lengthen("zeros");
     desk.fails(&["set", "zeros", "1", "a"], 1, &format!("zeros: {NOT_A_BOOK}"));
 }

@@ -27,8 +27,12 @@ fn u32_at(bytes: &[u8], at: usize) -> u32 {
     u32::from_be_bytes([bytes[at], bytes[at + 1], bytes[at + 2], bytes[at + 3]])
 }
 
+fn peaks_at(n: usize) -> usize {
+    7 + 4 * n
+}
+
 fn records_at(n: usize) -> usize {
-    7 + 4 * n + 2 * n.div_ceil(8) + 2 * n.div_ceil(16)
+    peaks_at(n) + 2 * n.div_ceil(16)
 }
 
 /// The count and the bytes of an image, by its first seven bytes.
@@ -99,28 +103,30 @@ fn is_name(bytes: &[u8]) -> bool {
     !bytes.is_empty() && is_prefix(bytes)
 }
 
-/// The book at the front of a buffer, checked in one pass over its records and one over its scores.
-fn check(buffer: &[u8]) -> Option<Book<'_>> {
-    let (n, image) = frame(0x21, buffer)?;
+/// The book at the front of a buffer, or the refusal.
+fn check(buffer: &[u8]) -> Result<Book<'_>, u8> {
+    if is_old(buffer) {
+        return Err(10);
+    }
+    laid_out(buffer).ok_or(1)
+}
+
+fn is_old(buffer: &[u8]) -> bool {
+    buffer.first() == Some(&0x21)
+}
+
+/// The same, checked in one pass over its records and one over its scores.
+fn laid_out(buffer: &[u8]) -> Option<Book<'_>> {
+    let (n, image) = frame(0x22, buffer)?;
     let mut at = records_at(n);
     if at > image.len() {
         return None;
     }
     let mut name = Name::new();
-    for i in 0..n {
-        let mut kept = 0;
-        if i % 8 == 0 {
-            if u16_at(image, 7 + 4 * n + i / 4) != at {
-                return None;
-            }
-        } else {
-            kept = *image.get(at)? as usize;
-            at += 1;
-        }
-        let added = *image.get(at)? as usize;
-        at += 1;
-        let rest = image.get(at..at + added)?;
-        at += added;
+    for _ in 0..n {
+        let (kept, added) = (*image.get(at)? as usize, *image.get(at + 1)? as usize);
+        let rest = image.get(at + 2..at + 2 + added)?;
+        at += 2 + added;
         if added == 0 || kept > name.len || kept + added > LONGEST_NAME || !allowed(rest) {
             return None;
         }
@@ -128,30 +134,21 @@ fn check(buffer: &[u8]) -> Option<Book<'_>> {
         if kept > 0 && is_first_half(name.bytes[kept - 1]) {
             return None;
         }
-        let rises = if i % 8 == 0 {
-            name.get() < rest
-        } else {
-            kept == name.len || name.bytes[kept] < rest[0]
-        };
-        if !rises {
+        if kept < name.len && name.bytes[kept] >= rest[0] {
             return None;
         }
         name.put(kept, rest);
     }
     let book = Book { image, n };
     let peaks_hold = (0..n).step_by(16).all(|first| {
-        u16_at(image, book.peaks_at() + first / 8) == book.best_of(first, n.min(first + 16))
+        u16_at(image, peaks_at(n) + first / 8) == book.best_of(first, n.min(first + 16))
     });
     (at == image.len() && peaks_hold).then_some(book)
 }
 
-impl<'a> Book<'a> {
+impl Book<'_> {
     fn score(&self, i: usize) -> u32 {
         u32_at(self.image, 7 + 4 * i)
-    }
-
-    fn peaks_at(&self) -> usize {
-        7 + 4 * self.n + 2 * self.n.div_ceil(8)
     }
 
     fn better(&self, a: usize, b: usize) -> usize {
@@ -175,7 +172,7 @@ impl<'a> Book<'a> {
         let mut i = first;
         while i < end {
             if i.is_multiple_of(16) && i + 16 <= end {
-                best = self.better(best, u16_at(self.image, self.peaks_at() + i / 8));
+                best = self.better(best, u16_at(self.image, peaks_at(self.n) + i / 8));
                 i += 16;
             } else {
                 best = self.better(best, i);
@@ -185,77 +182,73 @@ impl<'a> Book<'a> {
         best
     }
 
-    fn head_at(&self, bucket: usize) -> usize {
-        u16_at(self.image, 7 + 4 * self.n + 2 * bucket) + 1
-    }
-
-    fn head(&self, bucket: usize) -> &'a [u8] {
-        let start = self.head_at(bucket);
-        &self.image[start..start + self.image[start - 1] as usize]
-    }
-
     /// Unpacks the record at a place; gives the place behind it.
-    fn unpack(&self, i: usize, mut at: usize, name: &mut Name) -> usize {
-        let mut kept = 0;
-        if !i.is_multiple_of(8) {
-            kept = self.image[at] as usize;
-            at += 1;
-        }
-        let added = self.image[at] as usize;
-        name.put(kept, &self.image[at + 1..at + 1 + added]);
-        at + 1 + added
+    fn unpack(&self, at: usize, name: &mut Name) -> usize {
+        let (kept, added) = (self.image[at] as usize, self.image[at + 1] as usize);
+        name.put(kept, &self.image[at + 2..at + 2 + added]);
+        at + 2 + added
     }
 
     fn name_at(&self, position: usize) -> Name {
         let mut name = Name::new();
-        let first = position / 8 * 8;
-        let mut at = self.head_at(position / 8) - 1;
-        for i in first..=position {
-            at = self.unpack(i, at, &mut name);
+        let mut at = records_at(self.n);
+        for _ in 0..=position {
+            at = self.unpack(at, &mut name);
         }
         name
     }
 
-    /// How many names are before: those for which the test holds, which are the first ones.
-    fn place(&self, before: impl Fn(&[u8]) -> bool) -> usize {
-        let (mut low, mut high) = (0, self.n.div_ceil(8));
-        while low < high {
-            let mid = (low + high) / 2;
-            if before(self.head(mid)) {
-                low = mid + 1;
-            } else {
-                high = mid;
+    /// The first name that is not before a prefix. As long as the names are before it, how much of
+    /// it the last one has tells of most records that the next one is, too.
+    fn seek(&self, prefix: &[u8]) -> Sought {
+        let mut at = records_at(self.n);
+        let mut shared = 0;
+        for position in 0..self.n {
+            let (kept, added) = (self.image[at] as usize, self.image[at + 1] as usize);
+            if kept < shared {
+                return Sought { position, at, begins: false };
             }
-        }
-        if low == 0 {
-            return 0;
-        }
-        let first = 8 * (low - 1);
-        let end = self.n.min(first + 8);
-        let mut name = Name::new();
-        let mut at = self.head_at(low - 1) - 1;
-        for i in first..end {
-            at = self.unpack(i, at, &mut name);
-            if !before(name.get()) {
-                return i;
+            if kept == shared {
+                let rest = &self.image[at + 2..at + 2 + added];
+                let more = common(rest, &prefix[shared..]);
+                shared += more;
+                if shared == prefix.len() {
+                    return Sought { position, at, begins: true };
+                }
+                if more < added && rest[more] > prefix[shared] {
+                    return Sought { position, at, begins: false };
+                }
             }
+            at += 2 + added;
         }
-        end
+        Sought { position: self.n, at, begins: false }
+    }
+
+    /// The positions that a prefix begins, from the first to behind the last.
+    fn range(&self, prefix: &[u8]) -> (usize, usize) {
+        let Sought { position, mut at, begins } = self.seek(prefix);
+        if !begins {
+            return (position, position);
+        }
+        let mut end = position + 1;
+        while end < self.n {
+            at += 2 + self.image[at + 1] as usize;
+            if (self.image[at] as usize) < prefix.len() {
+                break;
+            }
+            end += 1;
+        }
+        (position, end)
     }
 
     /// The position of a name, or the gap that it would fill.
     fn look_up(&self, name: &[u8]) -> Result<usize, usize> {
-        let i = self.place(|held| held < name);
-        if i < self.n && self.name_at(i).get() == name {
-            Ok(i)
+        let Sought { position, at, begins } = self.seek(name);
+        if begins && self.image[at] as usize + self.image[at + 1] as usize == name.len() {
+            Ok(position)
         } else {
-            Err(i)
+            Err(position)
         }
-    }
-
-    fn range(&self, prefix: &[u8]) -> (usize, usize) {
-        let first = self.place(|held| held < prefix);
-        (first, self.place(|held| held < prefix || held.starts_with(prefix)))
     }
 
     /// Each entry of the book with one left out, or a new one put in, or both, at a place.
@@ -274,7 +267,7 @@ impl<'a> Book<'a> {
                     each(name, score);
                 }
             }
-            at = self.unpack(i, at, &mut name);
+            at = self.unpack(at, &mut name);
             if !(skip && i == place) {
                 each(name.get(), self.score(i));
             }
@@ -297,6 +290,14 @@ impl<'a> Book<'a> {
     }
 }
 
+/// A position, n behind the last name; where its record stands; whether the prefix that was sought
+/// begins its name.
+struct Sought {
+    position: usize,
+    at: usize,
+    begins: bool,
+}
+
 /// A name of the book and its score.
 struct Row {
     name: Name,
@@ -308,7 +309,7 @@ fn rows_of(book: &Book) -> Vec<Row> {
     let mut name = Name::new();
     let mut at = records_at(book.n);
     for i in 0..book.n {
-        at = book.unpack(i, at, &mut name);
+        at = book.unpack(at, &mut name);
         rows.push(Row { name, score: book.score(i) });
     }
     rows
@@ -332,7 +333,7 @@ impl<'a> Pass<'a> {
 
     fn unpack(&mut self) {
         if self.i < self.book.n {
-            self.at = self.book.unpack(self.i, self.at, &mut self.name);
+            self.at = self.book.unpack(self.at, &mut self.name);
         }
     }
 
@@ -372,8 +373,7 @@ fn write_book(dst: &mut [u8], entries: impl Fn(&mut dyn FnMut(&[u8], u32))) -> W
     let (mut n, mut records) = (0, 0);
     let mut before = Name::new();
     entries(&mut |name, _| {
-        let kept = if n % 8 == 0 { 0 } else { common(before.get(), name) };
-        records += 1 + (n % 8 != 0) as usize + name.len() - kept;
+        records += 2 + name.len() - common(before.get(), name);
         before.put(0, name);
         n += 1;
     });
@@ -382,30 +382,24 @@ fn write_book(dst: &mut [u8], entries: impl Fn(&mut dyn FnMut(&[u8], u32))) -> W
     }
     let total = records_at(n) + records;
     let dst = dst.get_mut(..total).ok_or(7)?;
-    header(0x21, total, n, dst);
+    header(0x22, total, n, dst);
     let mut at = records_at(n);
     let mut i = 0;
+    before.len = 0;
     entries(&mut |name, score| {
         dst[7 + 4 * i..11 + 4 * i].copy_from_slice(&score.to_be_bytes());
-        let mut kept = 0;
-        if i % 8 == 0 {
-            let offset = 7 + 4 * n + i / 4;
-            dst[offset..offset + 2].copy_from_slice(&(at as u16).to_be_bytes());
-        } else {
-            kept = common(before.get(), name);
-            dst[at] = kept as u8;
-            at += 1;
-        }
+        let kept = common(before.get(), name);
         let rest = &name[kept..];
-        dst[at] = rest.len() as u8;
-        dst[at + 1..at + 1 + rest.len()].copy_from_slice(rest);
-        at += 1 + rest.len();
+        dst[at] = kept as u8;
+        dst[at + 1] = rest.len() as u8;
+        dst[at + 2..at + 2 + rest.len()].copy_from_slice(rest);
+        at += 2 + rest.len();
         before.put(0, name);
         i += 1;
     });
     for first in (0..n).step_by(16) {
         let book = Book { image: dst, n };
-        let (best, peak) = (book.best_of(first, n.min(first + 16)), book.peaks_at() + first / 8);
+        let (best, peak) = (book.best_of(first, n.min(first + 16)), peaks_at(n) + first / 8);
         dst[peak..peak + 2].copy_from_slice(&(best as u16).to_be_bytes());
     }
     Ok((n, total))
@@ -435,7 +429,7 @@ pub fn empty(dst: &mut [u8]) -> Written {
 }
 
 pub fn set(book: &[u8], name: &[u8], score: u32, dst: &mut [u8]) -> Written {
-    let book = check(book).ok_or(1)?;
+    let book = check(book)?;
     if !is_name(name) {
         return Err(2);
     }
@@ -447,7 +441,7 @@ pub fn set(book: &[u8], name: &[u8], score: u32, dst: &mut [u8]) -> Written {
 }
 
 pub fn withdraw(book: &[u8], name: &[u8], dst: &mut [u8]) -> Written {
-    let book = check(book).ok_or(1)?;
+    let book = check(book)?;
     if !is_name(name) {
         return Err(2);
     }
@@ -456,12 +450,15 @@ pub fn withdraw(book: &[u8], name: &[u8], dst: &mut [u8]) -> Written {
 }
 
 pub fn merge(first: &[u8], second: &[u8], dst: &mut [u8]) -> Written {
-    let (first, second) = (check(first).ok_or(1)?, check(second).ok_or(1)?);
+    if is_old(second) {
+        return Err(10);
+    }
+    let (first, second) = (check(first)?, check(second)?);
     write_book(dst, |each| each_merged(first, second, each))
 }
 
 pub fn find(book: &[u8], name: &[u8]) -> Result<Option<(usize, u32)>, u8> {
-    let book = check(book).ok_or(1)?;
+    let book = check(book)?;
     if !is_name(name) {
         return Err(2);
     }
@@ -469,7 +466,7 @@ pub fn find(book: &[u8], name: &[u8]) -> Result<Option<(usize, u32)>, u8> {
 }
 
 pub fn name_at(book: &[u8], position: usize, dst: &mut [u8]) -> Written {
-    let book = check(book).ok_or(1)?;
+    let book = check(book)?;
     if position >= book.n {
         return Err(6);
     }
@@ -482,7 +479,7 @@ pub fn name_of(book: &[u8], name: &[u8], dst: &mut [u8]) -> Written {
 }
 
 pub fn prefix_range(book: &[u8], prefix: &[u8]) -> Result<(usize, usize), u8> {
-    let book = check(book).ok_or(1)?;
+    let book = check(book)?;
     if !is_prefix(prefix) {
         return Err(2);
     }
@@ -491,11 +488,12 @@ pub fn prefix_range(book: &[u8], prefix: &[u8]) -> Result<(usize, usize), u8> {
 }
 
 pub fn head(book: &[u8], bucket: usize) -> Result<(usize, usize), u8> {
-    let book = check(book).ok_or(1)?;
-    if bucket >= book.n.div_ceil(8) {
+    let book = check(book)?;
+    if bucket > 0 || book.n == 0 {
         return Err(6);
     }
-    Ok((book.head_at(bucket), book.head(bucket).len()))
+    let start = records_at(book.n) + 2;
+    Ok((start, book.image[start - 1] as usize))
 }
 
 /// An open range: its first position, its best, its end.
@@ -541,7 +539,7 @@ fn each_ranked(
 }
 
 pub fn complete(book: &[u8], prefix: &[u8], k: usize, dst: &mut [u8], ranges: usize) -> Offered {
-    let book = check(book).ok_or(1)?;
+    let book = check(book)?;
     if !is_prefix(prefix) {
         return Err(2);
     }
@@ -593,7 +591,7 @@ pub fn build(sheet: &[u8], dst: &mut [u8]) -> Written {
 }
 
 pub fn list(book: &[u8], dst: &mut [u8]) -> Written {
-    let book = check(book).ok_or(1)?;
+    let book = check(book)?;
     let mut total = 7;
     book.each_spliced(book.n, false, None, |name, _| total += 5 + name.len());
     let dst = dst.get_mut(..total).ok_or(7)?;

@@ -22,7 +22,7 @@ fn put_score(mut score: u32, columns: &mut [u8]) {
 }
 
 pub fn page(book: &[u8], dst: &mut [u8]) -> Written {
-    let book = check(book).ok_or(1)?;
+    let book = check(book)?;
     let rows = rows_of(&book);
     let lines: usize = rows.iter().map(|row| row.name.len.div_ceil(COLUMNS)).sum();
     let total = LINE * (1 + lines);

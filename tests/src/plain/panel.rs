@@ -99,7 +99,7 @@ fn act<'a>(
 }
 
 pub fn press(book: &[u8], panel: &mut Panel, key: u8) -> Result<usize, u8> {
-    let book = check(book).ok_or(1)?;
+    let book = check(book)?;
     let text = panel.text.get(..panel.len).ok_or(2)?;
     let held = panel.held.get(..panel.held_len).ok_or(2)?;
     if !is_prefix(text) || !is_prefix(held) {

@@ -1,5 +1,5 @@
-//! Every call of the document: the checks in the table's order, then the answer. `Err` is the
-//! refusal's number; a refusal changes nothing.
+//! Every call of the documents: the checks in order, 10 first and then the table's, then the
+//! answer. `Err` is the refusal's number; a refusal changes nothing.
 use super::*;
 
 /// What a call that writes reports: the entries in it and its bytes.
@@ -27,7 +27,7 @@ pub fn empty(dst: &mut [u8]) -> Written {
 }
 
 pub fn set(book: &[u8], name: &[u8], score: u32, dst: &mut [u8]) -> Written {
-    let mut entries = book::read(book).ok_or(IMAGE)?;
+    let mut entries = book::read(book)?;
     allow(is_name(name), NAME)?;
     allow(entries.contains_key(name) || entries.len() < MOST_ENTRIES, FULL)?;
     entries.insert(name.to_vec(), score);
@@ -35,7 +35,7 @@ pub fn set(book: &[u8], name: &[u8], score: u32, dst: &mut [u8]) -> Written {
 }
 
 pub fn withdraw(book: &[u8], name: &[u8], dst: &mut [u8]) -> Written {
-    let mut entries = book::read(book).ok_or(IMAGE)?;
+    let mut entries = book::read(book)?;
     allow(is_name(name), NAME)?;
     entries.remove(name).ok_or(NOT_HELD)?;
     write(entries.len(), &book::image(&entries), dst)
@@ -43,8 +43,7 @@ pub fn withdraw(book: &[u8], name: &[u8], dst: &mut [u8]) -> Written {
 
 /// Every name of either book once; where both have it, the first book's score counts.
 pub fn merge(first: &[u8], second: &[u8], dst: &mut [u8]) -> Written {
-    let first = book::read(first).ok_or(IMAGE)?;
-    let second = book::read(second).ok_or(IMAGE)?;
+    let [first, second] = book::read_all([first, second])?;
     let mut entries = second;
     for (name, score) in first {
         entries.insert(name, score);
@@ -55,26 +54,26 @@ pub fn merge(first: &[u8], second: &[u8], dst: &mut [u8]) -> Written {
 
 /// The entries of a book and the length of its image.
 pub fn check(book: &[u8]) -> Written {
-    let entries = book::read(book).ok_or(IMAGE)?;
+    let entries = book::read(book)?;
     Ok((entries.len(), book::image(&entries).len()))
 }
 
 /// Position and score, or none.
 pub fn find(book: &[u8], name: &[u8]) -> Result<Option<(usize, u32)>, u8> {
-    let entries = book::read(book).ok_or(IMAGE)?;
+    let entries = book::read(book)?;
     allow(is_name(name), NAME)?;
     Ok(entries.keys().position(|held| held == name).map(|i| (i, entries[name])))
 }
 
 pub fn name_at(book: &[u8], position: usize, dst: &mut [u8]) -> Written {
-    let entries = book::read(book).ok_or(IMAGE)?;
+    let entries = book::read(book)?;
     allow(position < entries.len(), POSITION)?;
     let (name, score) = super::name_at(&entries, position);
     write(1, &entry_bytes(name, score), dst)
 }
 
 pub fn name_of(book: &[u8], name: &[u8], dst: &mut [u8]) -> Written {
-    let entries = book::read(book).ok_or(IMAGE)?;
+    let entries = book::read(book)?;
     allow(is_name(name), NAME)?;
     let score = *entries.get(name).ok_or(NOT_HELD)?;
     write(1, &entry_bytes(name, score), dst)
@@ -95,20 +94,19 @@ fn matching(entries: &Entries, prefix: &[u8]) -> std::ops::Range<usize> {
 
 /// First position, 0 if there are none, and count.
 pub fn prefix_range(book: &[u8], prefix: &[u8]) -> Result<(usize, usize), u8> {
-    let entries = book::read(book).ok_or(IMAGE)?;
+    let entries = book::read(book)?;
     allow(is_prefix(prefix), NAME)?;
     let range = matching(&entries, prefix);
     Ok((range.start, range.len()))
 }
 
-/// Where in the book a bucket's head name begins, and its length.
+/// Where in the book the head name of bucket 0 begins, behind the two bytes in front of every name,
+/// and its length. No other bucket has one, and none of a book of no entries.
 pub fn head(book: &[u8], bucket: usize) -> Result<(usize, usize), u8> {
-    let entries = book::read(book).ok_or(IMAGE)?;
-    let n = entries.len();
-    allow(bucket < n.div_ceil(book::BUCKET), POSITION)?;
-    let mut offset = Fields { image: book, at: 7 + 4 * n + 2 * bucket };
-    let (name, _) = super::name_at(&entries, book::BUCKET * bucket);
-    Ok((offset.number(2).unwrap() as usize + 1, name.len()))
+    let entries = book::read(book)?;
+    allow(bucket == 0 && !entries.is_empty(), POSITION)?;
+    let (name, _) = super::name_at(&entries, 0);
+    Ok((book::Version::NoBuckets.records_at(entries.len()) + 2, name.len()))
 }
 
 /// The bytes of the entries that a prefix begins, in rank, the first k or all if fewer; and how
@@ -187,7 +185,7 @@ pub(super) fn complete_within(
     dst: &mut [u8],
     ranges: usize,
 ) -> Offered {
-    let entries = book::read(book).ok_or(IMAGE)?;
+    let entries = book::read(book)?;
     let (offered, bytes) = offer(most, &entries, prefix, k, dst, ranges)?;
     Ok((offered, bytes, looks(&entries, prefix, k)))
 }
@@ -211,17 +209,17 @@ pub fn build(sheet: &[u8], dst: &mut [u8]) -> Written {
 }
 
 pub fn list(book: &[u8], dst: &mut [u8]) -> Written {
-    let entries = book::read(book).ok_or(IMAGE)?;
+    let entries = book::read(book)?;
     write(entries.len(), &sheet::image(&entries), dst)
 }
 
 pub fn page(book: &[u8], dst: &mut [u8]) -> Written {
-    let entries = book::read(book).ok_or(IMAGE)?;
+    let entries = book::read(book)?;
     write(entries.len(), &page::bytes(&entries), dst)
 }
 
 pub fn write_trie(book: &[u8], dst: &mut [u8]) -> Written {
-    let entries = book::read(book).ok_or(IMAGE)?;
+    let entries = book::read(book)?;
     write(entries.len(), &trie::image(&entries), dst)
 }
 

@@ -62,7 +62,7 @@ fn act(
 
 /// One key: the rows, or the refusal.
 pub fn press(book: &[u8], panel: &mut Panel, key: u8) -> Result<usize, u8> {
-    let entries = book::read(book).ok_or(IMAGE)?;
+    let entries = book::read(book)?;
     let text = panel.text.get(..panel.len).and_then(text).ok_or(NAME)?.to_string();
     let held = panel.held.get(..panel.held_len).ok_or(NAME)?;
     allow(held.is_empty() || is_name(held), NAME)?;

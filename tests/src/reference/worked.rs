@@ -2,6 +2,7 @@
 mod counts;
 mod pages;
 mod signs;
+mod versions;
 
 use super::calls::*;
 use super::panel::press;
@@ -35,18 +36,18 @@ fn list_of(entries: &[(&str, u32)]) -> Vec<u8> {
 
 #[test]
 fn p1_p2_empty() {
-    assert_eq!(book::image(&Entries::new()), bytes("21 00 00 00 07 00 00"));
+    assert_eq!(book::image(&Entries::new()), bytes("22 00 00 00 07 00 00"));
     assert_eq!(trie::image(&Entries::new()), bytes("31 00 00 00 07 00 00"));
 }
 
 #[test]
 fn p3_book() {
     let image = bytes(
-        "21 00 00 00 2C 00 04 00 00 00 05 00 00 00 09 00 00 00 09 00 00 00 0C 00 1B 00 03 \
-         02 61 63 00 02 72 63 02 05 20 73 74 65 70 01 01 6C",
+        "22 00 00 00 2B 00 04 00 00 00 05 00 00 00 09 00 00 00 09 00 00 00 0C 00 03 \
+         00 02 61 63 00 02 72 63 02 05 20 73 74 65 70 01 01 6C",
     );
     assert_eq!(book::image(&e()), image);
-    assert_eq!(book::read(&image), Some(e()));
+    assert_eq!(book::read(&image), Ok(e()));
 }
 
 #[test]
@@ -77,11 +78,11 @@ fn p9_p10_lengths() {
     entries.insert(vec![b'x'; 47], 0);
     entries.insert(vec![b'x'; 48], 0);
     let book = book::image(&entries);
-    assert_eq!(book.len(), 127);
-    assert_eq!(withdraw(&book, b"1", &mut [0; 130]), Err(TOO_SHORT));
-    assert_eq!(withdraw(&book, b"1", &mut [0; 167]), Ok((9, 167)));
+    assert_eq!(book.len(), 125);
+    assert_eq!(withdraw(&book, b"1", &mut [0; 117]), Err(TOO_SHORT));
+    assert_eq!(withdraw(&book, b"1", &mut [0; 118]), Ok((9, 118)));
     entries.remove(&b"1"[..]);
-    assert_eq!(book::image(&entries).len(), 167);
+    assert_eq!(book::image(&entries).len(), 118);
 }
 
 #[test]
@@ -109,22 +110,22 @@ fn limits() {
 fn merged_books() {
     let (one, two) = (book::image(&of(&[("rc", 9)])), book::image(&of(&[("rc", 20), ("rl", 12)])));
     // The first book's score counts, and the peak goes by it.
-    let mut dst = [0xEE; 26];
-    assert_eq!(merge(&one, &two, &mut dst), Ok((2, 25)));
+    let mut dst = [0xEE; 25];
+    assert_eq!(merge(&one, &two, &mut dst), Ok((2, 24)));
     assert_eq!(
         dst[..],
-        bytes("21 00 00 00 19 00 02 00 00 00 09 00 00 00 0C 00 13 00 01 02 72 63 01 01 6C EE")
+        bytes("22 00 00 00 18 00 02 00 00 00 09 00 00 00 0C 00 01 00 02 72 63 01 01 6C EE")
     );
-    assert_eq!(merge(&two, &one, &mut dst), Ok((2, 25)));
+    assert_eq!(merge(&two, &one, &mut dst), Ok((2, 24)));
     assert_eq!(
         dst[..],
-        bytes("21 00 00 00 19 00 02 00 00 00 14 00 00 00 0C 00 13 00 00 02 72 63 01 01 6C EE")
+        bytes("22 00 00 00 18 00 02 00 00 00 14 00 00 00 0C 00 00 00 02 72 63 01 01 6C EE")
     );
     // With no entries, and with itself, a book stays as it is.
     let (none, book) = (book::image(&Entries::new()), book::image(&e()));
     for (first, second) in [(&none, &book), (&book, &none), (&book, &book)] {
-        let mut dst = [0; 44];
-        assert_eq!(merge(first, second, &mut dst), Ok((4, 44)));
+        let mut dst = [0; 43];
+        assert_eq!(merge(first, second, &mut dst), Ok((4, 43)));
         assert_eq!(dst[..], book);
     }
     assert_eq!(merge(&none, &none, &mut [0; 7]), Ok((0, 7)));
@@ -133,7 +134,7 @@ fn merged_books() {
 #[test]
 fn merges_refused() {
     let (one, two) = (book::image(&of(&[("rc", 9)])), book::image(&of(&[("rc", 20), ("rl", 12)])));
-    let mut dst = [0xEE; 24];
+    let mut dst = [0xEE; 23];
     assert_eq!(merge(&one, &two, &mut dst), Err(TOO_SHORT));
     assert_eq!(merge(&one[..one.len() - 1], &two, &mut dst), Err(IMAGE));
     assert_eq!(merge(&one, &two[..two.len() - 1], &mut dst), Err(IMAGE));
@@ -149,21 +150,22 @@ fn merges_refused() {
     assert_eq!(merge(&low, &higher, &mut [0; 10_000]), Err(FULL));
     assert_eq!(merge(&low, &higher, &mut dst), Err(FULL));
     assert_eq!(merge(&low, &higher[1..], &mut dst), Err(IMAGE));
-    assert_eq!(dst, [0xEE; 24]);
+    assert_eq!(dst, [0xEE; 23]);
 }
 
 #[test]
 fn p9_p10_run() {
-    // The ten names in buffers of 130 bytes, from which "1" is not withdrawn.
+    // The ten names in buffers of 126 bytes, from which "1" is withdrawn.
     let names = (b'1'..=b'8').map(|digit| vec![digit]).chain([vec![b'x'; 47], vec![b'x'; 48]]);
     let mut calls: Vec<Call> = names.map(|name| Call { kind: Kind::Set, score: 0, name }).collect();
     calls.push(Call { kind: Kind::Withdraw, score: 9, name: vec![b'1'] });
     assert_eq!(calls[10].bytes(), bytes("01 00 00 00 09 00 01 31"));
     let (script, mut first, mut second, mut out) =
-        (script::bytes(&calls), [0xEE; 130], [0; 130], [0xEE; 78]);
-    assert_eq!(script::run(&script, &mut first, &mut second, &mut out), Ok((11, 0)));
-    assert_eq!(out[63..], bytes("00 00 0A 00 00 00 7F 07 00 00 00 00 00 00 EE"));
-    assert_eq!((check(&first), first[127]), (Ok((10, 127)), 0xEE));
+        (script::bytes(&calls), [0xEE; 126], [0; 126], [0xEE; 78]);
+    assert_eq!(script::run(&script, &mut first, &mut second, &mut out), Ok((11, 1)));
+    assert_eq!(out[63..], bytes("00 00 0A 00 00 00 7D 00 00 09 00 00 00 76 EE"));
+    assert_eq!((check(&first), first[125]), (Ok((10, 125)), 0xEE));
+    assert_eq!(check(&second), Ok((9, 118)));
     // Room for the answers of ten calls, two lengths, buffers that are too short; the script is
     // said first.
     assert_eq!(script::run(&script, &mut first, &mut second, &mut out[..76]), Err(TOO_SHORT));
@@ -197,10 +199,10 @@ fn a_child_field_counts_itself() {
 fn a_smaller_common_byte_is_refused() {
     // "rc step" with one common byte where two are shared.
     let image = bytes(
-        "21 00 00 00 2D 00 04 00 00 00 05 00 00 00 09 00 00 00 09 00 00 00 0C 00 1B 00 03 \
-         02 61 63 00 02 72 63 01 06 63 20 73 74 65 70 01 01 6C",
+        "22 00 00 00 2C 00 04 00 00 00 05 00 00 00 09 00 00 00 09 00 00 00 0C 00 03 \
+         00 02 61 63 00 02 72 63 01 06 63 20 73 74 65 70 01 01 6C",
     );
-    assert_eq!(book::read(&image), None);
+    assert_eq!(book::read(&image), Err(IMAGE));
 }
 
 /// What a key gives on a book of entries, and the panel that it leaves.

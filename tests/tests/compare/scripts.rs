@@ -19,7 +19,7 @@ fn run(compare: &mut Compare, script: &[u8], lent: [&[u8]; 3]) -> Told {
 /// A run on buffers that a history can start in, with room for the answers of as many calls as the
 /// script can have.
 fn on_buffers(compare: &mut Compare, random: &mut Random, script: &[u8]) -> Told {
-    let length = random.pick(&[7, 18, 30, 130, 300, 2000]);
+    let length = random.pick(&[7, 17, 30, 130, 300, 2000]);
     let [first, second, out] = [length, length, script.len()].map(|length| random.bytes(length));
     run(compare, script, [&first, &second, &out])
 }

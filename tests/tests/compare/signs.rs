@@ -103,9 +103,9 @@ fn common_bytes(compare: &mut Compare) {
         ("00 02 CE B5", 1),
     ] {
         let record = bytes(record);
-        let front = "00 02 00 00 00 00 00 00 00 00 00 13 00 00 02 C2 B5";
+        let front = "00 02 00 00 00 00 00 00 00 00 00 00 00 02 C2 B5";
         let book =
-            [bytes("21 00 00 00"), vec![22 + record.len() as u8], bytes(front), record].concat();
+            [bytes("22 00 00 00"), vec![21 + record.len() as u8], bytes(front), record].concat();
         compare.check(&book);
         assert_eq!(ours::check(&book).0, number, "{book:02X?}");
         let dst = [0; 100];

@@ -157,6 +157,15 @@ fn made_from_images(package: &mut Package, random: &mut Random) {
         let from_sheet = Book::from_sheet(&[&sheet[..], &behind].concat()).expect("a sheet");
         package.case(from_image.image() == image && from_image.entries() == n, "from an image");
         package.case(from_sheet.image() == image && from_sheet.entries() == n, "from a sheet");
+        let old = book::Version::Buckets.image(&held);
+        for old in [&old[..], &old[..1]] {
+            let made = Book::from_image(old).map(|_| ());
+            package.case(made == Err(Refusal::OldVersion), "from an image of version 21");
+            let mut book = from_image.clone();
+            let merged = book.merge(old).map(|_| ());
+            package.case(merged == Err(Refusal::OldVersion), "with a book of version 21");
+            package.case(book == from_image, "and the book stays as it is");
+        }
         for _ in 0..40 {
             let (image, sheet) = (make::damaged(random, &image), make::damaged(random, &sheet));
             let number = Book::from_image(&image).map_or_else(Refusal::number, |_| 0);

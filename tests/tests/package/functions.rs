@@ -1,4 +1,5 @@
-//! The 18 functions, each against its C name, on books of many sizes and on damaged ones.
+//! The 18 functions, each against its C name, on books of many sizes, on damaged ones and on those
+//! of version 21.
 use super::Package;
 use label_book::{self as package, Panel, Range, Written};
 use label_book::{BOOK_MAX, COUNT_MAX, ENTRY_MAX, NAME_MAX, PAGE_MAX, SHEET_MAX, TRIE_MAX};
@@ -20,7 +21,8 @@ pub fn all(package: &mut Package) {
         let scores = random.pick(&SCORES);
         let held = make::entries(random, n, names, scores);
         let image = book::image(&held);
-        for book in [&image, &make::damaged(random, &image)] {
+        let old = book::Version::Buckets.image(&held);
+        for book in [&image, &make::damaged(random, &image), &old] {
             images(package, random, book, &sheet::image(&held));
             for _ in 0..12 {
                 names_and_places(package, random, book, &held);
@@ -72,7 +74,7 @@ fn names_and_places(package: &mut Package, random: &mut Random, book: &[u8], hel
     let name_at = |d: &mut [u8]| raw::name_at(book, position, d);
     package.writes("name_at", room, |d| package::name_at(book, position, d), name_at);
     // A head is told by where it begins in the book and its length.
-    let bucket = make::number(random, held.len().div_ceil(8));
+    let bucket = make::bucket(random, held.len());
     let part = package::head(book, bucket).map(|part| Written {
         entries: part.as_ptr() as usize - book.as_ptr() as usize,
         bytes: part.len(),

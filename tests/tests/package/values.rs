@@ -69,15 +69,15 @@ fn hostile_answers(package: &mut Package, random: &mut Random) {
     }
 }
 
-/// The numbers 1 to 9 and no others are refusals, each with words of its own.
+/// The numbers 1 to 10 and no others are refusals, each with words of its own.
 fn refusals(package: &mut Package) {
     for number in 0..=255 {
         let refusal = Refusal::numbered(number);
-        package.case(refusal.is_some() == (1..=9).contains(&number), "which numbers are refusals");
+        package.case(refusal.is_some() == (1..=10).contains(&number), "which numbers are refusals");
         package.case(refusal.is_none_or(|r| r.number() == number), "a refusal's number");
     }
     let numbers = Refusal::ALL.map(Refusal::number);
-    package.case(numbers == [1, 2, 3, 4, 5, 6, 7, 8, 9], "the refusals in their order");
+    package.case(numbers == [1, 2, 3, 4, 5, 6, 7, 8, 9, 10], "the refusals in their order");
     let words = Refusal::ALL.map(|refusal| refusal.to_string());
     package.case(words.iter().all(|words| !words.trim().is_empty()), "a refusal has words");
     package.case(BTreeSet::from(words).len() == numbers.len(), "a refusal has its own words");

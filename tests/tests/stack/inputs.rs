@@ -34,6 +34,7 @@ fn empty(measure: &mut Measure) {
 }
 
 /// A book's entries in every image, as the library writes them.
+#[derive(Clone)]
 struct Images {
     book: Vec<u8>,
     sheet: Vec<u8>,
@@ -54,6 +55,9 @@ fn sizes(measure: &mut Measure, random: &mut Random) {
             let mut images = images(&held);
             measure.kind = "books of many sizes";
             every_call(measure, random, &held, &images);
+            measure.kind = "books of version 21";
+            let old = Images { book: book::Version::Buckets.image(&held), ..images.clone() };
+            every_call(measure, random, &held, &old);
             measure.kind = "damaged books, sheets and tries";
             for image in [&mut images.book, &mut images.sheet, &mut images.trie] {
                 *image = make::damaged(random, image);
@@ -86,7 +90,7 @@ fn every_call(measure: &mut Measure, random: &mut Random, held: &Entries, images
         measure.find(book, &name);
         measure.name_of(book, &name, make::room(random, ENTRY_MAX));
         measure.name_at(book, make::number(random, n), make::room(random, ENTRY_MAX));
-        measure.head(book, make::number(random, n.div_ceil(8)));
+        measure.head(book, make::bucket(random, n));
         every_completion(measure, random, images, &name);
     }
 }
@@ -248,16 +252,16 @@ fn damaged_tries(measure: &mut Measure, random: &mut Random) {
     }
 }
 
-/// Names set and withdrawn at each place of the first bucket, of one in the middle and of the last,
-/// new ones on both sides of each; the destination has room, or too little.
+/// Names set and withdrawn at the front of a book, in the middle and at its end, new ones on both
+/// sides of each; the destination has room, or too little.
 fn places(measure: &mut Measure) {
-    measure.kind = "edits at each place of a bucket";
+    measure.kind = "edits at the front, in the middle and at the end";
     for n in [8, 9, 1023, 1024] {
         let names = (0..n).map(|i| format!("{}{i:04}", "x".repeat(i % 40)).into_bytes());
         let held = scored(names, |i| (i % 9) as u32);
         let book = book::image(&held);
-        let buckets = [0..8, n / 2..n / 2 + 8, n.saturating_sub(9)..n];
-        let positions = (0..n).filter(|at| buckets.iter().any(|bucket| bucket.contains(at)));
+        let parts = [0..8, n / 2..n / 2 + 8, n.saturating_sub(9)..n];
+        let positions = (0..n).filter(|at| parts.iter().any(|part| part.contains(at)));
         let names: Vec<&Vec<u8>> = held.keys().collect();
         for name in positions.map(|at| names[at]) {
             let before = [&name[..name.len() - 1], b" "].concat();

@@ -1,4 +1,5 @@
--- `book_check::check` meets its contract: byte 0 is looked at before the rest (proofs/Answer). No loop, so no invariant.
+-- `book_check::check` meets its contract: byte 0 is looked at before the rest (proofs/Answer). No loop, so no
+-- invariant.
 -- Assumes nothing.
 use mathlib.Core.Path.{_∙_, _≡_, subst, sym}
 use borrow.Author.Needs.{needs}

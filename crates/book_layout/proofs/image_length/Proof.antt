@@ -2,7 +2,6 @@
 -- No loop. Assumes nothing.
 use mathlib.Core.Path.{_∙_, refl}
 use native.Mathlib.Omega.{arith}
-use Rattle.book.specs.Book.{bookImage}
 use Rattle.book_laws.proofs.Held.{held-stored}
 use Rattle.book_layout.proofs.image_length.Statement.{statement}
 use Rattle.book_layout.proofs.image_length.Tie as tie

@@ -25,10 +25,12 @@ S z = drop (z .args .at) (z .args .book .now)
 abbrev start : tie.After-parts-at → tie.Start
 start a = a .before .before .before .before
 
-told : (a : tie.After-parts-at) → let z = start a in a .parts-at .result ≡ partsAt (z .args .heads) (z .args .index) (S z)
+told : (a : tie.After-parts-at)
+    → let z = start a in a .parts-at .result ≡ partsAt (z .args .heads) (z .args .index) (S z)
 told a = let z = start a in rw (to-end (z .args .book .now) (z .args .at)) at (a .parts-at .ensures)
 
-whole : {heads : Bool} {s : List ℕ} {i m : ℕ} {p : Parts} → Inside heads s i m → p ≡ partsAt heads i s → p .start + p .own ≤ length s
+whole : {heads : Bool} {s : List ℕ} {i m : ℕ} {p : Parts} → Inside heads s i m → p ≡ partsAt heads i s
+    → p .start + p .own ≤ length s
 whole h e = rw e (h .whole)
 
 inside : (a : tie.After-parts-at) → let p = a .parts-at .result in p .start + p .own ≤ length (S (start a))

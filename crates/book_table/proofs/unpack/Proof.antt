@@ -57,7 +57,8 @@ turn r = r .before .before
 given :
     (r : tie.After-read-name Inv-loop μ-loop)
     → let l = turn r .before in
-    Given (start l .args .book .now) (l .loop .at) (l .loop .i) (r .read-name .last .1 .1 .1 .1 .0) (r .read-name .result)
+    Given (start l .args .book .now) (l .loop .at) (l .loop .i) (r .read-name .last .1 .1 .1 .1 .0)
+    (r .read-name .result)
 given r =
     let k = turn r in
     let l = k .before in

@@ -22,7 +22,8 @@ same-length : tie.Need-same-length
 same-length c = c .before .before .finish .kept .0
 
 returns-2 : tie.Need-returns-2
-returns-2 c = nothing-written _ _ (else1 c .if1 .left) (rw (c .before .before .before .today .ensures) at (c .before .before .finish .ensures))
+returns-2 c = nothing-written _ _ (else1 c .if1 .left)
+    (rw (c .before .before .before .today .ensures) at (c .before .before .finish .ensures))
 
 pub empty-spec : {M : Type 1} → statement M
 empty-spec = tie.close (tie.spec returns today-requires finish-requires same-length returns-2)

@@ -1,9 +1,9 @@
--- `edit_calls::set` meets its contract: the checks in the table's order, then the score at the name's place or the new entry
+-- `edit_calls::set` meets its contract: the checks in the table's order, then the score at the name's place or the new
+-- entry
 -- (proofs/Editing). No loop, so no invariant. Assumes nothing.
 use mathlib.Core.Path.{_∙_, _≡_, sym}
 use mathlib.Core.Bool.{true}
 use mathlib.Core.List.{[]}
-use borrow.Author.Needs.{needs}
 use borrow.Author.Tests.{not-false, not-true}
 use Rattle.entries.specs.Names.{isName}
 use Rattle.book_laws.specs.Held.{Held}
@@ -96,7 +96,8 @@ returns-5 c =
     let t = q .before .before in
     let k = t .before .before in
     let e = going k in
-    new-set _ _ _ (held e) (allowed k) (checked e .check .ensures .located (e .if1 .left)) (t .if3 .left) _ (q .if4 .left)
+    new-set _ _ _ (held e) (allowed k) (checked e .check .ensures .located (e .if1 .left)) (t .if3 .left) _
+    (q .if4 .left)
     (rw (d .today .ensures) at (w .write-with .ensures))
 
 pub set-spec : {M : Type 1} → statement M

@@ -7,6 +7,7 @@ use borrow.Author.Needs.{needs}
 use borrow.Author.Tests.{not-false, not-true}
 use Rattle.entries.specs.Names.{isName}
 use Rattle.book_laws.specs.Held.{Held}
+use Rattle.lookup_find.proofs.Finding.{place-low}
 use Rattle.edit_calls.proofs.Editing.{gone, gone-asked, not-held, withdraw-refused, withdraw-unnamed}
 use Rattle.edit_calls.proofs.withdraw.Statement.{statement}
 use Rattle.edit_calls.proofs.withdraw.Tie as tie
@@ -42,13 +43,21 @@ returns-2 c =
     withdraw-unnamed _ _ _ (held (c .before .before))
     (sym (c .before .is-name .ensures) ∙ not-true (c .before .is-name .result) (c .if2 .taken))
 
+find-in-requires : tie.Need-find-in-requires
+find-in-requires c κs =
+    let e = going c in
+    place-low _ _ (held e) (checked e .check .ensures .located (e .if1 .left))
+
+enum-told : tie.Need-enum-told
+enum-told c = search needs
+
 returns-3 : tie.Need-returns-3
 returns-3 c =
-    let f = c .before .before in
+    let f = c .before in
     let k = f .before in
     let e = going k in
-    not-held _ _ _ (held e) (allowed k) (checked e .check .ensures .located (e .if1 .left))
-    (not-true (checked e .check .result .seek .same) (c .if3 .taken))
+    not-held _ _ _ (held e) (allowed k) (checked e .check .ensures .located (e .if1 .left)) (f .find-in .result)
+    (f .find-in .ensures) (c .match .keys2)
 
 today-requires : tie.Need-today-requires
 today-requires c κs = tt
@@ -56,12 +65,13 @@ today-requires c κs = tt
 write-without-requires : tie.Need-write-without-requires
 write-without-requires c κs =
     let d = c .before in
-    let q = d .before in
-    let k = q .before .before .before in
+    let t = d .before in
+    let f = t .before .before in
+    let k = f .before in
     let e = going k in
     rw (d .today .ensures)
-    (gone-asked _ _ [] (held e) (allowed k) (checked e .check .ensures .located (e .if1 .left))
-    (not-false (checked e .check .result .seek .same) (q .if3 .left)))
+    (gone-asked _ _ [] (held e) (allowed k) (checked e .check .ensures .located (e .if1 .left)) (f .find-in .result)
+    (f .find-in .ensures) (t .enum-told .given .1))
 
 same-length : tie.Need-same-length
 same-length c = c .before .before .write-without .kept .1 .1 .1 .1 .1 .0
@@ -70,11 +80,12 @@ returns-4 : tie.Need-returns-4
 returns-4 c =
     let w = c .before .before in
     let d = w .before .before in
-    let q = d .before in
-    let k = q .before .before .before in
+    let t = d .before in
+    let f = t .before .before in
+    let k = f .before in
     let e = going k in
-    gone _ _ _ (held e) (allowed k) (checked e .check .ensures .located (e .if1 .left))
-    (not-false (checked e .check .result .seek .same) (q .if3 .left)) (rw (d .today .ensures) at (w .write-without .ensures))
+    gone _ _ _ (held e) (allowed k) (checked e .check .ensures .located (e .if1 .left)) (f .find-in .result)
+    (f .find-in .ensures) (t .enum-told .given .1) (rw (d .today .ensures) at (w .write-without .ensures))
 
 pub withdraw-spec : {M : Type 1} → statement M
 withdraw-spec =
@@ -84,6 +95,8 @@ withdraw-spec =
     returns
     is-name-requires
     returns-2
+    find-in-requires
+    enum-told
     returns-3
     today-requires
     write-without-requires

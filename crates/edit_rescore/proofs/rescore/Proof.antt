@@ -7,7 +7,6 @@ use lib.Seq.{length-take-le}
 use native.Mathlib.Omega.{arith}
 use borrow.Author.Needs.{needs}
 use Rattle.entries.specs.Entries.{maxEntries}
-use Rattle.book.specs.Book.{bookImage}
 use Rattle.book_laws.proofs.Held.{held-few, held-stored}
 use Rattle.edit_rescore.proofs.Whole.{rescored-whole}
 use Rattle.edit_rescore.proofs.rescore.Statement.{statement}

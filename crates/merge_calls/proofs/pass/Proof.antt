@@ -18,7 +18,8 @@ use Rattle.merge_calls.proofs.pass.Statement.{statement}
 use Rattle.merge_calls.proofs.pass.Tie as tie
 
 abbrev Inv-loop : tie.InvT-loop
-Inv-loop first n second m dst₀ count at store l a₀ b₀ name₀ prev₀ prev-len₀ to-at₀ index₀ x₀ y₀ dst a b name prev prev-len
+Inv-loop first n second m dst₀ count at store l a₀ b₀ name₀ prev₀ prev-len₀ to-at₀ index₀ x₀ y₀ dst a b name prev
+    prev-len
     to-at
     index x y =
     PassLeft first second dst₀ count at store x a y b dst (cursorOf to-at index prev prev-len)

@@ -75,9 +75,11 @@ returns-2 c =
       arith,
       p .before .before .if1 .left,
     ) in
-    whole-written today (mergedEntries (z .args .first .now) (z .args .second .now)) (z .args .dst .now) _ (q .2) (total r)
+    whole-written today (mergedEntries (z .args .first .now) (z .args .second .now)) (z .args .dst .now) _ (q .2)
+    (total r)
     fits
-    ((rw (r .before .today .ensures) at (f .finish .ensures)) ∙ whole-image (q .0) (q .1) (q .2) (q .3) (starts r) fits (p .pass .ensures))
+    ((rw (r .before .today .ensures) at (f .finish .ensures))
+    ∙ whole-image (q .0) (q .1) (q .2) (q .3) (starts r) fits (p .pass .ensures))
 
 pub write-chosen-spec : {M : Type 1} → statement M
 write-chosen-spec =

@@ -55,4 +55,5 @@ returns-3 c =
 pub list-spec : {M : Type 1} → statement M
 list-spec =
     tie.close
-    (tie.spec slice-aggregate-check check-requires returns sheet-size-requires returns-2 fill-sheet-requires same-length returns-3)
+    (tie.spec slice-aggregate-check check-requires returns sheet-size-requires returns-2 fill-sheet-requires
+    same-length returns-3)

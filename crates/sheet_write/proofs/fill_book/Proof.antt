@@ -129,7 +129,8 @@ returns c =
     let f = c .before .before in
     let e = f .before .before in
     let l = e .before in
-    (rw (today-is l) at (f .finish .ensures)) ∙ fill-end (start l .pre .0) (l .loop .inv) (e .loop-test .left) (start l .pre .1)
+    (rw (today-is l) at (f .finish .ensures))
+    ∙ fill-end (start l .pre .0) (l .loop .inv) (e .loop-test .left) (start l .pre .1)
 
 pub fill-book-spec : {M : Type 1} → statement M
 fill-book-spec =

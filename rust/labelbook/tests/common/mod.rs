@@ -18,10 +18,13 @@ pub const PROGRAM: &str = env!("CARGO_BIN_EXE_labelbook");
 pub const NOT_A_BOOK: &str =
     "refused, 1: not laid out as a book, sheet, trie or script, or cut off";
 pub const A_TRIE: &str = "it begins as a trie does";
+pub const OLD: &str = "refused, 10: a book of the old version 21, which this version cannot read; \
+                       the converter comes with the next one";
 
-/// What is said of bytes that are no book.
+/// What is said of bytes that are no book, or an old one.
 pub fn refused(image: &[u8]) -> String {
     match image.first() {
+        Some(0x21) => OLD.to_string(),
         Some(0x31) => format!("{NOT_A_BOOK}; {A_TRIE}"),
         Some(0x11) => format!("{NOT_A_BOOK}; it begins as a sheet does"),
         _ => NOT_A_BOOK.to_string(),
@@ -37,11 +40,16 @@ pub const FULL: &str = "refused, 5: more than 1,024 names";
 
 /// The bench's entries E of the document that lays the formats out: as lines, book and trie.
 pub const LINES: &str = "5 ac\n9 rc\n9 rc step\n12 rl\n";
-pub const BOOK: [u8; 44] = *b"\x21\0\0\0\x2C\0\x04\0\0\0\x05\0\0\0\x09\0\0\0\x09\0\0\0\x0C\
-                              \0\x1B\0\x03\x02ac\0\x02rc\x02\x05 step\x01\x01l";
+pub const BOOK: [u8; 43] = *b"\x22\0\0\0\x2B\0\x04\0\0\0\x05\0\0\0\x09\0\0\0\x09\0\0\0\x0C\
+                              \0\x03\0\x02ac\0\x02rc\x02\x05 step\x01\x01l";
 pub const TRIE: [u8; 28] = *b"\x31\0\0\0\x1C\0\x04\x51\x0C\x08r\x4A\x07ac\x01l\
                               \x59\x03\x06c\0\x0D step";
-pub const EMPTY_BOOK: [u8; 7] = *b"\x21\0\0\0\x07\0\0";
+pub const EMPTY_BOOK: [u8; 7] = *b"\x22\0\0\0\x07\0\0";
+
+/// The same entries as a book of version 21, and the empty book of it.
+pub const OLD_BOOK: [u8; 44] = *b"\x21\0\0\0\x2C\0\x04\0\0\0\x05\0\0\0\x09\0\0\0\x09\0\0\0\x0C\
+                                  \0\x1B\0\x03\x02ac\0\x02rc\x02\x05 step\x01\x01l";
+pub const OLD_EMPTY_BOOK: [u8; 7] = *b"\x21\0\0\0\x07\0\0";
 
 static CASES: AtomicUsize = AtomicUsize::new(0);
 

@@ -32,7 +32,7 @@ fn lays_out_name(name: &[u8], lines: &[&Line]) {
 fn the_heading_alone() {
     lays_out(&Entries::new(), &[]);
     let mut dst = [0; 41];
-    assert_eq!(page(&bytes("21 00 00 00 07 00 00"), &mut dst), Ok((0, 41)));
+    assert_eq!(page(&bytes("22 00 00 00 07 00 00"), &mut dst), Ok((0, 41)));
     let spaces = "20 ".repeat(31);
     assert_eq!(dst[..], bytes(&format!("4E 41 4D 45 {spaces} 53 43 4F 52 45 0A")));
 }
@@ -195,7 +195,7 @@ fn pages_refused() {
             assert_eq!(dst, vec![0xEE; room]);
         }
         let answer = if room < 205 { Err(TOO_SHORT) } else { Ok((4, 205)) };
-        assert_eq!(page(&[&book[..], b"\x21 and more"].concat(), &mut dst), answer);
+        assert_eq!(page(&[&book[..], b"\x22 and more"].concat(), &mut dst), answer);
     }
 }
 

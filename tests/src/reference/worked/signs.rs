@@ -107,7 +107,7 @@ fn images_refused() {
     for name in refused() {
         for mut entries in [Entries::new(), labs(), of(&[("10 µ", 1), ("µF", 2)])] {
             entries.insert(name.clone(), 5);
-            assert_eq!(book::read(&book::image(&entries)), None, "{name:02X?}");
+            assert_eq!(book::read(&book::image(&entries)), Err(IMAGE), "{name:02X?}");
             assert_eq!(sheet::read(&sheet::image(&entries)), None, "{name:02X?}");
             assert_eq!(trie::read(&trie::image(&entries)), None, "{name:02X?}");
         }
@@ -117,17 +117,17 @@ fn images_refused() {
 #[test]
 fn a_book() {
     let image = bytes(
-        "21 00 00 00 2C 00 03 00 00 00 05 00 00 00 09 00 00 00 02 00 17 00 01 \
-         06 31 30 20 C2 B5 46 00 07 34 2E 37 20 6B CE A9 00 03 C2 B5 41",
+        "22 00 00 00 2B 00 03 00 00 00 05 00 00 00 09 00 00 00 02 00 01 \
+         00 06 31 30 20 C2 B5 46 00 07 34 2E 37 20 6B CE A9 00 03 C2 B5 41",
     );
     let entries = of(&[("10 µF", 5), ("4.7 kΩ", 9), ("µA", 2)]);
     assert_eq!(book::image(&entries), image);
-    assert_eq!(book::read(&image), Some(entries));
+    assert_eq!(book::read(&image), Ok(entries));
     // "10 µF" and "10 µs" share the whole sign, "a µ" and "a Ω" nothing of it.
     let entries = of(&[("10 µF", 0), ("10 µs", 0), ("a µ", 0), ("a Ω", 0)]);
     assert_eq!(
-        book::image(&entries)[27..],
-        bytes("06 31 30 20 C2 B5 46 05 01 73 00 04 61 20 C2 B5 02 02 CE A9")
+        book::image(&entries)[25..],
+        bytes("00 06 31 30 20 C2 B5 46 05 01 73 00 04 61 20 C2 B5 02 02 CE A9")
     );
 }
 
@@ -136,16 +136,16 @@ fn a_book() {
 #[test]
 fn a_common_byte_inside_a_sign() {
     let with = |record: &str| {
-        let records = bytes(&format!("02 C2 B5 {record}"));
-        let rest = [bytes("00 00 00 00 00 00 00 00 00 13 00 00"), records].concat();
-        framed(0x21, 2, &rest)
+        let records = bytes(&format!("00 02 C2 B5 {record}"));
+        let rest = [bytes("00 00 00 00 00 00 00 00 00 00"), records].concat();
+        framed(0x22, 2, &rest)
     };
-    assert_eq!(book::read(&with("02 01 41")), Some(of(&[("µ", 0), ("µA", 0)])));
-    assert_eq!(book::read(&with("00 02 CE A9")), Some(of(&[("µ", 0), ("Ω", 0)])));
-    assert_eq!(book::read(&with("02 02 C2 B5")), Some(of(&[("µ", 0), ("µµ", 0)])));
+    assert_eq!(book::read(&with("02 01 41")), Ok(of(&[("µ", 0), ("µA", 0)])));
+    assert_eq!(book::read(&with("00 02 CE A9")), Ok(of(&[("µ", 0), ("Ω", 0)])));
+    assert_eq!(book::read(&with("02 02 C2 B5")), Ok(of(&[("µ", 0), ("µµ", 0)])));
     for record in ["01 02 C2 B5", "01 02 CE A9", "01 02 B5 41", "01 01 C2", "01 01 CE", "02 01 B5"]
     {
-        assert_eq!(book::read(&with(record)), None, "{record}");
+        assert_eq!(book::read(&with(record)), Err(IMAGE), "{record}");
     }
 }
 
@@ -261,8 +261,12 @@ fn positions_and_heads() {
         assert_eq!(name_at(&book, i, &mut dst), Ok((1, name.len() + 5)));
         assert_eq!(dst[..name.len() + 5], entry_bytes(name.as_bytes(), 1));
     }
-    let (start, length) = head(&book, 1).unwrap();
-    assert_eq!(&book[start..start + length], "Ωµ".as_bytes());
+    assert_eq!(head(&book, 1), Err(POSITION));
+    for first in ["µ", "Ωµ", "aΩ"] {
+        let book = book::image(&of(&[(first, 1), ("Ωµ~", 2)]));
+        let (start, length) = head(&book, 0).unwrap();
+        assert_eq!(&book[start..start + length], first.as_bytes());
+    }
 }
 
 #[test]
@@ -297,11 +301,11 @@ fn a_history() {
     assert_eq!(
         out[..],
         bytes(
-            "00 00 01 00 00 00 16 02 00 00 00 00 00 00 02 00 00 00 00 00 00 \
-             00 00 02 00 00 00 1E 04 00 00 00 00 00 00 00 00 01 00 00 00 12"
+            "00 00 01 00 00 00 15 02 00 00 00 00 00 00 02 00 00 00 00 00 00 \
+             00 00 02 00 00 00 1D 04 00 00 00 00 00 00 00 00 01 00 00 00 11"
         )
     );
-    assert_eq!(second[..18], bytes("21 00 00 00 12 00 01 00 00 00 09 00 0F 00 00 02 CE A9"));
+    assert_eq!(second[..17], bytes("22 00 00 00 11 00 01 00 00 00 09 00 00 00 02 CE A9"));
     let mut ledger = ledger::Ledger::new(40);
     let answers: Vec<u8> = calls.iter().flat_map(|c| script::kept(ledger.call(c))).collect();
     assert_eq!(answers, out);
