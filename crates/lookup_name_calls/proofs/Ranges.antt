@@ -1,7 +1,8 @@
 -- The range of a prefix in a book that was checked, from what the search for it told.
-use Prim.Native.Nat.{_-_, _<_, _≤_}
+use Prim.Native.Nat.{_-_, _<_, _≤_, ℕ}
 use mathlib.Core.Path.{_≡_}
 use mathlib.Core.Bool.{true}
+use mathlib.Core.List.{List}
 use native.Mathlib.Omega.{arith}
 use Rattle.entries.specs.Entries.{names}
 use Rattle.entries.specs.Names.{isPrefix}

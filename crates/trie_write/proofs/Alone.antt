@@ -1,7 +1,7 @@
 -- What stands under one row: a group of one node, and what stands under that.
 use Prim.Native.Nat.{_+_, _-_, _<_, _≤_, min, suc, ℕ}
 use mathlib.Core.Path.{_∙_, _≡_, ap, refl, sym}
-use mathlib.Core.Bool.{false}
+use mathlib.Core.Bool.{Bool, false}
 use mathlib.Core.List.{List, [], _∷_}
 use lib.ListN.{getD, length, length-drop, length-take}
 use native.Mathlib.Omega.{arith}
