@@ -4,6 +4,7 @@
 use mathlib.Core.Path.{_∙_, _≡_, sym}
 use mathlib.Core.Bool.{true}
 use mathlib.Core.List.{[]}
+use native.Mathlib.Omega.{arith}
 use borrow.Author.Tests.{not-false, not-true}
 use Rattle.entries.specs.Names.{isName}
 use Rattle.book_laws.specs.Held.{Held}
@@ -83,7 +84,7 @@ write-with-requires c κs =
     let e = going k in
     rw (d .today .ensures)
     (new-asked _ _ [] (held e) (allowed k) (checked e .check .ensures .located (e .if1 .left)) (t .if3 .left)
-    (q .if4 .left))
+    (omega (arith, q .if4 .left)))
 
 same-length-2 : tie.Need-same-length-2
 same-length-2 c = c .before .before .write-with .kept .1 .1 .1 .1 .1 .1 .0
@@ -97,7 +98,7 @@ returns-5 c =
     let k = t .before .before in
     let e = going k in
     new-set _ _ _ (held e) (allowed k) (checked e .check .ensures .located (e .if1 .left)) (t .if3 .left) _
-    (q .if4 .left)
+    (omega (arith, q .if4 .left))
     (rw (d .today .ensures) at (w .write-with .ensures))
 
 pub set-spec : {M : Type 1} → statement M
