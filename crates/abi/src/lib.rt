@@ -1,1 +1,2 @@
 // What C is told, and what it finds in what it lent: definitions in specs/.
+#![tactic(auto)]

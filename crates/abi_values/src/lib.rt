@@ -1,5 +1,7 @@
 // What a call answered, told to C: each function returns 0 or the refusal's number and puts the counts into the
 // caller's out values, all of them 0 with a refusal.
+#![tactic(auto)]
+
 ghost use Rattle.answer.specs.Reports.{checked_of, found_of, offered_of, played_of, pressed_of, span_of, written_of};
 ghost use Rattle.abi.specs.Told.{FoundTold, OfferedTold, PlayedTold, RowsTold, SpanTold, WrittenTold};
 

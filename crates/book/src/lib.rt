@@ -1,5 +1,7 @@
 // The book image: definitions in specs/, laws in proofs/. What differs between its versions is a value.
-#[derive(Drop)]
+#![tactic(auto)]
+
+#[derive(Clone, Copy)]
 pub struct Layout {
     // Byte 0.
     pub version: u8,

@@ -1,4 +1,6 @@
 // A pass over entries that are to stand in a book one after the other: it puts each, or only measures its record.
+#![tactic(auto)]
+
 ghost use Rattle.std.specs.Prelude.{◌≡◌, [], ◌∷◌, ◌+◌, length};
 ghost use Rattle.entries.specs.Entries.{entry};
 ghost use Rattle.entries.specs.Names.{longest_name};
@@ -9,7 +11,7 @@ ghost use Rattle.book_append.specs.Append.{AppendDone, Fits, after_given, cursor
 use book_write::Slot;
 
 // Where an entry is put; without `store` it is only measured.
-#[derive(Drop)]
+#[derive(Clone, Copy)]
 pub struct EntryTarget {
     pub slot: Slot,
     pub store: bool,

@@ -1,5 +1,7 @@
 // The best-ranked position of a range of positions of a book that was checked: peaks for the blocks that the range
 // holds whole.
+#![tactic(auto)]
+
 ghost use Rattle.std.specs.Prelude.{◌≡◌, ◌*◌, ◌<◌, ◌≤◌};
 ghost use Rattle.book.specs.Book.{block_size, in_book, peak};
 ghost use Rattle.book_laws.specs.Held.{Held};
@@ -8,7 +10,7 @@ ghost use Rattle.book_best.specs.Best.{BestIn, Tops};
 use limits::BLOCK_SIZE;
 
 // The best of some positions in a row, and the position behind them.
-#[derive(Drop)]
+#[derive(Clone, Copy)]
 struct Stretch {
     best: usize,
     next: usize,

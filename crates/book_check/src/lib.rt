@@ -1,5 +1,7 @@
 // The check of a book image: first bytes, records, with heads their offsets too, and peaks; the walk over the records
 // also finds the place of a key among their names.
+#![tactic(auto)]
+
 ghost use Rattle.std.specs.Prelude.{◌≡◌};
 ghost use Rattle.std.proofs.Math.Option.{none};
 ghost use Rattle.book.specs.Book.{read_in};
@@ -13,7 +15,7 @@ use frame_code::{Ended, Frame, Image};
 use limits::OLD_BOOK_VERSION;
 
 // What the check of an image answers, and where the key stands.
-#[derive(Drop)]
+#[derive(Clone, Copy)]
 pub struct Reply {
     pub image: Image,
     pub seek: Seek,
@@ -21,7 +23,7 @@ pub struct Reply {
 
 // What a call is told of a book: the number that it declines with for the book's sake, 0 with none; and then how many
 // entries the book has, and where the key stands among their names.
-#[derive(Drop)]
+#[derive(Clone, Copy)]
 pub struct Checked {
     pub refusal: u8,
     pub n: usize,

@@ -1,5 +1,7 @@
 // Whether each block's peak is its best position: fast where a block is whole and no score of it beats the peak's, else
 // position by position.
+#![tactic(auto)]
+
 ghost use Rattle.std.specs.Prelude.{◌≡◌, true, ◌+◌, ◌<◌, ◌≤◌};
 ghost use Rattle.octets.specs.Lists.{ceil};
 ghost use Rattle.entries.specs.Entries.{max_entries};

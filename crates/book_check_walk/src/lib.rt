@@ -1,6 +1,8 @@
 // The walk over a book's records: each is a book's, with each head's offset, and a key is sought among the names on the
 // way. Without heads and where no byte of the records is over 7E, names are tested all at once, by counting; else one
 // by one.
+#![tactic(auto)]
+
 ghost use Rattle.std.specs.Prelude.{◌≡◌, false, ◌<◌, ◌≤◌, length};
 ghost use Rattle.entries.specs.Entries.{max_entries};
 ghost use Rattle.book_laws.specs.Check.{offset_is};
@@ -13,7 +15,7 @@ use frame_code::Ended;
 use limits::{BUCKET_SIZE, HEADER_BYTES, LAST_PLAIN, LONGEST_NAME};
 
 // Where records end, and where a key stands among their names.
-#[derive(Drop)]
+#[derive(Clone, Copy)]
 pub struct Walked {
     pub ended: Ended,
     pub seek: Seek,
@@ -21,7 +23,7 @@ pub struct Walked {
 
 // Whether records came to the image's end, how many of their common and length bytes are below 20, and where a key
 // stands among their names.
-#[derive(Drop)]
+#[derive(Clone, Copy)]
 struct Passed {
     ok: bool,
     lows: usize,

@@ -1,5 +1,7 @@
 // The layout of today and the old one; where things stand in the image of a book of n entries, and the scores, offsets
 // and peaks that stand there; the length that the image says.
+#![tactic(auto)]
+
 ghost use Rattle.std.specs.Prelude.{◌≡◌, true, length, ◌<◌, ◌≤◌};
 ghost use Rattle.octets.specs.Lists.{ceil};
 ghost use Rattle.entries.specs.Entries.{max_entries};

@@ -1,5 +1,7 @@
 // The names of a book that was checked, by position: its records are read from a cursor on, each name in the place of
 // the one before.
+#![tactic(auto)]
+
 ghost use Rattle.std.specs.Prelude.{◌≡◌, true, ◌+◌, ◌<◌, ◌≤◌, length};
 ghost use Rattle.entries.specs.Entries.{at, max_entries};
 ghost use Rattle.entries.specs.Names.{longest_name};

@@ -1,11 +1,13 @@
 // The records of a book that was checked, read without testing them again.
+#![tactic(auto)]
+
 ghost use Rattle.std.specs.Prelude.{◌≡◌, ◌≤◌, drop, length};
 ghost use Rattle.book_read.specs.Record.{Inside, Read, parts_at};
 
 use limits::HEADER_BYTES;
 
 // The parts of a record: the bytes kept of the name before, where the record's own bytes start in it, their number.
-#[derive(Drop)]
+#[derive(Clone, Copy)]
 pub struct Parts {
     pub kept: usize,
     pub start: usize,

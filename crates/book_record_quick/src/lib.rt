@@ -1,6 +1,8 @@
 // A record that is no head, read fast: 48 bytes are copied, however many are its own, and which bytes they are is not
 // tested. What is told of it is a step of the cursor wherever the name before and the rest are bytes 20 to 7E
 // (proofs/Step).
+#![tactic(auto)]
+
 ghost use Rattle.std.specs.Prelude.{◌≡◌, false, true, ◌+◌, ◌<◌, ◌≤◌, length};
 ghost use Rattle.std.proofs.lemmas.List.Edits.{sets};
 ghost use Rattle.entries.specs.Names.{longest_name};
@@ -14,7 +16,7 @@ pub const NAME_ROOM: usize = 2 * LONGEST_NAME;
 const READ_BYTES: usize = HEADER_BYTES + LONGEST_NAME;
 
 // Whether a record may stand at an index, the bytes kept of the name before, and the number of its own.
-#[derive(Drop)]
+#[derive(Clone, Copy)]
 pub struct Header {
     pub ok: bool,
     pub kept: usize,

@@ -1,4 +1,6 @@
 // Front-coded records: reading one, with the name before it in a lent array.
+#![tactic(auto)]
+
 ghost use Rattle.std.specs.Prelude.{◌≡◌, true, length, take};
 ghost use Rattle.entries.specs.Names.{is_prefix, longest_name};
 ghost use Rattle.book_record_read.specs.RecordParts.{Keeps, goes_above, head_part, record_part, step_of, tail_part};
@@ -8,7 +10,7 @@ use limits::{LONGEST_NAME, MICRO_TAIL, OHM_TAIL};
 
 // Whether a record of a book stands at an index, where it ends, how many bytes it keeps of the name before, and the
 // length of its name.
-#[derive(Drop)]
+#[derive(Clone, Copy)]
 pub struct Reading {
     pub ok: bool,
     pub end: usize,
@@ -17,7 +19,7 @@ pub struct Reading {
 }
 
 // The parts of a record.
-#[derive(Drop)]
+#[derive(Clone, Copy)]
 pub enum Part {
     // No record of a book.
     Bad,

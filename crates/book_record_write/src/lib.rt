@@ -1,4 +1,6 @@
 // Records written one by one, and their sizes.
+#![tactic(auto)]
+
 ghost use Rattle.std.specs.Prelude.{◌≤◌, length};
 ghost use Rattle.entries.specs.Names.{longest_name};
 ghost use Rattle.book.specs.Records.{record_of};

@@ -1,5 +1,7 @@
 // The names at some positions of a book that was checked, unpacked into rows of 48 bytes in one pass over its records:
 // the positions come in any order, the names stand in name order.
+#![tactic(auto)]
+
 ghost use Rattle.std.specs.Prelude.{◌*◌, ◌+◌, ◌<◌, ◌≤◌, length};
 ghost use Rattle.entries.specs.Names.{longest_name};
 ghost use Rattle.book.specs.Book.{in_book};

@@ -1,5 +1,7 @@
 // The place of a key among the names of records, found while they are read one by one: names are not compared as a
 // whole, only where a record keeps as many bytes of the name before as that name shares with the key.
+#![tactic(auto)]
+
 ghost use Rattle.std.specs.Prelude.{◌≡◌, ◌+◌, ◌≤◌, length};
 ghost use Rattle.entries.specs.Entries.{max_entries};
 ghost use Rattle.entries.specs.Names.{longest_name};
@@ -14,7 +16,7 @@ pub const BEGUN: u8 = 1;
 pub const PAST: u8 = 2;
 
 // How a name stands to a key, and how many bytes they share.
-#[derive(Drop)]
+#[derive(Clone, Copy)]
 pub struct Compared {
     pub order: u8,
     pub shared: usize,
@@ -22,7 +24,7 @@ pub struct Compared {
 
 // Where a record stands: its position, the index where it begins, the one behind it; and how many bytes its name keeps
 // of the name before.
-#[derive(Drop)]
+#[derive(Clone, Copy)]
 pub struct Record {
     pub index: usize,
     pub at: usize,
@@ -31,7 +33,7 @@ pub struct Record {
 }
 
 // Where a key stands among the names read so far.
-#[derive(Drop)]
+#[derive(Clone, Copy)]
 pub struct Seek {
     // How the last name stands to the key; BELOW before the first.
     pub order: u8,

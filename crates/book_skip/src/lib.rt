@@ -1,5 +1,7 @@
 // The place of a key among the names of a book that was checked, found by the headers of the records: a name's bytes
 // are looked at only where they decide.
+#![tactic(auto)]
+
 ghost use Rattle.std.specs.Prelude.{◌≡◌, false};
 ghost use Rattle.entries.specs.Entries.{names};
 ghost use Rattle.book.specs.Book.{in_book_in, records_at};

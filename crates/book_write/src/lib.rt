@@ -1,5 +1,7 @@
 // Writes a book entry by entry: scores and records, with heads their offsets too; then its peaks, computed from the
 // scores written, and its frame.
+#![tactic(auto)]
+
 ghost use Rattle.std.specs.Prelude.{◌≡◌, ◌+◌, ◌<◌, ◌≤◌, length};
 ghost use Rattle.octets.specs.Lists.{ceil};
 ghost use Rattle.entries.specs.Entries.{max_entries};
@@ -11,7 +13,7 @@ use book::Layout;
 use limits::{BLOCK_SIZE, BUCKET_SIZE};
 
 // Where an entry is put: as the one at position `index` of a book of n entries in a layout, its record at offset `at`.
-#[derive(Drop)]
+#[derive(Clone, Copy)]
 pub struct Slot {
     pub layout: Layout,
     pub n: usize,

@@ -1,4 +1,6 @@
 // The range machine with its open ranges in a local array.
+#![tactic(auto)]
+
 ghost use Rattle.std.specs.Prelude.{◌≡◌, ◌<◌, ◌≤◌, replicate};
 ghost use Rattle.entries.specs.Completion.{max_count};
 ghost use Rattle.book.specs.Book.{in_book};
@@ -9,7 +11,7 @@ ghost use Rattle.completion_turn.specs.Turns.{Ran, Runnable};
 use limits::MAX_COUNT;
 
 // The slots by value.
-#[derive(Drop)]
+#[derive(Clone, Copy)]
 pub struct Queue {
     pub ranges: [completion::Range; MAX_COUNT],
 }

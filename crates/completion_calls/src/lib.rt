@@ -1,4 +1,6 @@
 // Completion from a book whose open ranges wait in a slice that the caller lends.
+#![tactic(auto)]
+
 ghost use Rattle.std.specs.Prelude.{length};
 ghost use Rattle.book.specs.Book.{in_book};
 ghost use Rattle.completion.specs.Complete.{CompletedOver, complete_book};

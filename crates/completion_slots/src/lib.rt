@@ -1,4 +1,6 @@
 // The lent slots in which open ranges wait: one is put, the best is taken out.
+#![tactic(auto)]
+
 ghost use Rattle.std.specs.Prelude.{◌≡◌, ◌-◌, ◌<◌, ◌≤◌, length, set};
 ghost use Rattle.completion_turn.specs.Slots.{best_from, best_of, without_best};
 

@@ -1,5 +1,7 @@
 // The range machine over a book that was checked: which open range is the best, and what a turn does. Where they wait
 // is for the crates above: in an array, or in ranges that the caller lends.
+#![tactic(auto)]
+
 ghost use Rattle.std.specs.Prelude.{◌≡◌, [], ◌∷◌, ◌-◌, ◌<◌, ◌≤◌, eqb};
 ghost use Rattle.octets.specs.Lists.{if◌then◌else◌};
 ghost use Rattle.book.specs.Book.{in_book};
@@ -11,14 +13,14 @@ ghost use Rattle.completion_turn.specs.Turns.{RangeInside, Split, Turned, Turnin
 use limits::MAX_COUNT;
 
 // The best of some slots: which slot, and its range.
-#[derive(Drop)]
+#[derive(Clone, Copy)]
 pub struct BestRange {
     pub at: usize,
     pub range: completion::Range,
 }
 
 // The non-empty parts of a range left and right of its best; without a second it is the first again.
-#[derive(Drop)]
+#[derive(Clone, Copy)]
 struct RangeParts {
     count: usize,
     first: completion::Range,
@@ -26,7 +28,7 @@ struct RangeParts {
 }
 
 // The machine between two turns.
-#[derive(Drop)]
+#[derive(Clone, Copy)]
 pub struct Progress {
     // how many may still be offered; 0 ends the run
     pub turns: usize,

@@ -1,4 +1,6 @@
 // Moves a book up or back: one of version 21 is written as 22, and one of 22 as 21.
+#![tactic(auto)]
+
 ghost use Rattle.answer.specs.Reports.{Answered};
 ghost use Rattle.convert.specs.Convert.{convert_book, convert_in};
 

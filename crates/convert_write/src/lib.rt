@@ -1,5 +1,7 @@
 // A book that was checked, written in another layout: passed record by record, first to measure, then to write. Where
 // both layouts lay a record out alike its bytes are copied.
+#![tactic(auto)]
+
 ghost use Rattle.std.specs.Prelude.{◌≡◌, ◌≤◌, leb, length};
 ghost use Rattle.octets.specs.Octets.{overwrite};
 ghost use Rattle.book.specs.Records.{head_at};
@@ -14,7 +16,7 @@ use book_write::Slot;
 use limits::{LONGEST_BOOK, LONGEST_NAME};
 
 // The layout of a book that was checked, the one that it is written in, and how many entries it has.
-#[derive(Drop)]
+#[derive(Clone, Copy)]
 pub struct Conversion {
     pub from: Layout,
     pub to: Layout,
@@ -22,7 +24,7 @@ pub struct Conversion {
 }
 
 // Where the next record of the book stands, and how many bytes the name before it has.
-#[derive(Drop)]
+#[derive(Clone, Copy)]
 struct Source {
     layout: Layout,
     at: usize,
@@ -30,7 +32,7 @@ struct Source {
 }
 
 // A record that was passed: where it ends in the book and in what is written, and how many bytes its name has.
-#[derive(Drop)]
+#[derive(Clone, Copy)]
 struct Passed {
     read: usize,
     written: usize,

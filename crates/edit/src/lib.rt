@@ -1,1 +1,2 @@
 // Empty, set and withdraw: definitions in specs/, laws in proofs/.
+#![tactic(auto)]

@@ -1,4 +1,6 @@
 // The edits: empty, set and withdraw. Each writes the new book at the front of another buffer.
+#![tactic(auto)]
+
 ghost use Rattle.edit.specs.Edits.{empty_book, set_entry, withdraw_entry};
 ghost use Rattle.answer.specs.Reports.{Answered};
 

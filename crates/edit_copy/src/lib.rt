@@ -1,6 +1,8 @@
 // The book that an edit leaves, of a layout without heads, written from the old image by copies: no name is unpacked,
 // and no pass is made over the records. Without heads one record more changes, the one behind the place of the edit,
 // and its bytes stand in the old image. Peaks and frame are made anew.
+#![tactic(auto)]
+
 ghost use Rattle.std.specs.Prelude.{◌≡◌, ◌+◌, ◌<◌, ◌≤◌};
 ghost use Rattle.std.proofs.lemmas.List.Edits.{sets};
 ghost use Rattle.entries.specs.Entries.{entry, max_entries, with, without};
@@ -19,7 +21,7 @@ use limits::{FRAME_LENGTH, HEADER_BYTES, TOTAL_AT};
 
 // What stands behind the place of an edit in the result: the header of the record there, if there is one, and bytes of
 // the old image in two runs.
-#[derive(Drop)]
+#[derive(Clone, Copy)]
 struct Behind {
     some: bool,
     kept: u8,
@@ -32,7 +34,7 @@ struct Behind {
 }
 
 // How the records of the result are made.
-#[derive(Drop)]
+#[derive(Clone, Copy)]
 struct Plan {
     // Where the records begin, in the old image and in the result.
     old: usize,

@@ -1,5 +1,7 @@
 // A book with another score at one position: its image copied, the score stored, and the peak of the score's block
 // computed again. Names, records and the other peaks are the old book's.
+#![tactic(auto)]
+
 ghost use Rattle.std.specs.Prelude.{◌≡◌, length, ◌<◌, ◌≤◌};
 ghost use Rattle.octets.specs.Octets.{overwrite};
 ghost use Rattle.book.specs.Book.{book_image, in_book};

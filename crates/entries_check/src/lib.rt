@@ -1,4 +1,6 @@
 // Names and prefixes: which signs, and how many bytes of them, are allowed.
+#![tactic(auto)]
+
 ghost use Rattle.std.specs.Prelude.{◌<◌, ◌≤◌, ◌≡◌, drop, length, eqb};
 ghost use Rattle.entries.specs.Names.{is_name, is_pair, is_plain, is_prefix, last_sign};
 ghost use Rattle.entries_laws.specs.Signs.{half_after, half_step, no_half};

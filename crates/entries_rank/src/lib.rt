@@ -1,4 +1,6 @@
 // Rank, in one place: document 01, "Names and rank": higher score first, at equal scores the earlier name.
+#![tactic(auto)]
+
 ghost use Rattle.std.specs.Prelude.{◌≡◌};
 ghost use Rattle.entries.specs.Entries.{entry, outranks};
 

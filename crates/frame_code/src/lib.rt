@@ -1,4 +1,6 @@
 // The first seven bytes of books, sheets and tries: tested, and stored. What the checks of the three answer.
+#![tactic(auto)]
+
 ghost use Rattle.std.specs.Prelude.{◌≡◌, ◌<◌, ◌≤◌};
 ghost use Rattle.entries.specs.Entries.{max_entries};
 ghost use Rattle.frame_code.specs.Image.{frame_as};
@@ -7,21 +9,21 @@ ghost use Rattle.frame_code.specs.Stored.{put_frame};
 use limits::{COUNT_AT, FRAME_LENGTH, MAX_ENTRIES, TOTAL_AT};
 
 // No image, or one of so many entries.
-#[derive(Drop)]
+#[derive(Clone, Copy)]
 pub enum Image {
     Damaged,
     Entries(usize),
 }
 
 // Where the parts behind the first seven bytes end.
-#[derive(Drop)]
+#[derive(Clone, Copy)]
 pub enum Ended {
     Damaged,
     At(usize),
 }
 
 // No frame of the version asked for, or one that says how many entries and how many bytes in all.
-#[derive(Drop)]
+#[derive(Clone, Copy)]
 pub enum Frame {
     Damaged,
     Holds { entries: usize, total: usize },

@@ -1,1 +1,2 @@
 // The tests of the first seven bytes: inner definitions in specs/, laws in proofs/.
+#![tactic(auto)]

@@ -2,6 +2,7 @@
 // arguments; a refusal returns its number and changes no lent byte. What a call gives and leaves is the definition
 // named behind it. Its contract stands above its code, in the crate that the line below the comment names:
 // `crates/edit_calls/src/lib.rt` for `edit_calls`, and so on.
+#![tactic(auto)]
 
 // Edits, as defined in `crates/edit/specs/Edits.antt`. Each writes the new book at the front of another buffer.
 

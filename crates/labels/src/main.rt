@@ -5,6 +5,8 @@
 // or `libc` says which bytes a read gives or what a write does with its own: a program that read nothing would keep
 // them too. Where a read or a write fails, the program says so on standard error, prints nothing more and stops
 // reading; the language has no exit status.
+#![tactic(auto)]
+
 ghost use Rattle.std.specs.Prelude.{◌≡◌, false, ◌≤◌, length, take};
 ghost use Rattle.program_run.specs.Feed.{FeedRoom};
 ghost use Rattle.program.specs.Console.{BytesFed, SomeFed, console_in};
@@ -18,7 +20,7 @@ const INPUT_ROOM: usize = 65536;
 
 // Between two reads: the bytes kept of the line begun, whether the second buffer holds the book, and the bytes that the
 // last read gave, none at the input's end; and whether every read and write so far has worked.
-#[derive(Drop)]
+#[derive(Clone, Copy)]
 struct State {
     kept: usize,
     turned: bool,

@@ -1,5 +1,6 @@
 // The numbers of the formats and of the program, by name. Each has the name that the definitions give it, which is said
 // behind it; a function's contract speaks of that one.
+#![tactic(auto)]
 
 // The most bytes of a name or a prefix: `longest_name`.
 pub const LONGEST_NAME: usize = 48;

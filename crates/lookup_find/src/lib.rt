@@ -1,4 +1,6 @@
 // Finding a name in a book that was checked, from what the search for it told.
+#![tactic(auto)]
+
 ghost use Rattle.std.specs.Prelude.{◌≡◌, ◌≤◌};
 ghost use Rattle.entries.specs.Entries.{max_entries};
 ghost use Rattle.answer.specs.Answers.{given};

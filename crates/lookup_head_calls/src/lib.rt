@@ -1,5 +1,7 @@
 // The head name of a bucket, a part of the lent book, and its length: only bucket 0 of a book with entries has one, the
 // first name.
+#![tactic(auto)]
+
 ghost use Rattle.std.specs.Prelude.{◌≡◌, ◌&&◌, true, ◌+◌, ◌<◌, ◌≤◌, eqb, ltb};
 ghost use Rattle.entries.specs.Entries.{at, max_entries};
 ghost use Rattle.book.specs.Book.{in_book, records_at, today};

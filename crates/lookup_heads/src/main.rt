@@ -1,5 +1,7 @@
 // A program for the tests: prints what `head` hands out for each bucket of the book on standard input, a line each: the
 // first name for bucket 0, and empty lines where there is none. No C name can hand out that part.
+#![tactic(auto)]
+
 use limits::BUFFER_LENGTH;
 
 // One more than the buckets of 8 that 1,024 names would fill: only bucket 0 has a head.

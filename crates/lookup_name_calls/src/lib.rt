@@ -1,5 +1,7 @@
 // Lookups by name: where a name is in a book, its entry, and the positions that a prefix begins. The check of the book
 // seeks the name or the prefix in the same pass, before it is known whether it is allowed.
+#![tactic(auto)]
+
 ghost use Rattle.std.specs.Prelude.{◌≡◌};
 ghost use Rattle.lookup.specs.Lookups.{find, name_of, prefix_range};
 ghost use Rattle.answer.specs.Reports.{Answered, found_of, span_of};

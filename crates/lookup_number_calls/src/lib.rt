@@ -1,5 +1,7 @@
 // A book's parts by number: how many entries and bytes it has, and the entry at a position. No key is sought, so the
 // check is given an empty one.
+#![tactic(auto)]
+
 ghost use Rattle.std.specs.Prelude.{◌≡◌};
 ghost use Rattle.lookup.specs.Lookups.{check_book, name_at};
 ghost use Rattle.answer.specs.Reports.{Answered, checked_of};

@@ -1,5 +1,7 @@
 // Merges two books into a third buffer: both are passed side by side, first to measure the entries chosen, then to
 // write them.
+#![tactic(auto)]
+
 ghost use Rattle.std.specs.Prelude.{◌≡◌, ◌≤◌, max, length};
 ghost use Rattle.entries.specs.Entries.{max_entries};
 ghost use Rattle.answer.specs.Reports.{Answered};
@@ -13,7 +15,7 @@ use book_write::Slot;
 use limits::{LONGEST_NAME, MAX_ENTRIES};
 
 // A pass over the entries chosen: how many were passed, where their records end, whether more are left.
-#[derive(Drop)]
+#[derive(Clone, Copy)]
 struct MergePass {
     entries: usize,
     end: usize,

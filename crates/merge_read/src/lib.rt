@@ -1,4 +1,6 @@
 // The entries of two books read side by side, in name order. Of a name that both have, the entry is the first book's.
+#![tactic(auto)]
+
 ghost use Rattle.std.specs.Prelude.{◌≡◌, true, ◌+◌, ◌<◌, ◌≤◌, length};
 ghost use Rattle.entries.specs.Entries.{max_entries};
 ghost use Rattle.entries.specs.Names.{longest_name};
@@ -9,7 +11,7 @@ use limits::BOOK_HEADS;
 
 // The next entry of a book of n: its position, where the record behind it begins, the length of its name, 0 where no
 // entry is left.
-#[derive(Drop)]
+#[derive(Clone, Copy)]
 pub struct NextInBook {
     pub n: usize,
     pub index: usize,
@@ -18,14 +20,14 @@ pub struct NextInBook {
 }
 
 // An entry chosen: its name's length and its score.
-#[derive(Drop)]
+#[derive(Clone, Copy)]
 pub struct Choice {
     pub len: usize,
     pub score: u32,
 }
 
 // The entry that came next of both books, and the next one of each behind it.
-#[derive(Drop)]
+#[derive(Clone, Copy)]
 pub struct NextOfBoth {
     pub first: NextInBook,
     pub second: NextInBook,

@@ -1,5 +1,7 @@
 // Lists of bytes compared and copied; numbers of 2 and 4 bytes, the high byte first, read where they stand and stored.
 // Every function answers for any arguments: what does not fit is not copied, and a place past the end reads as 0.
+#![tactic(auto)]
+
 ghost use Rattle.std.specs.Prelude.{◌≡◌, ◌*◌, ◌+◌, min};
 ghost use Rattle.std.proofs.lemmas.List.Edits.{sets};
 ghost use Rattle.octets.specs.Octets.{be, begins, below, common, number_at, same};

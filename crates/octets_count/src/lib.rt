@@ -1,5 +1,7 @@
 // Bytes looked at all together, in loops that take the same steps whichever bytes they are: how many are below 20, and
 // which is the largest.
+#![tactic(auto)]
+
 ghost use Rattle.std.specs.Prelude.{◌≡◌, ◌+◌, ◌≤◌, drop, length, take};
 ghost use Rattle.octets_count.specs.Counts.{Tops, low_count, low_of, stretch};
 

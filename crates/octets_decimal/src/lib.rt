@@ -1,4 +1,6 @@
 // A number's decimal digits, stored where they end.
+#![tactic(auto)]
+
 ghost use Rattle.std.specs.Prelude.{◌≤◌, length};
 ghost use Rattle.octets_decimal.specs.Digits.{Numbered};
 

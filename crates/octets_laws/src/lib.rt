@@ -1,1 +1,2 @@
 // Bytes stored one part behind the other: an inner definition in specs/, laws in proofs/.
+#![tactic(auto)]

@@ -1,4 +1,6 @@
 // A page for the wall: a book laid out as lines.
+#![tactic(auto)]
+
 ghost use Rattle.std.specs.Prelude.{◌≤◌, length};
 ghost use Rattle.answer.specs.Reports.{Answered};
 ghost use Rattle.book_laws.specs.Held.{Held};

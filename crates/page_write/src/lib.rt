@@ -1,4 +1,6 @@
 // The page of a table of names: measured from the lengths, the rows sorted into rank, and the lines written.
+#![tactic(auto)]
+
 ghost use Rattle.std.specs.Prelude.{◌≡◌, ◌+◌, ◌≤◌, ltb, length, take};
 ghost use Rattle.std.proofs.lemmas.List.Edits.{sets};
 ghost use Rattle.octets.specs.Lists.{if◌then◌else◌};

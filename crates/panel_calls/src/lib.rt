@@ -1,4 +1,6 @@
 // The panel, lent and updated by each key.
+#![tactic(auto)]
+
 ghost use Rattle.panel.specs.Panel.{PressedAs, press};
 
 use answer::Pressed;

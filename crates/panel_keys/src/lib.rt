@@ -1,4 +1,6 @@
 // The panel's keys, over a panel by value.
+#![tactic(auto)]
+
 ghost use Rattle.std.specs.Prelude.{◌≡◌};
 ghost use Rattle.entries.specs.Entries.{names};
 ghost use Rattle.book.specs.Book.{in_book, records_at, today};
@@ -12,7 +14,7 @@ use book_seek::Seek;
 use limits::LONGEST_NAME;
 
 // The panel and the answer after a key.
-#[derive(Drop)]
+#[derive(Clone, Copy)]
 pub struct KeyDone {
     pub panel: panel::Panel,
     pub answer: Pressed,

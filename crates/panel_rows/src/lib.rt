@@ -1,5 +1,7 @@
 // The rows of a panel, as positions in the book: those offered for its text, the first alone, and the one that has the
 // held name.
+#![tactic(auto)]
+
 ghost use Rattle.std.specs.Prelude.{◌≡◌, ◌<◌, ◌≤◌};
 ghost use Rattle.entries.specs.Completion.{max_count};
 ghost use Rattle.entries.specs.Names.{longest_name};
@@ -13,7 +15,7 @@ use book_seek::Seek;
 use limits::PANEL_COUNT;
 
 // A row: its number, how many rows there are, and the position of its name, of no account without rows.
-#[derive(Drop)]
+#[derive(Clone, Copy)]
 pub struct Row {
     pub number: usize,
     pub rows: usize,

@@ -1,4 +1,6 @@
 // The panel as a key leaves it: on one of its rows, whose name is held.
+#![tactic(auto)]
+
 ghost use Rattle.std.specs.Prelude.{◌≡◌, ◌<◌, ◌≤◌, length, take};
 ghost use Rattle.entries.specs.Names.{longest_name};
 ghost use Rattle.book.specs.Book.{in_book};
@@ -11,7 +13,7 @@ ghost use Rattle.panel_show.specs.Shown.{TextIs, text_of};
 use limits::LONGEST_NAME;
 
 // 48 bytes of which the first `len` are a text.
-#[derive(Drop)]
+#[derive(Clone, Copy)]
 struct Text {
     bytes: [u8; LONGEST_NAME],
     len: usize,

@@ -1,5 +1,7 @@
 // The panel as far as it needs no book: whether its text and held name are allowed, which keys are listed, what they do
 // to the text and to a row number.
+#![tactic(auto)]
+
 ghost use Rattle.std.specs.Prelude.{◌≡◌, false, true, [], ◌++◌, ◌∷◌, length, ◌+◌, ◌-◌, ◌<◌, ◌≤◌, min};
 ghost use Rattle.entries.specs.Names.{longest_name};
 ghost use Rattle.panel.specs.Panel.{appends, is_held, is_listed, is_typed, key_bytes, typed_in, without_last};

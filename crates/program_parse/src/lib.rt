@@ -1,4 +1,6 @@
 // The program's command lines: what a line asks for.
+#![tactic(auto)]
+
 ghost use Rattle.std.specs.Prelude.{◌≡◌, ◌≤◌, drop, length};
 ghost use Rattle.octets.specs.Decimal.{value_on};
 ghost use Rattle.program.specs.Program.{command_of, digits, is_digit, numbered};
@@ -12,14 +14,14 @@ const WORD_LENGTH: usize = 4;
 const NUMBER_OVERHEAD: usize = WORD_LENGTH + 1;
 
 // A number at the front of bytes and how many digits it has, or that there is none of the form.
-#[derive(Drop)]
+#[derive(Clone, Copy)]
 enum Number {
     Value { value: u32, digits: usize },
     Missing,
 }
 
 // What a line asks for; `rest` is where the name or prefix begins.
-#[derive(Drop)]
+#[derive(Clone, Copy)]
 pub enum ParsedLine {
     Set { score: u32, rest: usize },
     Top { k: u32, rest: usize },

@@ -1,4 +1,6 @@
 // What the program prints: decimal numbers, counted answers, the entries offered.
+#![tactic(auto)]
+
 ghost use Rattle.std.specs.Prelude.{◌++◌, ◌*◌, ◌+◌, ◌≤◌, length};
 ghost use Rattle.octets.specs.Decimal.{decimal};
 ghost use Rattle.octets.specs.Text.{line_feed};

@@ -1,4 +1,6 @@
 // Input in parts of any size, cut into command lines, each carried out on two lent buffers.
+#![tactic(auto)]
+
 ghost use Rattle.std.specs.Prelude.{◌≡◌, ◌≤◌, length, take};
 ghost use Rattle.script.specs.Run.{bench};
 ghost use Rattle.program_run.specs.Feed.{FeedDone, FeedRoom, FinishDone, LineKept, line_of};
@@ -8,7 +10,7 @@ use limits::KEPT_BYTES;
 
 // What a part of the input gave: the bytes used and printed, the bytes kept of the line begun, and whether the second
 // buffer holds the book.
-#[derive(Drop)]
+#[derive(Clone, Copy)]
 pub struct Fed {
     pub used: usize,
     pub bytes: usize,

@@ -1,4 +1,6 @@
 // One command line carried out on two lent buffers: it is parsed, its call made, and what it says is printed.
+#![tactic(auto)]
+
 ghost use Rattle.std.specs.Prelude.{◌≤◌, length};
 ghost use Rattle.octets_laws.specs.Printed.{Printed};
 ghost use Rattle.answer.specs.Reports.{written_of};
@@ -12,7 +14,7 @@ use answer::{Completion, Written};
 use limits::{ENTRY_ROOM, MAX_COUNT};
 
 // What a line printed: how many bytes, and whether the second buffer holds the book afterwards.
-#[derive(Drop)]
+#[derive(Clone, Copy)]
 pub struct LineReport {
     pub bytes: usize,
     pub turned: bool,

@@ -1,5 +1,7 @@
 // A history run in code: a script of calls, performed on two lent buffers by the label book's own calls, with every
 // answer kept.
+#![tactic(auto)]
+
 ghost use Rattle.std.specs.Prelude.{◌≡◌, false};
 ghost use Rattle.script.specs.Script.{calls};
 ghost use Rattle.script.specs.Run.{bench, finish_of, run_of};
@@ -9,7 +11,7 @@ use answer::Played;
 use limits::{CALL_HEAD, FRAME_LENGTH, KEPT_ANSWER, NAME_LENGTH_AT};
 
 // How many calls a script has.
-#[derive(Drop)]
+#[derive(Clone, Copy)]
 enum CallCount {
     Calls(usize),
     Damaged,

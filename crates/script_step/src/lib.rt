@@ -1,4 +1,6 @@
 // One call of a history, performed on two lent buffers: its answer kept, and which buffer holds the book afterwards.
+#![tactic(auto)]
+
 ghost use Rattle.std.specs.Prelude.{◌≡◌, not, true, ◌+◌, ◌≤◌, length};
 ghost use Rattle.std.proofs.lemmas.List.Edits.{sets};
 ghost use Rattle.answer.specs.Answers.{on_answer};
@@ -11,7 +13,7 @@ use answer::Written;
 use limits::{CALL_HEAD, NAME_LENGTH_AT};
 
 // The three numbers of an answer.
-#[derive(Drop)]
+#[derive(Clone, Copy)]
 struct AnswerNumbers {
     number: u8,
     entries: u16,

@@ -1,1 +1,2 @@
 // The sheet image, build and list: definitions in specs/, laws in proofs/.
+#![tactic(auto)]

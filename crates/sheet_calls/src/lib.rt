@@ -1,4 +1,6 @@
 // Sheets and books: build and list. Each writes one image from another of the same entries.
+#![tactic(auto)]
+
 ghost use Rattle.sheet.specs.Sheet.{build_book, list_book};
 ghost use Rattle.answer.specs.Reports.{Answered};
 

@@ -1,4 +1,6 @@
 // The check of a sheet image in one pass.
+#![tactic(auto)]
+
 ghost use Rattle.std.specs.Prelude.{◌≡◌, [], ◌≤◌, length};
 ghost use Rattle.entries.specs.Entries.{max_entries};
 ghost use Rattle.frame_code.specs.Image.{ended_as, image_as};

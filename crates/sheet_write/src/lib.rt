@@ -1,4 +1,6 @@
 // A book built from a sheet that was checked, and a sheet listed from a book: each measured, then written.
+#![tactic(auto)]
+
 ghost use Rattle.std.specs.Prelude.{◌≡◌, ◌≤◌, length};
 ghost use Rattle.octets.specs.Octets.{overwrite};
 ghost use Rattle.frame.specs.Frame.{entries_of};

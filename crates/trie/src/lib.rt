@@ -1,1 +1,2 @@
 // The trie image, trie writing and completion from a trie: definitions in specs/, laws in proofs/.
+#![tactic(auto)]

@@ -1,4 +1,6 @@
 // The calls on tries: a book's trie written, and completion from a trie.
+#![tactic(auto)]
+
 ghost use Rattle.answer.specs.Reports.{Answered};
 ghost use Rattle.completion.specs.Complete.{Completed};
 ghost use Rattle.trie.specs.Calls.{complete_trie, write_trie};

@@ -1,5 +1,7 @@
 // The check of a trie image: group and node call each other down the tree, and each rule of the layout is tested where
 // it applies.
+#![tactic(auto)]
+
 ghost use Rattle.std.specs.Prelude.{◌≡◌, true, ◌≤◌, length};
 ghost use Rattle.frame_code.specs.Image.{image_as};
 ghost use Rattle.trie.specs.Reading.{read_trie};

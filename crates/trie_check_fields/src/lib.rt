@@ -1,4 +1,6 @@
 // One node of a trie read where it lies: its fields, its label as a part of the buffer, the end of its group.
+#![tactic(auto)]
+
 ghost use Rattle.std.specs.Prelude.{◌≡◌, length, ◌≤◌};
 ghost use Rattle.trie_laws.specs.Keys.{key};
 ghost use Rattle.entries_laws.specs.Signs.{half_after};

@@ -1,8 +1,9 @@
 // What the check of a trie carries through its walk. The rest of this crate is definitions and laws.
+#![tactic(auto)]
 
 // What a node's header and fields say: where it ends, the last-sibling mark, the score field, the child field's size
 // and value, the key of its label (0 for the empty label, else one more than the first byte) and the label's length.
-#[derive(Drop)]
+#[derive(Clone, Copy)]
 pub struct Fields {
     pub end: usize,
     pub last: bool,
@@ -14,7 +15,7 @@ pub struct Fields {
 }
 
 // The node at an offset, or none is laid out there.
-#[derive(Drop)]
+#[derive(Clone, Copy)]
 pub enum Head {
     Cut,
     Node(Fields),
@@ -24,7 +25,7 @@ pub enum Head {
 // field gives as `back`, and that field counts its own bytes if `own`; score and key are those of the sibling before,
 // or the score above for the first; `path` bytes of names stand above, behind which a half of a pair may be open,
 // `full` if the label above has 7 bytes or there is none; `left` entries are still to come.
-#[derive(Drop)]
+#[derive(Clone, Copy)]
 pub struct Among {
     pub at: usize,
     pub next: usize,
@@ -41,7 +42,7 @@ pub struct Among {
 
 // What stands above a group: how many bytes of names, which half of a pair is open behind them, the score above, and
 // whether the label above has 7 bytes or there is none.
-#[derive(Drop)]
+#[derive(Clone, Copy)]
 pub struct Above {
     pub path: usize,
     pub half: usize,
@@ -50,14 +51,14 @@ pub struct Above {
 }
 
 // What is known behind a node.
-#[derive(Drop)]
+#[derive(Clone, Copy)]
 pub enum BehindNode {
     Bad,
     At(Among),
 }
 
 // Where a group ends with all its descendants, and how many entries are still to come.
-#[derive(Drop)]
+#[derive(Clone, Copy)]
 pub enum WalkEnd {
     Bad,
     Next(usize, usize),

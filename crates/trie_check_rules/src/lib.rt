@@ -1,4 +1,6 @@
 // A node in its place among siblings: the rules that it is tested for, and the place behind it.
+#![tactic(auto)]
+
 ghost use Rattle.std.specs.Prelude.{◌≡◌, false, ◌-◌, ◌<◌, ◌≤◌};
 ghost use Rattle.trie_check_laws.specs.Walk.{after_node, begin_group, child_stands, label_stands, lonely, mark_count};
 ghost use Rattle.trie_check_laws.specs.Walk.{mark_place, score_of, score_stands, stands};

@@ -1,4 +1,6 @@
 // Completion from a trie that was checked: best-first over at most k nodes that wait.
+#![tactic(auto)]
+
 ghost use Rattle.std.specs.Prelude.{◌≡◌, true, ◌*◌, ◌+◌, ◌≤◌, length};
 ghost use Rattle.std.proofs.lemmas.List.Edits.{sets};
 ghost use Rattle.entries.specs.Completion.{completion, max_count};

@@ -1,5 +1,7 @@
 // The nodes of a trie that wait in a search, by value and in rank: the best first, at most one for each entry that can
 // be asked for.
+#![tactic(auto)]
+
 ghost use Rattle.std.specs.Prelude.{◌≡◌, ◌-◌, ◌<◌, ◌≤◌, drop};
 ghost use Rattle.entries.specs.Completion.{max_count};
 ghost use Rattle.entries.specs.Names.{longest_name};
@@ -10,7 +12,7 @@ use limits::{LONGEST_NAME, MAX_COUNT};
 
 // A node that waits: the path down to it with its own label, and its score; where it stands in the trie; from where its
 // child field counts; whether no later sibling waits with it.
-#[derive(Drop)]
+#[derive(Clone, Copy)]
 pub struct WaitingNode {
     pub path: [u8; LONGEST_NAME],
     pub len: usize,
@@ -21,7 +23,7 @@ pub struct WaitingNode {
 }
 
 // The nodes that wait, the best first.
-#[derive(Drop)]
+#[derive(Clone, Copy)]
 pub struct NodeQueue {
     pub nodes: [WaitingNode; MAX_COUNT],
     pub count: usize,

@@ -1,4 +1,6 @@
 // The nodes of a trie where they stand, and the steps from one that waits to its first child and to its next sibling.
+#![tactic(auto)]
+
 ghost use Rattle.std.specs.Prelude.{◌≡◌, false, ◌+◌, ◌≤◌, length};
 ghost use Rattle.trie_find_laws.specs.Places.{behind_at, children_at, from_behind, is_leaf_at, label_at, score_field_at};
 ghost use Rattle.trie_find_steps.specs.Steps.{ChildRoom, FitsPath, NextRoom, NodeInside, arrive_at, first_child};

@@ -1,5 +1,7 @@
 // The turns of a search in a trie: from a node that waits down its first children to a leaf; and the way to where a
 // prefix leads.
+#![tactic(auto)]
+
 ghost use Rattle.std.specs.Prelude.{◌≡◌, [], ◌∷◌, ◌≤◌};
 ghost use Rattle.octets.specs.Octets.{begins};
 ghost use Rattle.entries.specs.Names.{longest_name};
@@ -12,7 +14,7 @@ use limits::{LONGEST_NAME, MAX_COUNT};
 use trie_find_queue::{NodeQueue, WaitingNode};
 
 // What a turn gives: the leaf that it offers, and the nodes that wait then.
-#[derive(Drop)]
+#[derive(Clone, Copy)]
 pub struct TrieTurn {
     pub leaf: WaitingNode,
     pub queue: NodeQueue,

@@ -1,5 +1,7 @@
 // A trie node: its header byte and the sizes of its fields, written and read by shifts and masks; a field and the label
 // read where they lie.
+#![tactic(auto)]
+
 ghost use Rattle.std.specs.Prelude.{◌≡◌, ◌+◌, ◌<◌, ◌≤◌, drop, length, take};
 ghost use Rattle.octets.specs.Lists.{if◌then◌else◌};
 ghost use Rattle.octets.specs.Octets.{number_at};

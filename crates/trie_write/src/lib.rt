@@ -1,5 +1,7 @@
 // The trie of a book that was checked: its names unpacked into rows, the groups measured, then written from the last to
 // the first.
+#![tactic(auto)]
+
 ghost use Rattle.std.specs.Prelude.{◌≡◌, true, ◌+◌, length};
 ghost use Rattle.entries.specs.Entries.{valid};
 ghost use Rattle.book.specs.Book.{in_book};
@@ -15,7 +17,7 @@ use trie_write_runs::Run;
 const NAME_BYTES: usize = LONGEST_NAME * MAX_ENTRIES;
 
 // Rows lo to hi, which share their first d bytes.
-#[derive(Drop)]
+#[derive(Clone, Copy)]
 struct RowSpan {
     lo: usize,
     hi: usize,
@@ -131,7 +133,7 @@ fn group(
 }
 
 // Whether a trie has room: too short a destination, or the bytes written.
-#[derive(Drop)]
+#[derive(Clone, Copy)]
 pub enum TrieRoom {
     TooShort,
     Bytes(usize),

@@ -1,4 +1,6 @@
 // The nodes of a sibling group: their size, their bytes.
+#![tactic(auto)]
+
 ghost use Rattle.std.specs.Prelude.{◌≡◌, [], ◌∷◌, ◌*◌, ◌≤◌, length};
 ghost use Rattle.std.proofs.lemmas.List.Edits.{sets};
 ghost use Rattle.octets.specs.Octets.{be};
@@ -11,7 +13,7 @@ use trie_write_runs::{NodeFields, Run};
 
 // Where nodes are put: in front of the `back` bytes that end the first `total` of a destination. Without `store` they
 // are only measured.
-#[derive(Drop)]
+#[derive(Clone, Copy)]
 pub struct Target {
     pub total: usize,
     pub back: usize,

@@ -1,5 +1,7 @@
 // One node of a sibling group: the rows that it stands for, as a run, its fields and its size; and a group's runs, kept
 // as five numbers each.
+#![tactic(auto)]
+
 ghost use Rattle.std.specs.Prelude.{◌≡◌, ◌*◌, ◌<◌, ◌≤◌, drop, get_or};
 ghost use Rattle.std.proofs.lemmas.List.Edits.{sets};
 ghost use Rattle.trie.specs.Trie.{longest_label};
@@ -15,7 +17,7 @@ const MOST_RUNS: usize = 98;
 pub const RUNS_ROOM: usize = MOST_RUNS * RUN_WORDS;
 
 // A node: rows lo to before hi, their highest score, the label's length, the bytes of what stands under it.
-#[derive(Drop)]
+#[derive(Clone, Copy)]
 pub struct Run {
     pub lo: u32,
     pub hi: u32,
@@ -25,7 +27,7 @@ pub struct Run {
 }
 
 // What the fields of the next sibling say: its score field, and its child field if it has children.
-#[derive(Drop)]
+#[derive(Clone, Copy)]
 pub struct NodeFields {
     pub score: usize,
     pub child: usize,
