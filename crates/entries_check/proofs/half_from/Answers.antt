@@ -1,0 +1,52 @@
+use Prim.Native.Nat.{◌+◌, ◌-◌, ◌<◌, ◌≤◌, ℕ}
+use mathlib.Core.Path.{◌∙◌, ◌≡◌, sym}
+use mathlib.Core.Bool.{false}
+use mathlib.Core.List.{List}
+use lib.ListN.{drop, get_or, length}
+use native.Mathlib.Omega.{arith}
+use borrow.Author.Tests.{not-false, not-true}
+use Rattle.entries.specs.Names.{is_plain}
+use Rattle.entries_laws.specs.Signs.{half_after, no_half}
+use Rattle.entries_check.proofs.Signs.{no_sign, pair_next, signs_end}
+use Rattle.entries_check.proofs.half_from.Goals as goal
+
+pub past_plain-i-requires : goal.past_plain-i-requires
+past_plain-i-requires c = c.requires
+
+pub loop-i-init : goal.loop-i-init
+loop-i-init c = let p = c.past_plain-i.ensures in (p.within, sym p.half, p.stops)
+
+pub cut_at-requires : goal.cut_at-requires
+cut_at-requires c =
+    (
+      omega arith,
+      no_sign (c.args.w.now) c.loop-i.i (omega arith) (c.loop-i.invariant.2 (omega arith))
+          (sym c.pair_at.ensures ∙ c.if-not-pair_at.true),
+    )
+
+pub returns-then-not-pair_at : goal.returns-then-not-pair_at
+returns-then-not-pair_at c = c.cut_at.ensures ∙ c.loop-i.invariant.1
+
+pub overflow_add-i : goal.overflow_add-i
+overflow_add-i c =
+    let onward : let i = c.loop-i.i in (half_after no_half (drop i (c.args.w.now)) ≡ half_after no_half (drop (i + 2) (c.args.w.now))) × (i + 2 ≤ length (c.args.w.now)) = pair_next (c.args.w.now) c.loop-i.i (omega arith) (c.loop-i.invariant.2 (omega arith)) (sym c.pair_at.ensures ∙ c.if-not-pair_at.false) in
+    omega (arith, (onward).1)
+
+pub past_plain-i-requires-in-loop-i : goal.past_plain-i-requires-in-loop-i
+past_plain-i-requires-in-loop-i c =
+    let onward : let i = c.loop-i.i in (half_after no_half (drop i (c.args.w.now)) ≡ half_after no_half (drop (i + 2) (c.args.w.now))) × (i + 2 ≤ length (c.args.w.now)) = pair_next (c.args.w.now) c.loop-i.i (omega arith) (c.loop-i.invariant.2 (omega arith)) (sym c.pair_at.ensures ∙ c.if-not-pair_at.false) in
+    (onward).1
+
+pub loop-i-smaller : goal.loop-i-smaller
+loop-i-smaller c =
+    let onward : let i = c.loop-i.i in (half_after no_half (drop i (c.args.w.now)) ≡ half_after no_half (drop (i + 2) (c.args.w.now))) × (i + 2 ≤ length (c.args.w.now)) = pair_next (c.args.w.now) c.loop-i.i (omega arith) (c.loop-i.invariant.2 (omega arith)) (sym c.pair_at.ensures ∙ c.if-not-pair_at.false) in
+    omega (arith, (onward).1, c.past_plain-i-in-loop-i.ensures.on)
+
+pub loop-i-preserved : goal.loop-i-preserved
+loop-i-preserved c =
+    let onward : let i = c.loop-i.i in (half_after no_half (drop i (c.args.w.now)) ≡ half_after no_half (drop (i + 2) (c.args.w.now))) × (i + 2 ≤ length (c.args.w.now)) = pair_next (c.args.w.now) c.loop-i.i (omega arith) (c.loop-i.invariant.2 (omega arith)) (sym c.pair_at.ensures ∙ c.if-not-pair_at.false) in
+    let p = c.past_plain-i-in-loop-i.ensures in
+    (p.within, sym ((onward).0 ∙ p.half) ∙ c.loop-i.invariant.1, p.stops)
+
+pub returns : goal.returns
+returns c = sym (signs_end (c.args.w.now) c.loop-i.i (omega arith)) ∙ c.loop-i.invariant.1
