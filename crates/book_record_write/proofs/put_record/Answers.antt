@@ -1,0 +1,28 @@
+-- `book_record_write::put_record` meets its contract: a record is written in the form that its position asks for.
+-- No loop, so no invariant.
+use mathlib.Core.Path.{◌∙◌, ◌≡◌, sym}
+use borrow.Author.Rules.{rules}
+use Rattle.book.specs.Records.{record_of}
+use Rattle.book_record_write.specs.Written.{head_record, tail_record}
+use Rattle.book_record_write.proofs.Writing.{record_head, record_tail}
+use Rattle.book_record_write.proofs.put_record.Goals as goal
+
+pub put_head-requires : goal.put_head-requires
+put_head-requires c =
+    let headed : let a = c.args in record_of a.heads a.index a.prev.now a.name.now ≡ head_record a.name.now = let a = c.args in record_head a.heads a.index a.prev.now a.name.now (sym c.is_head.ensures ∙ c.if-is_head.true) in
+    rw headed at c.requires
+
+pub put_tail-requires : goal.put_tail-requires
+put_tail-requires c =
+    let tailed : let a = c.args in record_of a.heads a.index a.prev.now a.name.now ≡ tail_record a.prev.now a.name.now = let a = c.args in record_tail a.heads a.index a.prev.now a.name.now (sym c.is_head.ensures ∙ c.if-is_head.false) in
+    rw tailed at c.requires
+
+pub returns-then-is_head : goal.returns-then-is_head
+returns-then-is_head c =
+    let headed : let a = c.args in record_of a.heads a.index a.prev.now a.name.now ≡ head_record a.name.now = let a = c.args in record_head a.heads a.index a.prev.now a.name.now (sym c.is_head.ensures ∙ c.if-is_head.true) in
+    rw headed c.put_head.ensures
+
+pub returns-else-is_head : goal.returns-else-is_head
+returns-else-is_head c =
+    let tailed : let a = c.args in record_of a.heads a.index a.prev.now a.name.now ≡ tail_record a.prev.now a.name.now = let a = c.args in record_tail a.heads a.index a.prev.now a.name.now (sym c.is_head.ensures ∙ c.if-is_head.false) in
+    rw tailed c.put_tail.ensures
