@@ -20,7 +20,7 @@ loop-i-preserved c =
     )
 
 pub returns : goal.returns
-returns c =
+returns c i =
     let s = c.args.s.now in
     by_test (ltb i (length s))
     (λ t. let h = ltb-true i (length s) t in c.loop-i.invariant.1 i (omega arith))

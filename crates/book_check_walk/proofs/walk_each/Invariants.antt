@@ -1,0 +1,27 @@
+-- `book_check_walk::walk_each` meets its contract. The loop's invariant: the records from index `at` on end where all
+-- of them do, the array stays 48 bytes long, without heads the search stands where the names read so far take it, and a
+-- record that keeps `limit` bytes or more changes nothing of it. The measure is the number of records left.
+use Prim.Native.Nat.{◌+◌, ◌-◌, ◌≤◌}
+use mathlib.Core.Path.{◌∙◌, ◌≡◌, refl, sym}
+use mathlib.Core.Bool.{false, true}
+use lib.ListN.{drop, length, length-take}
+use native.Mathlib.Omega.{arith}
+use borrow.Author.Rules.{rules}
+use borrow.Author.Tests.{not-false, not-true}
+use Rattle.entries.specs.Names.{longest_name}
+use Rattle.book_laws.specs.Cursor.{cursor_of}
+use Rattle.book_seek.specs.Seek.{Quiet, none, settled}
+use Rattle.book_seek.proofs.Settling.{settled-early}
+use Rattle.book_check_walk.proofs.Reached.{Reached, reached_end, reached_on, reached_start}
+use Rattle.book_check_walk.proofs.Walking.{Walking, no_walk, walk_bad, walk_end, walk_misplaced, walk_start}
+use Rattle.book_check_walk.proofs.Walking.{walk_turn}
+use Rattle.book_check_walk.proofs.walk_each.Given as goal
+
+abbrev pub invariant-loop-index : goal.invariant-loop-index
+invariant-loop-index l =
+    Walking l.l l.buf l.n l.start (cursor_of l.at l.index l.name l.len) × (length l.name ≡ longest_name) × (l.s.below ≤ length l.key)
+    × (l.l.heads ≡ false → Reached l.key l.buf l.n l.start (cursor_of l.at l.index l.name l.len) (settled l.s l.index l.at))
+    × Quiet l.key l.s l.limit
+
+abbrev pub decreases-loop-index : goal.decreases-loop-index
+decreases-loop-index l = l.n - l.index

@@ -1,0 +1,10 @@
+-- `book_write::put_entry` meets its contract: what the two writers leave is the entry put (proofs/Stores).
+-- No loop.
+use borrow.Author.Rules.{rules}
+use Rattle.book_write.proofs.Stores.{entry_put}
+use Rattle.book_write.proofs.put_entry.Goals as goal
+
+pub returns : goal.returns
+returns c =
+    entry_put c.args.slot c.args.dst.now c.args.score c.args.prev.now c.args.name.now
+    c.put_fields.ensures c.put_record.ensures
