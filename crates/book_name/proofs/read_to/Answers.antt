@@ -21,13 +21,13 @@ pub overflow_add-at : goal.overflow_add-at
 overflow_add-at c =
     let here : c.loop-index.index < length (in_book c.args.book.now) = omega (arith, c.loop-index-test.true, c.requires.1) in
     let inner : c.loop-index.at + (c.read_name-p.result.start + c.read_name-p.result.own) ≤ length c.args.book.now = naming_inner c.args.book.now c.requires.0 c.loop-index.invariant here c.read_name-p.ensures in
-    omega (arith, inner, c.ranges.book.fits)
+    omega (arith, inner, c.ranges)
 
 pub overflow_add-at-in-loop-index : goal.overflow_add-at-in-loop-index
 overflow_add-at-in-loop-index c =
     let here : c.loop-index.index < length (in_book c.args.book.now) = omega (arith, c.loop-index-test.true, c.requires.1) in
     let inner : c.loop-index.at + (c.read_name-p.result.start + c.read_name-p.result.own) ≤ length c.args.book.now = naming_inner c.args.book.now c.requires.0 c.loop-index.invariant here c.read_name-p.ensures in
-    omega (arith, inner, c.ranges.book.fits)
+    omega (arith, inner, c.ranges)
 
 pub overflow_add-len : goal.overflow_add-len
 overflow_add-len c =

@@ -109,9 +109,8 @@ loop-index-smaller c = let n = c.loop-index-test.true in omega arith
 
 pub loop-index-preserved : goal.loop-index-preserved
 loop-index-preserved c =
-    let l = c.loop-index in
-    skipping_turn l.inv c.loop-index-test.true l.s l.limit (l.inv.quiet _ _ _ _ _ c.if-kept-limit.false)
-    l.inv.bounded l.inv.quiet
+    skipping_turn c.loop-index.invariant c.loop-index-test.true c.loop-index.s c.loop-index.limit (c.loop-index.invariant.quiet _ _ _ _ _ c.if-kept-limit.false)
+    c.loop-index.invariant.bounded c.loop-index.invariant.quiet
 
 pub returns : goal.returns
 returns c =

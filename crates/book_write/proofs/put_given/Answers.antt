@@ -7,7 +7,7 @@ use Rattle.book_write.proofs.Stores.{given_put_lem}
 use Rattle.book_write.proofs.put_given.Goals as goal
 
 pub overflow_add-result : goal.overflow_add-result
-overflow_add-result c = omega (arith, c.requires.near, c.ranges.coded.fits)
+overflow_add-result c = omega (arith, c.requires.near, c.ranges)
 
 pub returns : goal.returns
 returns c =
