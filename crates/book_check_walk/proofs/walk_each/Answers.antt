@@ -52,31 +52,31 @@ overflow_add-next c = omega (arith, c.loop-index-test.true, c.requires.0)
 
 pub slice_bounds-pass-count : goal.slice_bounds-pass-count
 slice_bounds-pass-count c =
-    let is_ok : rd.read-record.result.ok ≡ true = not-false rd.read-record.result.ok c.if-not-t.false in
-    let within : rd.read-record.result.kept ≤ rd.read-record.result.len = (rd.read-record.ensures.1 is_ok).0 in
+    let is_ok : c.read_record-t.result.ok ≡ true = not-false c.read_record-t.result.ok c.if-not-t.false in
+    let within : c.read_record-t.result.kept ≤ c.read_record-t.result.len = (c.read_record-t.ensures.1 is_ok).0 in
     within
 
 pub slice_bounds-pass-start : goal.slice_bounds-pass-start
 slice_bounds-pass-start c =
-    let is_ok : rd.read-record.result.ok ≡ true = not-false rd.read-record.result.ok c.if-not-t.false in
-    let within : rd.read-record.result.kept ≤ rd.read-record.result.len = (rd.read-record.ensures.1 is_ok).0 in
-    let small : rd.read-record.result.len ≤ longest_name = (rd.read-record.ensures.0.next is_ok).small in
-    let long : length rd.read-record.last.1.1.1.1.0 ≡ longest_name = rd.read-record.kept.1.1.1.1.0 ∙ c.loop-index.invariant.1 in
+    let is_ok : c.read_record-t.result.ok ≡ true = not-false c.read_record-t.result.ok c.if-not-t.false in
+    let within : c.read_record-t.result.kept ≤ c.read_record-t.result.len = (c.read_record-t.ensures.1 is_ok).0 in
+    let small : c.read_record-t.result.len ≤ longest_name = (c.read_record-t.ensures.0.next is_ok).small in
+    let long : length c.read_record-t.new.name ≡ longest_name = c.read_record-t.auto.name ∙ c.loop-index.invariant.1 in
     omega (arith, within, small, long)
 
 pub slice_bounds-pass-end : goal.slice_bounds-pass-end
 slice_bounds-pass-end c =
-    let is_ok : rd.read-record.result.ok ≡ true = not-false rd.read-record.result.ok c.if-not-t.false in
-    let within : rd.read-record.result.kept ≤ rd.read-record.result.len = (rd.read-record.ensures.1 is_ok).0 in
-    let small : rd.read-record.result.len ≤ longest_name = (rd.read-record.ensures.0.next is_ok).small in
-    let long : length rd.read-record.last.1.1.1.1.0 ≡ longest_name = rd.read-record.kept.1.1.1.1.0 ∙ c.loop-index.invariant.1 in
+    let is_ok : c.read_record-t.result.ok ≡ true = not-false c.read_record-t.result.ok c.if-not-t.false in
+    let within : c.read_record-t.result.kept ≤ c.read_record-t.result.len = (c.read_record-t.ensures.1 is_ok).0 in
+    let small : c.read_record-t.result.len ≤ longest_name = (c.read_record-t.ensures.0.next is_ok).small in
+    let long : length c.read_record-t.new.name ≡ longest_name = c.read_record-t.auto.name ∙ c.loop-index.invariant.1 in
     omega (arith, within, small, long)
 
 pub pass-s-requires : goal.pass-s-requires
 pass-s-requires c =
-    let is_ok : rd.read-record.result.ok ≡ true = not-false rd.read-record.result.ok c.if-not-t.false in
-    let within : rd.read-record.result.kept ≤ rd.read-record.result.len = (rd.read-record.ensures.1 is_ok).0 in
-    let small : rd.read-record.result.len ≤ longest_name = (rd.read-record.ensures.0.next is_ok).small in
+    let is_ok : c.read_record-t.result.ok ≡ true = not-false c.read_record-t.result.ok c.if-not-t.false in
+    let within : c.read_record-t.result.kept ≤ c.read_record-t.result.len = (c.read_record-t.ensures.1 is_ok).0 in
+    let small : c.read_record-t.result.len ≤ longest_name = (c.read_record-t.ensures.0.next is_ok).small in
     let m = within in
     let z = small in
     let n = c.loop-index-test.true in
@@ -93,8 +93,8 @@ limit-limit-requires-then-kept-limit c = c.pass-s.ensures.1
 
 pub loop-index-preserved-then-kept-limit : goal.loop-index-preserved-then-kept-limit
 loop-index-preserved-then-kept-limit c =
-    let is_ok : rd.read-record.result.ok ≡ true = not-false rd.read-record.result.ok c.if-not-t.false in
-    let long : length rd.read-record.last.1.1.1.1.0 ≡ longest_name = rd.read-record.kept.1.1.1.1.0 ∙ c.loop-index.invariant.1 in
+    let is_ok : c.read_record-t.result.ok ≡ true = not-false c.read_record-t.result.ok c.if-not-t.false in
+    let long : length c.read_record-t.new.name ≡ longest_name = c.read_record-t.auto.name ∙ c.loop-index.invariant.1 in
     let v = c.loop-index.invariant in
     let less = c.loop-index-test.true in (
       walk_turn v.0 less c.offset_is.ensures (c.if-not-offset_is.false) c.read_record-t.ensures.0
@@ -110,8 +110,8 @@ loop-index-preserved-then-kept-limit c =
 
 pub loop-index-preserved : goal.loop-index-preserved
 loop-index-preserved c =
-    let is_ok : rd.read-record.result.ok ≡ true = not-false rd.read-record.result.ok c.if-not-t.false in
-    let long : length rd.read-record.last.1.1.1.1.0 ≡ longest_name = rd.read-record.kept.1.1.1.1.0 ∙ c.loop-index.invariant.1 in
+    let is_ok : c.read_record-t.result.ok ≡ true = not-false c.read_record-t.result.ok c.if-not-t.false in
+    let long : length c.read_record-t.new.name ≡ longest_name = c.read_record-t.auto.name ∙ c.loop-index.invariant.1 in
     let v = c.loop-index.invariant in
     let less = c.loop-index-test.true in (
       walk_turn v.0 less c.offset_is.ensures (c.if-not-offset_is.false) c.read_record-t.ensures.0
