@@ -13,7 +13,7 @@ use Rattle.book_check.proofs.check_in.Goals as goal
 
 pub returns-in_default : goal.returns-in_default
 returns-in_default c =
-    let bytes : Bytes c.args.buf.now = omega (arith, c.shared_slice_known-1.given i) in
+    let bytes : Bytes c.args.buf.now = λ i. (omega (arith, c.shared_slice_known-1.given i)) in
     no_book_lem _ _ _ _ c.damaged.ensures
     (no_frame (book_format _) _ bytes c.check_frame.ensures c.in_default.is)
 
@@ -24,7 +24,7 @@ records_at-start-requires c =
 
 pub returns-then-buf-start : goal.returns-then-buf-start
 returns-then-buf-start c =
-    let bytes : Bytes c.args.buf.now = omega (arith, c.shared_slice_known-1.given i) in
+    let bytes : Bytes c.args.buf.now = λ i. (omega (arith, c.shared_slice_known-1.given i)) in
     let framed : Framed c.args.l.version c.args.buf.now c.in-Holds.entries c.in-Holds.total = frame_held _ _ c.check_frame.ensures c.in-Holds.is in
     let front : Front c.args.l c.args.buf.now c.in-Holds.entries c.in-Holds.total c.records_at-start.result = record { bytes = bytes; frame = framed; from = c.records_at-start.ensures } in
     no_book_lem _ _ _ _ c.damaged-then-buf-start.ensures (no_room_lem front c.if-buf-start.true)
@@ -37,7 +37,7 @@ walk-w-requires c =
 
 pub returns-in_default-ended : goal.returns-in_default-ended
 returns-in_default-ended c =
-    let bytes : Bytes c.args.buf.now = omega (arith, c.shared_slice_known-1.given i) in
+    let bytes : Bytes c.args.buf.now = λ i. (omega (arith, c.shared_slice_known-1.given i)) in
     let framed : Framed c.args.l.version c.args.buf.now c.in-Holds.entries c.in-Holds.total = frame_held _ _ c.check_frame.ensures c.in-Holds.is in
     let front : Front c.args.l c.args.buf.now c.in-Holds.entries c.in-Holds.total c.records_at-start.result = record { bytes = bytes; frame = framed; from = c.records_at-start.ensures } in
     let f = front in
@@ -47,7 +47,7 @@ returns-in_default-ended c =
 
 pub returns-then-end-total : goal.returns-then-end-total
 returns-then-end-total c =
-    let bytes : Bytes c.args.buf.now = omega (arith, c.shared_slice_known-1.given i) in
+    let bytes : Bytes c.args.buf.now = λ i. (omega (arith, c.shared_slice_known-1.given i)) in
     let framed : Framed c.args.l.version c.args.buf.now c.in-Holds.entries c.in-Holds.total = frame_held _ _ c.check_frame.ensures c.in-Holds.is in
     let front : Front c.args.l c.args.buf.now c.in-Holds.entries c.in-Holds.total c.records_at-start.result = record { bytes = bytes; frame = framed; from = c.records_at-start.ensures } in
     let f = front in
@@ -62,7 +62,7 @@ peaks_are-requires c =
 
 pub returns-then-not-peaks_are : goal.returns-then-not-peaks_are
 returns-then-not-peaks_are c =
-    let bytes : Bytes c.args.buf.now = omega (arith, c.shared_slice_known-1.given i) in
+    let bytes : Bytes c.args.buf.now = λ i. (omega (arith, c.shared_slice_known-1.given i)) in
     let framed : Framed c.args.l.version c.args.buf.now c.in-Holds.entries c.in-Holds.total = frame_held _ _ c.check_frame.ensures c.in-Holds.is in
     let front : Front c.args.l c.args.buf.now c.in-Holds.entries c.in-Holds.total c.records_at-start.result = record { bytes = bytes; frame = framed; from = c.records_at-start.ensures } in
     no_book_lem _ _ _ _ c.damaged-then-not-peaks_are.ensures
@@ -71,7 +71,7 @@ returns-then-not-peaks_are c =
 
 pub returns : goal.returns
 returns c =
-    let bytes : Bytes c.args.buf.now = omega (arith, c.shared_slice_known-1.given i) in
+    let bytes : Bytes c.args.buf.now = λ i. (omega (arith, c.shared_slice_known-1.given i)) in
     let framed : Framed c.args.l.version c.args.buf.now c.in-Holds.entries c.in-Holds.total = frame_held _ _ c.check_frame.ensures c.in-Holds.is in
     let front : Front c.args.l c.args.buf.now c.in-Holds.entries c.in-Holds.total c.records_at-start.result = record { bytes = bytes; frame = framed; from = c.records_at-start.ensures } in
     let e = c.in-At.is in
