@@ -1,5 +1,6 @@
 -- `edit_calls::withdraw` meets its contract: the checks in the table's order, then the book without the name
 -- (proofs/Editing). No loop, so no invariant.
+use borrow.Enum.Refused.{opened}
 use mathlib.Core.Path.{◌∙◌, ◌≡◌, sym}
 use mathlib.Core.Bool.{true}
 use mathlib.Core.List.{[]}
@@ -30,7 +31,7 @@ returns-in_default c =
     let held : Held c.args.book.now c.check-c.result.n = c.check-c.ensures.held c.if-c-ne0.false in
     let allowed : is_name c.args.name.now ≡ true = sym c.is_name.ensures ∙ c.if-not-is_name.false in
     not_held _ _ _ held allowed (c.check-c.ensures.located c.if-c-ne0.false) c.find_in.result
-    c.find_in.ensures c.in_default.keys2
+    c.find_in.ensures (opened c.in_default.in_default-own.keys2)
 
 pub write_without-requires : goal.write_without-requires
 write_without-requires c =

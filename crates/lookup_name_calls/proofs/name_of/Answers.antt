@@ -1,5 +1,6 @@
 -- `lookup_name_calls::name_of` meets its contract: the checks in the table's order, then the given name with its score.
 -- No loop, so no invariant.
+use borrow.Enum.Refused.{opened}
 use mathlib.Core.Path.{◌∙◌, ◌≡◌, ap, sym}
 use mathlib.Core.Bool.{true}
 use borrow.Author.Rules.{rules}
@@ -42,7 +43,7 @@ returns-in_default c =
     let allowed : is_name c.args.name.now ≡ true = sym c.is_name.ensures ∙ c.if-not-is_name.false in
     let h = held in
     let a = c.args in
-    let t = not_found a.name.now (in_book a.book.now) c.find_in.result is_found c.in_default.keys2 in
+    let t = not_found a.name.now (in_book a.book.now) c.find_in.result is_found (opened c.in_default.in_default-own.keys2) in
     let o = read_not_old _ h.is_it in
     record { answer = rw (o, h.is_it, allowed, t); left = rw (o, h.is_it, allowed, t) }
 

@@ -1,0 +1,47 @@
+use Prim.Native.Nat.{◌*◌, ◌-◌}
+use mathlib.Core.Path.{◌∙◌}
+use lib.ListN.{get_or, length}
+use native.Mathlib.Omega.{arith}
+use borrow.Author.Rules.{rules}
+use Rattle.octets.proofs.Stores.{part_bytes}
+use Rattle.entries.specs.Names.{longest_name}
+use Rattle.completion_book.proofs.Putting.{PutLeft, put_end, put_inside, put_room, put_start, put_turn}
+use Rattle.completion_book.proofs.Putting.{row_inside, row_name_lem, row_short}
+use Rattle.completion_book.proofs.put_entries.Goals as goal
+
+pub loop-i-init : goal.loop-i-init
+loop-i-init c = put_start _ _ _
+
+pub overflow_mul-from : goal.overflow_mul-from
+overflow_mul-from c = omega (arith, c.loop-i-test.true, c.requires.few)
+
+pub bounds-lens-i : goal.bounds-lens-i
+bounds-lens-i c = omega (arith, c.loop-i-test.true, c.requires.row_room.counted)
+
+pub overflow_add-to : goal.overflow_add-to
+overflow_add-to c =
+    omega (arith, row_short c.requires c.loop-i.invariant c.loop-i-test.true, c.loop-i-test.true, c.requires.few)
+
+pub slice_bounds-put_position-end : goal.slice_bounds-put_position-end
+slice_bounds-put_position-end c = row_inside c.requires c.loop-i.invariant c.loop-i-test.true
+
+pub put_position-end-requires : goal.put_position-end-requires
+put_position-end-requires c =
+    let t = c.loop-i-test.true in (
+      c.requires.is_it,
+      put_inside c.requires c.loop-i.invariant t,
+      part_bytes c.args.rows.now (c.loop-i.i * longest_name) (get_or c.args.lens.now c.loop-i.i 0)
+          ∙ row_name_lem c.requires c.loop-i.invariant t,
+      put_room c.requires c.loop-i.invariant t,
+    )
+
+pub loop-i-preserved : goal.loop-i-preserved
+loop-i-preserved c =
+    put_turn c.requires c.loop-i.invariant c.loop-i-test.true c.put_position-end.ensures.0
+    c.put_position-end.ensures.1
+
+pub shape_of-dst : goal.shape_of-dst
+shape_of-dst c = c.loop-i.invariant.same
+
+pub returns : goal.returns
+returns c = put_end c.requires c.loop-i.invariant c.loop-i-test.false

@@ -1,0 +1,47 @@
+-- `merge_read::next_entry` meets its contract: which entries are due, the one that is chosen, and both books gone on
+-- (proofs/Turning). No loop.
+use mathlib.Core.Path.{sym}
+use native.Mathlib.Omega.{arith}
+use borrow.Author.Rules.{rules}
+use Rattle.merge_read.proofs.Turning.{due_low, loaded_few, loaded_fits, loaded_short, loaded_size, turned}
+use Rattle.merge_read.proofs.next_entry.Goals as goal
+
+pub slice_bounds-s-end : goal.slice_bounds-s-end
+slice_bounds-s-end c = loaded_fits c.requires.0
+
+pub slice_bounds-s-end-2 : goal.slice_bounds-s-end-2
+slice_bounds-s-end-2 c = sym (loaded_size c.requires.0)
+
+pub slice_bounds-t-end : goal.slice_bounds-t-end
+slice_bounds-t-end c = loaded_fits c.requires.1
+
+pub slice_bounds-t-end-2 : goal.slice_bounds-t-end-2
+slice_bounds-t-end-2 c = sym (loaded_size c.requires.1)
+
+pub is_due_too-second_due-requires : goal.is_due_too-second_due-requires
+is_due_too-second_due-requires c = c.is_due-first_due.ensures
+
+pub choose-e-requires : goal.choose-e-requires
+choose-e-requires c =
+    let q = c.requires in
+    let i = loaded_few q.0 in
+    let j = loaded_few q.1 in
+    let s = loaded_short q.0 in
+    let t = loaded_short q.1 in
+    (omega (arith, i, j), omega (arith, i, j), omega (arith, s, t, q.2), omega (arith, s, t, q.2))
+
+pub move_on-requires : goal.move_on-requires
+move_on-requires c =
+    let q = c.requires in
+    (q.0, due_low q.0 q.1 c.is_due-first_due.ensures)
+
+pub move_on-requires-2 : goal.move_on-requires-2
+move_on-requires-2 c =
+    let q = c.requires in
+    (q.1, λ t. due_low q.1 q.0 c.is_due_too-second_due.ensures cc)
+
+pub returns : goal.returns
+returns c =
+    let q = c.requires in
+    turned q.0 q.1 c.is_due-first_due.ensures c.is_due_too-second_due.ensures c.choose-e.ensures
+    c.move_on.ensures c.move_on-2.ensures

@@ -1,0 +1,13 @@
+-- `trie_write_nodes::put_be` meets its contract: the last k of the number's 4 bytes are stored.
+-- No loop, so no invariant.
+use mathlib.Core.Path.{◌∙◌, ap}
+use lib.Seq.{sets}
+use native.Mathlib.Omega.{arith}
+use borrow.Author.Rules.{rules}
+use Rattle.trie_write_nodes.proofs.Bytes.{be-part}
+use Rattle.trie_write_nodes.proofs.put_be.Goals as goal
+
+pub returns : goal.returns
+returns c =
+    c.copy.ensures
+    ∙ ap (sets _ _) (be-part c.args.k c.args.v c.requires)
