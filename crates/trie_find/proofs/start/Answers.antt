@@ -27,18 +27,18 @@ returns-then-read_u16-eq0 c =
 pub score_field-score-requires : goal.score_field-score-requires
 score_field-score-requires c =
     (first_reached c.args.trie.now
-    c.requires ((c.if-read_u16-eq0.false (c.read_u16.ensures ∙ ())))).0
+    c.requires ((λ q. (c.if-read_u16-eq0.false (c.read_u16.ensures ∙ q))))).0
 
 pub arrive-first-requires : goal.arrive-first-requires
 arrive-first-requires c =
     first_reached c.args.trie.now
-    c.requires ((c.if-read_u16-eq0.false (c.read_u16.ensures ∙ ())))
+    c.requires ((λ q. (c.if-read_u16-eq0.false (c.read_u16.ensures ∙ q))))
 
 pub returns-then-prefix-eq0 : goal.returns-then-prefix-eq0
 returns-then-prefix-eq0 c =
     let first_is : c.arrive-first.result ≡ arrive_at c.args.trie.now zeros 0 (score_field_at c.args.trie.now 7) 7 7 = c.arrive-first.ensures ∙ ap (λ s. arrive_at c.args.trie.now zeros 0 s 7 7) c.score_field-score.ensures in
     let bs = c.args.trie.now in
-    empty_start bs c.requires ((c.if-read_u16-eq0.false (c.read_u16.ensures ∙ ()))) zeros zeros-long c.args.prefix.now
+    empty_start bs c.requires ((λ q. (c.if-read_u16-eq0.false (c.read_u16.ensures ∙ q)))) zeros zeros-long c.args.prefix.now
     c.if-prefix-eq0.true c.only.result (rw first_is at c.only.ensures.0)
     c.only.ensures.1
 
@@ -50,7 +50,7 @@ descend-requires c =
     record {
       ws = first_waits bs p;
       toward = rw first_is
-          (prefix_start bs c.requires ((c.if-read_u16-eq0.false (c.read_u16.ensures ∙ ()))) zeros zeros-long p c.if-prefix-eq0.false);
+          (prefix_start bs c.requires ((λ q. (c.if-read_u16-eq0.false (c.read_u16.ensures ∙ q)))) zeros zeros-long p c.if-prefix-eq0.false);
     }
 
 pub returns : goal.returns
@@ -60,5 +60,5 @@ returns c =
     let p = c.args.prefix.now in
     c.descend.ensures (first_waits bs p)
     (rw first_is
-    (prefix_start bs c.requires ((c.if-read_u16-eq0.false (c.read_u16.ensures ∙ ()))) zeros zeros-long p
+    (prefix_start bs c.requires ((λ q. (c.if-read_u16-eq0.false (c.read_u16.ensures ∙ q)))) zeros zeros-long p
     c.if-prefix-eq0.false))

@@ -14,7 +14,7 @@ use Rattle.trie_find_queue.proofs.put_at.Given as goal
 
 abbrev pub invariant-loop-j : goal.invariant-loop-j
 invariant-loop-j l =
-    Moving (record { l.nodes = l.initial.nodes; l.count = l.count }) l.i l.initial.carry l.nodes
+    Moving (record { nodes = l.initial.nodes; count = l.count }) l.i l.initial.carry l.nodes
     l.carry l.j
 
 abbrev pub decreases-loop-j : goal.decreases-loop-j

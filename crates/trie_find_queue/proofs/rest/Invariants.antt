@@ -13,7 +13,7 @@ use Rattle.octets.proofs.Lists.{length_mapped}
 use Rattle.trie_find_queue.proofs.rest.Given as goal
 
 abbrev pub invariant-loop-i : goal.invariant-loop-i
-invariant-loop-i l = Closing (record { l.nodes = l.initial.nodes; l.count = l.count }) l.nodes l.i
+invariant-loop-i l = Closing (record { nodes = l.initial.nodes; count = l.count }) l.nodes l.i
 
 abbrev pub decreases-loop-i : goal.decreases-loop-i
 decreases-loop-i l = l.count - l.i
