@@ -13,23 +13,23 @@ use Rattle.trie_write_nodes.proofs.put_node.Goals as goal
 
 pub header-requires : goal.header-requires
 header-requires c =
-    let score_le : c.type_size.result ≤ 4 = rw c.type_size.ensures (size_of_most c.args.f.score) in
+    let score_le : c.size_of-score.result ≤ 4 = rw c.size_of-score.ensures (size_of_most c.args.f.score) in
     let child_le : c.child_field_size-child.result ≤ 4 = rw c.child_field_size-child.ensures (child_size_le c.args.r c.args.f c.requires.small) in
     (score_le, child_le, omega (arith, c.requires.sound.short))
 
 pub bounds-dst-at : goal.bounds-dst-at
 bounds-dst-at c =
-    let room : c.args.at + 1 + c.type_size.result + c.child_field_size-child.result + c.args.r.len ≤ length c.args.dst.now = omega ( arith, c.requires.room, (node_length_lem c.args.r c.args.f c.requires.sound.short c.requires.small c.type_size.ensures c.child_field_size-child.ensures).0, ) in
+    let room : c.args.at + 1 + c.size_of-score.result + c.child_field_size-child.result + c.args.r.len ≤ length c.args.dst.now = omega ( arith, c.requires.room, (node_length_lem c.args.r c.args.f c.requires.sound.short c.requires.small c.size_of-score.ensures c.child_field_size-child.ensures).0, ) in
     omega (arith, room)
 
 pub put_be-requires : goal.put_be-requires
 put_be-requires c =
-    let score_le : c.type_size.result ≤ 4 = rw c.type_size.ensures (size_of_most c.args.f.score) in
+    let score_le : c.size_of-score.result ≤ 4 = rw c.size_of-score.ensures (size_of_most c.args.f.score) in
     score_le
 
 pub overflow_add-at-3 : goal.overflow_add-at-3
 overflow_add-at-3 c =
-    let room : c.args.at + 1 + c.type_size.result + c.child_field_size-child.result + c.args.r.len ≤ length c.args.dst.now = omega ( arith, c.requires.room, (node_length_lem c.args.r c.args.f c.requires.sound.short c.requires.small c.type_size.ensures c.child_field_size-child.ensures).0, ) in
+    let room : c.args.at + 1 + c.size_of-score.result + c.child_field_size-child.result + c.args.r.len ≤ length c.args.dst.now = omega ( arith, c.requires.room, (node_length_lem c.args.r c.args.f c.requires.sound.short c.requires.small c.size_of-score.ensures c.child_field_size-child.ensures).0, ) in
     omega (arith, room)
 
 pub put_be-requires-2 : goal.put_be-requires-2
@@ -39,12 +39,12 @@ put_be-requires-2 c =
 
 pub overflow_add-at-5 : goal.overflow_add-at-5
 overflow_add-at-5 c =
-    let room : c.args.at + 1 + c.type_size.result + c.child_field_size-child.result + c.args.r.len ≤ length c.args.dst.now = omega ( arith, c.requires.room, (node_length_lem c.args.r c.args.f c.requires.sound.short c.requires.small c.type_size.ensures c.child_field_size-child.ensures).0, ) in
+    let room : c.args.at + 1 + c.size_of-score.result + c.child_field_size-child.result + c.args.r.len ≤ length c.args.dst.now = omega ( arith, c.requires.room, (node_length_lem c.args.r c.args.f c.requires.sound.short c.requires.small c.size_of-score.ensures c.child_field_size-child.ensures).0, ) in
     omega (arith, room)
 
 pub overflow_add-at-6 : goal.overflow_add-at-6
 overflow_add-at-6 c =
-    let room : c.args.at + 1 + c.type_size.result + c.child_field_size-child.result + c.args.r.len ≤ length c.args.dst.now = omega ( arith, c.requires.room, (node_length_lem c.args.r c.args.f c.requires.sound.short c.requires.small c.type_size.ensures c.child_field_size-child.ensures).0, ) in
+    let room : c.args.at + 1 + c.size_of-score.result + c.child_field_size-child.result + c.args.r.len ≤ length c.args.dst.now = omega ( arith, c.requires.room, (node_length_lem c.args.r c.args.f c.requires.sound.short c.requires.small c.size_of-score.ensures c.child_field_size-child.ensures).0, ) in
     omega (arith, room)
 
 pub shape_of-dst : goal.shape_of-dst
@@ -54,7 +54,7 @@ pub returns : goal.returns
 returns c =
     node_put c.args.names.now c.args.d c.args.r c.args.f c.args.last c.args.dst.now
     c.args.at
-    c.type_size.ensures c.child_field_size-child.ensures c.child_field_value-value.ensures
+    c.size_of-score.ensures c.child_field_size-child.ensures c.child_field_value-value.ensures
     c.header.ensures
     c.put_be.ensures c.put_be-2.ensures (c.copy.ensures
     ∙ ap (sets _ _) (label_part c.args.names.now c.args.d c.args.r))

@@ -11,5 +11,4 @@ unfolding after
 returns-then-under-eq0 c = simp (eq-eqb _ _ c.if-under-eq0.true)
 
 pub returns : goal.returns
-returns c =
-    after_inner_lem c.args.r c.args.f c.args.score _ c.if-under-eq0.false c.type_size.ensures
+returns c = after_inner_lem c.args.r c.args.f c.args.score _ c.if-under-eq0.false c.size_of.ensures
