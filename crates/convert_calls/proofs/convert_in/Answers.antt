@@ -26,12 +26,12 @@ pub returns-then-not-fits : goal.returns-then-not-fits
 returns-then-not-fits c =
     let held : HeldIn c.args.from c.args.book.now c.in-Entries.n = checked-held _ _ c.check_in-reply.ensures.0 c.in-Entries.is in
     no_room_lem (read_in c.args.from) (image_in c.args.to) _ _ held.is_it
-    (leb-false _ _ (sym c.fits2.ensures ∙ c.if-not-fits.true))
+    (leb-false _ _ (sym c.fits.ensures ∙ c.if-not-fits.true))
 
 pub fill-total-requires : goal.fill-total-requires
 fill-total-requires c =
     let held : HeldIn c.args.from c.args.book.now c.in-Entries.n = checked-held _ _ c.check_in-reply.ensures.0 c.in-Entries.is in
-    let room : length (image_in c.args.to (in_book_in c.args.from c.args.book.now)) ≤ length c.args.dst.now = leb-true _ _ (sym c.fits2.ensures ∙ c.if-not-fits.false) in
+    let room : length (image_in c.args.to (in_book_in c.args.from c.args.book.now)) ≤ length c.args.dst.now = leb-true _ _ (sym c.fits.ensures ∙ c.if-not-fits.false) in
     (held, room)
 
 pub shape_of-dst : goal.shape_of-dst
@@ -40,6 +40,6 @@ shape_of-dst c = c.fill-total.auto.dst
 pub returns : goal.returns
 returns c =
     let held : HeldIn c.args.from c.args.book.now c.in-Entries.n = checked-held _ _ c.check_in-reply.ensures.0 c.in-Entries.is in
-    let room : length (image_in c.args.to (in_book_in c.args.from c.args.book.now)) ≤ length c.args.dst.now = leb-true _ _ (sym c.fits2.ensures ∙ c.if-not-fits.false) in
+    let room : length (image_in c.args.to (in_book_in c.args.from c.args.book.now)) ≤ length c.args.dst.now = leb-true _ _ (sym c.fits.ensures ∙ c.if-not-fits.false) in
     whole (read_in c.args.from) (image_in c.args.to) _ _ held.is_it _ held.count c.fill-total.ensures.1
     (omega (arith, c.fill-total.ensures.1, room)) c.fill-total.ensures.0
