@@ -1,0 +1,15 @@
+-- `program_print::put_decimal` meets its contract: the digits, copied from the end of ten bytes.
+-- No loop, so no invariant.
+use mathlib.Core.Path.{refl}
+use native.Mathlib.Omega.{arith}
+use borrow.Author.Rules.{rules}
+use Rattle.program_print.proofs.Printing.{put_digits}
+use Rattle.program_print.proofs.put_decimal.Goals as goal
+
+pub put_decimal-from-requires : goal.put_decimal-from-requires
+put_decimal-from-requires c = (omega arith, omega arith)
+
+pub returns : goal.returns
+returns c =
+    let a = c.args in
+    put_digits a.out.now a.at c.requires refl c.put_decimal-from.ensures c.copy.ensures
