@@ -2,7 +2,6 @@
 use mathlib.Core.Path.{◌∙◌, ◌≡◌}
 use lib.ListN.{length}
 use native.Mathlib.Omega.{arith}
-use borrow.Author.Rules.{rules}
 use Rattle.book.specs.Book.{in_book}
 use Rattle.label_book.proofs.HeadStart.{count_there, few_there}
 use Rattle.label_book.proofs.c_names.head_start.Goals as goal

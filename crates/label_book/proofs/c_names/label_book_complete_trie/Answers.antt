@@ -1,5 +1,4 @@
 -- `label_book_complete_trie` meets its contract: what the front door's call answered is told. No loop.
-use borrow.Author.Rules.{rules}
 use Rattle.label_book.proofs.Told.{offered_left}
 use Rattle.label_book.proofs.c_names.label_book_complete_trie.Goals as goal
 

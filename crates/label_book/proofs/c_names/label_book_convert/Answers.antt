@@ -1,5 +1,4 @@
 -- `label_book_convert` meets its contract: what the front door's call answered is told. No loop.
-use borrow.Author.Rules.{rules}
 use Rattle.label_book.proofs.Told.{left}
 use Rattle.label_book.proofs.c_names.label_book_convert.Goals as goal
 

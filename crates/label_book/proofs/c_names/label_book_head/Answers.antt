@@ -1,6 +1,5 @@
 -- `label_book_head` meets its contract: the companion's answer is told, and where the name begins. No loop.
 use mathlib.Core.Path.{◌∙◌, ◌≡◌, ap, sym}
-use borrow.Author.Rules.{rules}
 use Rattle.answer.specs.Answers.{given}
 use Rattle.lookup.specs.Lookups.{head_length}
 use Rattle.answer.specs.Reports.{length_of}
