@@ -1,4 +1,1 @@
-pub mod Again
-pub mod Lent
-pub mod Rows
 pub mod Within

@@ -1,0 +1,56 @@
+use Rattle.std.proofs.Common.{ℕ, ◌*◌, ◌+◌, ◌-◌, ◌<◌, arith, refl, subst}
+use Rattle.entries.specs.Names.{longest_name}
+use Rattle.trie_write.proofs.Turning.{deep, kept, not_one, turn, turn_end, turn_ready, turn_start}
+use Rattle.trie_write.proofs.Turning.{under_falls, under_low, under_ready}
+use Rattle.trie_write.proofs.+group.Goals as goal
+
+pub loop-i-init : goal.loop-i-init
+loop-i-init t c = turn_start c.split-count.ensures.0
+
+pub overflow_add-d : goal.overflow_add-d
+overflow_add-d t c =
+    let p = c.split-count.ensures in
+    omega (
+      arith,
+      deep c.requires (not_one c.requires c.if-rows-eq1.false) p.0 p.1 c.loop-i.invariant refl c.loop-i-test.true
+          c.run_at-r.ensures,
+    )
+
+pub group-n-requires : goal.group-n-requires
+group-n-requires t c =
+    let p = c.split-count.ensures in
+    let n = not_one c.requires c.if-rows-eq1.false in (
+      subst (λ (x : ℕ). (longest_name - (c.args.rows.d + c.run_at-r.result.len)) * 2048 +
+          (c.run_at-r.result.hi - c.run_at-r.result.lo) < x) c.decreases
+          (under_falls c.requires n p.0 p.1 c.loop-i.invariant refl c.loop-i-test.true c.run_at-r.ensures),
+      under_ready c.requires n p.0 p.1 c.loop-i.invariant refl c.loop-i-test.true c.run_at-r.ensures,
+    )
+
+pub overflow_cast-n : goal.overflow_cast-n
+overflow_cast-n t c =
+    let p = c.split-count.ensures in
+    omega (
+      arith,
+      under_low c.requires (not_one c.requires c.if-rows-eq1.false) p.0 p.1 c.loop-i.invariant refl
+          c.loop-i-test.true c.run_at-r.ensures c.group-n.ensures,
+    )
+
+pub loop-i-preserved : goal.loop-i-preserved
+loop-i-preserved t c =
+    let p = c.split-count.ensures in
+    turn c.requires (not_one c.requires c.if-rows-eq1.false) p.0 p.1 c.loop-i.invariant refl c.loop-i-test.true
+    c.run_at-r.ensures c.group-n.ensures c.with_under-filled.result c.with_under-filled.ensures c.put_run.ensures
+
+pub finish-requires : goal.finish-requires
+finish-requires t c =
+    let p = c.split-count.ensures in
+    let n = not_one c.requires c.if-rows-eq1.false in (
+      kept c.requires n p.0 p.1 c.loop-i.invariant refl,
+      turn_ready c.requires n p.0 p.1 c.loop-i.invariant refl c.loop-i-test.false,
+    )
+
+pub returns : goal.returns
+returns t c =
+    let p = c.split-count.ensures in
+    turn_end c.requires (not_one c.requires c.if-rows-eq1.false) p.0 p.1 c.loop-i.invariant refl c.loop-i-test.false
+    c.finish.ensures
