@@ -220,7 +220,9 @@ module _ {l : Layout} {store : Bool} {n i at : ℕ} {prev w : List ℕ} {s : ℕ
   pub one_room : store ≡ true → PutRoom (record { layout = l; n = n; index = i; at = at }) d prev w
   one_room t =
       record {
-        in_image = record { few = f.few; low = omega (arith, f.few, f.low); near = omega (arith, f.near) };
+        few = f.few;
+        low = omega (arith, f.few, f.low);
+        near = omega (arith, f.near);
         short = one_short;
         fits = rw one_ends at (f.enough t);
       }

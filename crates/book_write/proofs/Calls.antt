@@ -58,7 +58,9 @@ module _ {l : Layout} {es : List Entry} {d₀ : List ℕ} {c : Cursor} {d : List
         rw called (room l es d₀ c d p h)
         in
         record {
-          in_image = record { few = omega arith; low = omega arith; near = omega arith };
+          few = omega arith;
+          low = omega arith;
+          near = omega arith;
           short = rw called (name_length (at es c.index).name
               (at_all (λ e. is_name e.name) no_entry es v.allowed c.index h));
           fits = omega arith;

@@ -27,7 +27,9 @@ pub record InImage (slot : Slot) : Type 0 where
 
 -- an entry named w can be put into d in this slot, behind the name prev
 pub record PutRoom (slot : Slot) (d prev w : List ℕ) : Type 0 where
-  pub in_image : InImage slot
+  pub few : slot.n ≤ max_entries
+  pub low : slot.index < max_entries
+  pub near : slot.at < 65536
   pub short : length w ≤ longest_name
   pub fits : slot.at + length (slot_record slot prev w) ≤ length d
 

@@ -24,7 +24,8 @@ put_record l n i at bytes s d = sets (put_fields l n i at s d) at bytes
 
 -- the entry at position i of n, its record at index `at` behind the name prev
 unfoldable pub put_entry : Layout → ℕ → ℕ → List ℕ → ℕ → Entry → List ℕ → List ℕ
-put_entry l n i prev at e d = put_record l n i at (record_of l.heads i prev e.name) e.score d
+put_entry l n i prev at e d =
+    sets (put_offset l n i at (sets d (score_start i) (be 4 e.score))) at (record_of l.heads i prev e.name)
 
 -- the peak of block j, computed from the scores that stand in the buffer
 abbrev pub put_peak : Layout → ℕ → ℕ → List ℕ → List ℕ

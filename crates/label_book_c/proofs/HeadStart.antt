@@ -61,6 +61,6 @@ module _ (book : List ℕ) (j : ℕ) where
       let p = (held_head (held book b.0) b.1).name in
       record { returned = rw h; start = rw h; size = rw h; part = rw h (rw l at p) }
 
-  pub told-refused : (n : ℕ) → head_length book j ≡ refused n → HeadTold book j n 0 0
+  pub told_refused : (n : ℕ) → head_length book j ≡ refused n → HeadTold book j n 0 0
   unfolding head_name
-  told-refused n h = record { returned = rw h; start = rw h; size = rw h; part = rw h }
+  told_refused n h = record { returned = rw h; start = rw h; size = rw h; part = rw h }

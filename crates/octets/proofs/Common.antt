@@ -1,5 +1,5 @@
 -- What lists of bytes share: the longest common prefix of two, and those of each two of three.
-use Prim.Native.Nat.{◌+◌, ◌-◌, ◌≤◌, min, suc, zero, ℕ}
+use Prim.Native.Nat.{◌-◌, ◌≤◌, min, suc, zero, ℕ}
 use mathlib.Core.Path.{◌∙◌, ◌≡◌, ap, refl, sym}
 use mathlib.Core.Bool.{false≢true, true}
 use mathlib.Core.List.{List, [], ◌++◌, ◌∷◌}

@@ -1,8 +1,10 @@
 -- `book_write::put_entry` meets its contract: what the two writers leave is the entry put (proofs/Stores).
 -- No loop.
-use borrow.Author.Rules.{rules}
 use Rattle.book_write.proofs.Stores.{entry_put}
 use Rattle.book_write.proofs.put_entry.Goals as goal
+
+pub put_fields-requires : goal.put_fields-requires
+put_fields-requires c = record { few = c.requires.few; low = c.requires.low; near = c.requires.near }
 
 pub returns : goal.returns
 returns c =

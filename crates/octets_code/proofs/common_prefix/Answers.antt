@@ -1,8 +1,4 @@
-use Prim.Native.Nat.{◌+◌, ◌-◌, ◌≤◌}
-use mathlib.Core.Path.{◌≡◌}
-use lib.ListN.{drop}
 use native.Mathlib.Omega.{arith}
-use Rattle.octets.specs.Octets.{common}
 use Rattle.octets_code.proofs.Loops.{common_agree, common_differ, common_end}
 use Rattle.octets_code.proofs.common_prefix.Goals as goal
 

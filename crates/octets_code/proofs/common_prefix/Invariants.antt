@@ -3,9 +3,7 @@
 use Prim.Native.Nat.{◌+◌, ◌-◌, ◌≤◌}
 use mathlib.Core.Path.{◌≡◌}
 use lib.ListN.{drop}
-use native.Mathlib.Omega.{arith}
 use Rattle.octets.specs.Octets.{common}
-use Rattle.octets_code.proofs.Loops.{common_agree, common_differ, common_end}
 use Rattle.octets_code.proofs.common_prefix.Given as goal
 
 abbrev pub invariant-loop-i : goal.invariant-loop-i

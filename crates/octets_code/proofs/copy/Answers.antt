@@ -1,7 +1,5 @@
-use Prim.Native.Nat.{◌+◌, ◌-◌, ◌≤◌}
-use mathlib.Core.Path.{◌∙◌, ◌≡◌, refl, sym}
-use lib.ListN.{drop, length, length-set}
-use lib.Seq.{sets}
+use mathlib.Core.Path.{◌∙◌, refl, sym}
+use lib.ListN.{length-set}
 use native.Mathlib.Nat.{add-zero}
 use native.Mathlib.Omega.{arith}
 use Rattle.octets_code.proofs.Loops.{sets_end, sets_next, sets_out}

@@ -1,12 +1,9 @@
 -- `octets_code::copy` meets its contract. The loop's invariant: to store what is left of `src` gives what to store all
 -- of it at first gives. The measure is how many bytes are left that fit.
 use Prim.Native.Nat.{◌+◌, ◌-◌, ◌≤◌}
-use mathlib.Core.Path.{◌∙◌, ◌≡◌, refl, sym}
-use lib.ListN.{drop, length, length-set}
+use mathlib.Core.Path.{◌≡◌}
+use lib.ListN.{drop, length}
 use lib.Seq.{sets}
-use native.Mathlib.Nat.{add-zero}
-use native.Mathlib.Omega.{arith}
-use Rattle.octets_code.proofs.Loops.{sets_end, sets_next, sets_out}
 use Rattle.octets_code.proofs.copy.Given as goal
 
 abbrev pub invariant-loop-j : goal.invariant-loop-j

@@ -1,6 +1,5 @@
 -- `octets_code::is_below` meets its contract: what stands behind the common prefix decides.
 -- No loop.
-use native.Mathlib.Omega.{arith}
 use borrow.Author.Tests.{le-leb, lt-leb}
 use Rattle.octets_code.proofs.Loops.{below_at_lem}
 use Rattle.octets_code.proofs.is_below.Goals as goal

@@ -1,7 +1,6 @@
 -- `octets_code::write_u16` meets its contract: the array holds `be 2 v`, and `copy` stores it.
 -- No loop.
 use native.Mathlib.Nat.{div-one}
-use native.Mathlib.Omega.{arith}
 use Rattle.octets.specs.Octets.{be}
 use Rattle.octets_code.proofs.write_u16.Goals as goal
 

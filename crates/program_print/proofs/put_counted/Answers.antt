@@ -28,8 +28,7 @@ shape_of-out c = simp length-set (c.put_decimal-end.auto.out ∙ c.copy.auto.dst
 
 pub returns : goal.returns
 returns c =
-    let a = c.args in
     put_append
-    (put_append (put_part a.out.now a.at a.word.now (omega (arith, c.requires)) c.copy.ensures)
+    (put_append (put_part c.args.out.now c.args.at c.args.word.now (omega (arith, c.requires)) c.copy.ensures)
     c.put_decimal-end.ensures)
-    (put_byte _ _ _ (slice-write-out c))
+    (put_byte _ _ _ ((omega ( arith, c.put_decimal-end.ensures.ends, c.put_decimal-end.auto.out, c.copy.auto.dst, decimal_most c.args.v, c.requires, ))))

@@ -11,5 +11,4 @@ put_decimal-from-requires c = (omega arith, omega arith)
 
 pub returns : goal.returns
 returns c =
-    let a = c.args in
-    put_digits a.out.now a.at c.requires refl c.put_decimal-from.ensures c.copy.ensures
+    put_digits c.args.out.now c.args.at c.requires refl c.put_decimal-from.ensures c.copy.ensures

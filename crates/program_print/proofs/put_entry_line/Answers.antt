@@ -46,7 +46,7 @@ shape_of-out c = simp length-set (c.copy.auto.dst ∙ simp length-set c.put_deci
 pub returns : goal.returns
 returns c =
     put_append
-    (put_append (put_append c.put_decimal-end.ensures (put_byte _ _ _ (slice-write-out c)))
+    (put_append (put_append c.put_decimal-end.ensures (put_byte _ _ _ ((omega (arith, c.put_decimal-end.ensures.ends, decimal_most c.args.score, c.requires, c.put_decimal-end.auto.out)))))
     (put_part _ _ c.args.name.now
     (omega (
       arith,
@@ -57,4 +57,4 @@ returns c =
       c.put_decimal-end.auto.out,
     ))
     c.copy.ensures))
-    (put_byte _ _ _ (slice-write-out-2 c))
+    (put_byte _ _ _ ((omega ( arith, c.put_decimal-end.ensures.ends, decimal_most c.args.score, c.requires, c.copy.auto.dst, length-set c.put_decimal-end.new.out c.put_decimal-end.result 32, c.put_decimal-end.auto.out, ))))

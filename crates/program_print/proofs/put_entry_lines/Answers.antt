@@ -11,27 +11,27 @@ loop-i-init c = offer_start c.requires
 
 pub overflow_add-start : goal.overflow_add-start
 overflow_add-start c =
-    let stands : let a = c.args in Here a.answer.now (sheet_from a.n a.answer.now) c.loop-i.i c.loop-i.at = offer_here c.loop-i.invariant c.requires.0 c.loop-i-test.true in
+    let stands : Here c.args.answer.now (sheet_from c.args.n c.args.answer.now) c.loop-i.i c.loop-i.at = offer_here c.loop-i.invariant c.requires.0 c.loop-i-test.true in
     omega (arith, stands.room)
 
 pub bounds-answer-at : goal.bounds-answer-at
 bounds-answer-at c =
-    let stands : let a = c.args in Here a.answer.now (sheet_from a.n a.answer.now) c.loop-i.i c.loop-i.at = offer_here c.loop-i.invariant c.requires.0 c.loop-i-test.true in
+    let stands : Here c.args.answer.now (sheet_from c.args.n c.args.answer.now) c.loop-i.i c.loop-i.at = offer_here c.loop-i.invariant c.requires.0 c.loop-i-test.true in
     omega (arith, stands.room)
 
 pub overflow_cast-stop : goal.overflow_cast-stop
 overflow_cast-stop c =
-    let stands : let a = c.args in Here a.answer.now (sheet_from a.n a.answer.now) c.loop-i.i c.loop-i.at = offer_here c.loop-i.invariant c.requires.0 c.loop-i-test.true in
+    let stands : Here c.args.answer.now (sheet_from c.args.n c.args.answer.now) c.loop-i.i c.loop-i.at = offer_here c.loop-i.invariant c.requires.0 c.loop-i-test.true in
     omega (arith, stands.room)
 
 pub overflow_add-stop : goal.overflow_add-stop
 overflow_add-stop c =
-    let stands : let a = c.args in Here a.answer.now (sheet_from a.n a.answer.now) c.loop-i.i c.loop-i.at = offer_here c.loop-i.invariant c.requires.0 c.loop-i-test.true in
+    let stands : Here c.args.answer.now (sheet_from c.args.n c.args.answer.now) c.loop-i.i c.loop-i.at = offer_here c.loop-i.invariant c.requires.0 c.loop-i-test.true in
     omega (arith, stands.room)
 
 pub slice_bounds-put_entry_line-end : goal.slice_bounds-put_entry_line-end
 slice_bounds-put_entry_line-end c =
-    let stands : let a = c.args in Here a.answer.now (sheet_from a.n a.answer.now) c.loop-i.i c.loop-i.at = offer_here c.loop-i.invariant c.requires.0 c.loop-i-test.true in
+    let stands : Here c.args.answer.now (sheet_from c.args.n c.args.answer.now) c.loop-i.i c.loop-i.at = offer_here c.loop-i.invariant c.requires.0 c.loop-i-test.true in
     omega (arith, stands.room)
 
 pub put_entry_line-end-requires : goal.put_entry_line-end-requires
@@ -39,7 +39,7 @@ put_entry_line-end-requires c = offer_room c.loop-i.invariant c.requires.0 c.loo
 
 pub overflow_add-at : goal.overflow_add-at
 overflow_add-at c =
-    let stands : let a = c.args in Here a.answer.now (sheet_from a.n a.answer.now) c.loop-i.i c.loop-i.at = offer_here c.loop-i.invariant c.requires.0 c.loop-i-test.true in
+    let stands : Here c.args.answer.now (sheet_from c.args.n c.args.answer.now) c.loop-i.i c.loop-i.at = offer_here c.loop-i.invariant c.requires.0 c.loop-i-test.true in
     omega (arith, stands.room)
 
 pub loop-i-preserved : goal.loop-i-preserved
