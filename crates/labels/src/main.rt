@@ -14,7 +14,7 @@ ghost use Rattle.program.specs.Program.{buffer_length};
 ghost use Rattle.program.specs.Theorem.{ProgramRan};
 
 use limits::{BUFFER_LENGTH, KEPT_BYTES, LINE_ROOM};
-use std::io::{self, Read};
+use std::io::Read;
 
 // The bytes that are read at a time.
 const INPUT_ROOM: usize = 65536;
@@ -46,21 +46,17 @@ fn say(rt: HostRuntime, failed: &str) {
     let _told = eprintln!(rt; "{failed}").is_ok();
 }
 
-// How many bytes a read put at the front of `input`, none where it failed.
-fn count(got: &io::Result<usize>) -> usize {
-    match got {
-        Ok(n) => *n,
-        Err(_) => 0,
+// Reads once, to the front of `input`: how many bytes, none where the read failed, and whether it worked.
+fn read_once(rt: HostRuntime, input: &mut [u8]) -> (usize, bool)
+    ensures { result.0 ≤ length input.new }
+{
+    match rt.stdin().read(input) {
+        Ok(n) => (n, true),
+        Err(_) => {
+            say(rt, "labels: cannot read");
+            (0, false)
+        }
     }
-}
-
-// Whether a read worked.
-fn did_read(rt: HostRuntime, got: &io::Result<usize>) -> bool {
-    if got.is_ok() {
-        return true;
-    }
-    say(rt, "labels: cannot read");
-    false
 }
 
 // Whether there is more to read, as far as the last read tells.
@@ -121,13 +117,12 @@ fn read_part(
         result.kept result.turned line.new first.new second.new }
     ensures got { result.got ≤ length input.new }
 {
-    let got = rt.stdin().read(input);
-    let n = count(&got);
+    let (n, works) = read_once(rt, input);
     let t = State {
         kept: s.kept,
         turned: s.turned,
         got: n,
-        works: did_read(rt, &got),
+        works: works,
     };
     answer_part(rt, &input[..n], t, line, first, second, out)
 }
