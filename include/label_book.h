@@ -150,7 +150,7 @@
  * What is proved
  *
  * For calls that keep to "Buffers": that each call ends, and the numbers, out values and bytes said
- * here, are proved of the functions in crates/label_book/src/c_names.rt (docs/CONTRACTS.txt has the
+ * here, are proved of the functions in crates/label_book_c/src/lib.rt (docs/CONTRACTS.txt has the
  * contracts); so is that no book is longer than LABEL_BOOK_BOOK_MAX, no sheet longer than
  * LABEL_BOOK_SHEET_MAX and no page longer than LABEL_BOOK_PAGE_MAX. For LABEL_BOOK_TRIE_MAX, which
  * is not proved, docs/FORMAT.md argues.

@@ -1,7 +1,8 @@
 // The label book's front door: every public call and every type that a caller needs. No call asks anything of its
 // arguments; a refusal returns its number and changes no lent byte. What a call gives and leaves is the definition
 // named behind it. Its contract stands above its code, in the crate that the line below the comment names:
-// `crates/edit_calls/src/lib.rt` for `edit_calls`, and so on.
+// `crates/edit_calls/src/lib.rt` for `edit_calls`, and so on. The same calls under C names, but for `head` and
+// `head_length`, which are one there, are crate `label_book_c`.
 #![tactic(auto)]
 
 // Edits, as defined in `crates/edit/specs/Edits.antt`. Each writes the new book at the front of another buffer.
@@ -107,6 +108,3 @@ pub use answer::Pressed;
 pub use script_calls::run;
 // Refused(number), or Done { calls, turned }: the calls made, and whether the second buffer holds the book.
 pub use answer::Played;
-
-// The same calls under C names, but for `head` and `head_length`, which are one there: `src/c_names.rt`.
-mod c_names;

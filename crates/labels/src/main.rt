@@ -14,6 +14,7 @@ ghost use Rattle.program.specs.Program.{buffer_length};
 ghost use Rattle.program.specs.Theorem.{ProgramRan};
 
 use limits::{BUFFER_LENGTH, KEPT_BYTES, LINE_ROOM};
+use std::io::Read;
 
 // The bytes that are read at a time.
 const INPUT_ROOM: usize = 65536;
@@ -29,24 +30,33 @@ struct State {
 }
 
 // Writes what is printed, if everything worked so far: whether it still does.
-fn print(works: bool, bytes: &[u8]) -> bool {
+fn print(rt: HostRuntime, works: bool, bytes: &[u8]) -> bool {
     if !works {
         return false;
     }
-    if io::write_all(1, bytes) {
+    if rt.write_all(bytes).is_ok() {
         return true;
     }
-    io::write_all(2, b"labels: cannot write\n");
+    say(rt, "labels: cannot write");
     false
 }
 
-// Whether a read worked, by what it answered: a negative number is an error.
-fn did_read(got: isize) -> bool {
-    if got >= 0 {
-        return true;
+// Says on standard error what failed. Where that cannot be written either, nobody can be told.
+fn say(rt: HostRuntime, failed: &str) {
+    let _told = eprintln!(rt; "{failed}").is_ok();
+}
+
+// Reads once, to the front of `input`: how many bytes, none where the read failed, and whether it worked.
+fn read_once(rt: HostRuntime, input: &mut [u8]) -> (usize, bool)
+    ensures { result.0 ≤ length input.new }
+{
+    match rt.stdin().read(input) {
+        Ok(n) => (n, true),
+        Err(_) => {
+            say(rt, "labels: cannot read");
+            (0, false)
+        }
     }
-    io::write_all(2, b"labels: cannot read\n");
-    false
 }
 
 // Whether there is more to read, as far as the last read tells.
@@ -56,6 +66,7 @@ fn goes_on(got: usize, works: bool) -> bool {
 
 // Feeds a part of the input, all of it, and writes what it prints.
 fn answer_part(
+    rt: HostRuntime,
     part: &[u8],
     s: State,
     line: &mut [u8],
@@ -76,7 +87,7 @@ fn answer_part(
     while used < part.len() {
         let f = program_run::feed(&part[used..], kept, turned, line, first, second, out);
         let n = f.bytes;
-        works = print(works, &out[..n]);
+        works = print(rt, works, &out[..n]);
         used += f.used;
         kept = f.kept;
         turned = f.turned;
@@ -90,8 +101,9 @@ fn answer_part(
 }
 
 // Reads once, and answers what was read: the first bytes of `input` afterwards, as many as `got` says. That these are
-// the bytes of standard input is not said: the contract of `libc::read` does not speak of bytes.
+// the bytes of standard input is not said: the contract of `std::io::Read::read` names none of standard input's.
 fn read_part(
+    rt: HostRuntime,
     input: &mut [u8],
     s: State,
     line: &mut [u8],
@@ -105,21 +117,21 @@ fn read_part(
         result.kept result.turned line.new first.new second.new }
     ensures got { result.got ≤ length input.new }
 {
-    let got = libc::read(0, input);
-    let n = io::count(got, input);
+    let (n, works) = read_once(rt, input);
     let t = State {
         kept: s.kept,
         turned: s.turned,
         got: n,
-        works: did_read(got),
+        works: works,
     };
-    answer_part(&input[..n], t, line, first, second, out)
+    answer_part(rt, &input[..n], t, line, first, second, out)
 }
 
 // Reads to the end of the input. A proved loop has to end, so it counts its reads down from a number that no run uses
 // up. The console afterwards is the one that some bytes lead to. They are all that was read, one read behind the other,
 // but the contract cannot name them: each read overwrites `input`, so that no buffer holds them in the end.
 fn read_all(
+    rt: HostRuntime,
     input: &mut [u8],
     line: &mut [u8],
     first: &mut [u8],
@@ -139,7 +151,7 @@ fn read_all(
     };
     let mut more = true;
     while reads > 0 && more {
-        s = read_part(input, s, line, first, second, out);
+        s = read_part(rt, input, s, line, first, second, out);
         more = goes_on(s.got, s.works);
         reads -= 1;
     }
@@ -150,6 +162,7 @@ fn read_all(
 // `main` has no contract, this is what the program promises. Of a line that a failed read cuts short nothing is
 // printed.
 fn run(
+    rt: HostRuntime,
     input: &mut [u8],
     line: &mut [u8],
     first: &mut [u8],
@@ -162,18 +175,18 @@ fn run(
         first.new second.new out.new }
 {
     edit_calls::empty(first);
-    let s = read_all(input, line, first, second, out);
+    let s = read_all(rt, input, line, first, second, out);
     let f = program_run::finish(s.kept, s.turned, line, first, second, out);
     let n = f.bytes;
-    print(s.works, &out[..n]);
+    print(rt, s.works, &out[..n]);
     f
 }
 
-fn main() {
+fn main(rt: HostRuntime) {
     let mut first = [0u8; BUFFER_LENGTH];
     let mut second = [0u8; BUFFER_LENGTH];
     let mut line = [0u8; KEPT_BYTES];
     let mut input = [0u8; INPUT_ROOM];
     let mut out = [0u8; LINE_ROOM];
-    run(&mut input, &mut line, &mut first, &mut second, &mut out);
+    run(rt, &mut input, &mut line, &mut first, &mut second, &mut out);
 }

@@ -2,24 +2,43 @@
 // first name for bucket 0, and empty lines where there is none. No C name can hand out that part.
 #![tactic(auto)]
 
+ghost use Rattle.std.specs.Prelude.{◌≤◌, length, IfOk};
+
 use limits::BUFFER_LENGTH;
+use std::io::{self, Read};
 
 // One more than the buckets of 8 that 1,024 names would fill: only bucket 0 has a head.
 const BUCKETS: usize = 129;
 
+// Reads until `book` is full or the input ends: how many bytes it put at the front.
+fn read_full(rt: HostRuntime, book: &mut [u8]) -> io::Result<usize>
+    ensures { IfOk result (λ n. n ≤ length book.new) }
+{
+    let mut done = 0;
+    while done < book.len() {
+        let n = rt.stdin().read(&mut book[done..])?;
+        if n == 0 {
+            break;
+        }
+        done += n;
+    }
+    Ok(done)
+}
+
 // Prints what `head` hands out for each bucket.
-fn print_heads(book: &[u8]) {
+fn print_heads(rt: HostRuntime, book: &[u8]) -> io::Result<()> {
     let end = [b'\n'];
     let mut bucket = 0;
     while bucket < BUCKETS {
-        io::write_all(1, lookup_head_calls::head(book, bucket));
-        io::write_all(1, &end);
+        rt.write_all(lookup_head_calls::head(book, bucket))?;
+        rt.write_all(&end)?;
         bucket += 1;
     }
+    Ok(())
 }
 
-fn main() {
+fn main(rt: HostRuntime) -> io::Result<()> {
     let mut input = [0u8; BUFFER_LENGTH];
-    let n = io::read_full(0, &mut input);
-    print_heads(&input[..n]);
+    let n = read_full(rt, &mut input)?;
+    print_heads(rt, &input[..n])
 }

@@ -1,5 +1,0 @@
--- `label_book_check` meets its contract: what the front door's call answered is told. No loop.
-use Rattle.label_book.proofs.c_names.label_book_check.Goals as goal
-
-pub returns : goal.returns
-returns c = rw (← c.check.ensures) c.tell_checked.ensures

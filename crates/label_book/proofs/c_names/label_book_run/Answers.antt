@@ -1,6 +1,0 @@
--- `label_book_run` meets its contract: what the front door's call answered is told. No loop.
-use Rattle.label_book.proofs.Told.{run_left}
-use Rattle.label_book.proofs.c_names.label_book_run.Goals as goal
-
-pub returns : goal.returns
-returns c = run_left c.run.result c.run.ensures c.tell_played.ensures

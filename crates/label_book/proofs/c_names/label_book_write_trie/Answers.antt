@@ -1,6 +1,0 @@
--- `label_book_write_trie` meets its contract: what the front door's call answered is told. No loop.
-use Rattle.label_book.proofs.Told.{left}
-use Rattle.label_book.proofs.c_names.label_book_write_trie.Goals as goal
-
-pub returns : goal.returns
-returns c = left c.write_trie.ensures c.tell_written.ensures
