@@ -6,5 +6,5 @@ use Rattle.labels.proofs.read_part.Goals as goal
 
 pub returns : goal.returns
 returns c =
-    let all = (fed_read c.read_once.new.input c.read_once.ensures c.answer_part.ensures.got c.answer_part.ensures.is) in
+    let all = (fed_read c.read_once-n.new.input c.read_once-n.ensures c.answer_part.ensures.got c.answer_part.ensures.is) in
     record { is = all.0; got = all.1 }
