@@ -1,7 +1,6 @@
 -- `answer_write::write_entry` meets its contract: refused where the entry's bytes do not fit, else they stand at the
 -- front. No loop, so no invariant.
 use mathlib.Core.Path.{refl}
-use native.Mathlib.Omega.{arith}
 use Rattle.answer_write.proofs.Writing.{entry-refused, entry_written}
 use Rattle.answer_write.proofs.write_entry.Goals as goal
 

@@ -1,7 +1,6 @@
 -- `book_append::pass_entry` meets its contract: the entry is put, or its record is only measured (proofs/Append).
 -- No loop.
 use native.Mathlib.Omega.{arith}
-use borrow.Author.Rules.{rules}
 use Rattle.book_append.proofs.Append.{one_room, one_short, passed_measured, passed_put}
 use Rattle.book_append.proofs.pass_entry.Goals as goal
 

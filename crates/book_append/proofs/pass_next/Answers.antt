@@ -5,7 +5,6 @@ use mathlib.Core.Path.{refl, sym}
 use lib.ListN.{length}
 use lib.Seq.{length-take-le}
 use native.Mathlib.Omega.{arith}
-use borrow.Author.Rules.{rules}
 use Rattle.book_write.proofs.Calls.{name_copied}
 use Rattle.book_append.proofs.Append.{one_short, plain_fits, plain_passed}
 use Rattle.book_append.proofs.pass_next.Goals as goal

@@ -1,8 +1,6 @@
 use Prim.Native.Nat.{◌-◌}
 use native.Mathlib.Omega.{arith}
-use Rattle.book.specs.Book.{in_book}
 use Rattle.book_laws.proofs.Held.{held_few}
-use Rattle.book_best.specs.Best.{Tops}
 use Rattle.book_best.proofs.Tops.{tops_best, tops_turn}
 use Rattle.book_best.proofs.best_in.Goals as goal
 

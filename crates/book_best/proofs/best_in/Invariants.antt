@@ -1,11 +1,8 @@
 -- `book_best::best_in` meets its contract. The loop's invariant: nothing from `first` to before `i` outranks `b`
 -- (specs/Best). The measure is the number of positions left.
 use Prim.Native.Nat.{◌-◌}
-use native.Mathlib.Omega.{arith}
 use Rattle.book.specs.Book.{in_book}
-use Rattle.book_laws.proofs.Held.{held_few}
 use Rattle.book_best.specs.Best.{Tops}
-use Rattle.book_best.proofs.Tops.{tops_best, tops_turn}
 use Rattle.book_best.proofs.best_in.Given as goal
 
 abbrev pub invariant-loop-i : goal.invariant-loop-i

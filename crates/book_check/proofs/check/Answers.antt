@@ -2,7 +2,6 @@
 -- invariant.
 --
 use mathlib.Core.Path.{◌∙◌, ◌≡◌, subst, sym}
-use borrow.Author.Rules.{rules}
 use Rattle.book.specs.declared.Layout.{Layout}
 use Rattle.book.specs.Book.{read_in, today}
 use Rattle.frame_code.specs.Image.{image_as}

@@ -2,8 +2,6 @@
 -- answer (proofs/Answer, and frame_code's proofs/Checked). No loop, so no invariant.
 use mathlib.Core.Path.{◌∙◌, sym}
 use native.Mathlib.Omega.{arith}
-use borrow.Author.Rules.{rules}
-use borrow.Author.Tests.{not-false, not-true}
 use Rattle.octets.proofs.Numbers.{Bytes}
 use Rattle.frame_laws.proofs.Test.{frame_tests}
 use Rattle.frame_code.proofs.Checked.{Framed, frame_held, no_end_lem, no_frame, other_end}

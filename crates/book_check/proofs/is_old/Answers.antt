@@ -1,6 +1,4 @@
 -- `book_check::is_old` meets its contract: an empty buffer has no byte 0. No loop, so no invariant.
-use native.Mathlib.Omega.{arith}
-use borrow.Author.Rules.{rules}
 use Rattle.book_check.proofs.Answer.{empty_new}
 use Rattle.book_check.proofs.is_old.Goals as goal
 

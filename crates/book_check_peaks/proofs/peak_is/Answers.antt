@@ -1,6 +1,5 @@
 -- `book_check_peaks::peak_is` meets its contract: the block is not empty, and its stored peak is compared with the best
 -- of its positions. No loop, so no invariant.
-use native.Mathlib.Omega.{arith}
 use Rattle.book_check_peaks.proofs.peak_is.Goals as goal
 
 pub returns : goal.returns

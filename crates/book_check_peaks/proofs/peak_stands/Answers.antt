@@ -2,8 +2,6 @@
 -- (proofs/Block). No loop, so no invariant.
 use Prim.Native.Nat.{◌*◌}
 use mathlib.Core.Bool.{false≢true}
-use native.Mathlib.Omega.{arith}
-use borrow.Author.Rules.{rules}
 use Rattle.octets.proofs.Stores.{part_bytes}
 use Rattle.book.specs.Book.{block_size}
 use Rattle.book_laws.specs.Check.{score_start}

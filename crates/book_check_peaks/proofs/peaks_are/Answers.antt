@@ -1,7 +1,6 @@
 use Prim.Native.Nat.{◌-◌}
 use native.Mathlib.Omega.{arith}
-use borrow.Author.Tests.{not-false, not-true}
-use Rattle.book_check_peaks.proofs.Blocks.{Peaks, peaks_end, peaks_stale, peaks_start_lem, peaks-turn}
+use Rattle.book_check_peaks.proofs.Blocks.{peaks_end, peaks_stale, peaks_start_lem, peaks-turn}
 use Rattle.book_check_peaks.proofs.peaks_are.Goals as goal
 
 pub loop-j-init : goal.loop-j-init

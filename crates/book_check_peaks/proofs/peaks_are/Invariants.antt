@@ -1,9 +1,7 @@
 -- `book_check_peaks::peaks_are` meets its contract. The loop's invariant: the blocks left decide as all of them did.
 -- The measure is the number of blocks left.
 use Prim.Native.Nat.{◌-◌}
-use native.Mathlib.Omega.{arith}
-use borrow.Author.Tests.{not-false, not-true}
-use Rattle.book_check_peaks.proofs.Blocks.{Peaks, peaks_end, peaks_stale, peaks_start_lem, peaks-turn}
+use Rattle.book_check_peaks.proofs.Blocks.{Peaks}
 use Rattle.book_check_peaks.proofs.peaks_are.Given as goal
 
 abbrev pub invariant-loop-j : goal.invariant-loop-j

@@ -1,11 +1,7 @@
-use Prim.Native.Nat.{◌-◌, ◌<◌, ◌≤◌, ℕ}
-use mathlib.Core.Path.{◌≡◌}
+use Prim.Native.Nat.{◌-◌}
 use native.Mathlib.Omega.{arith}
 use borrow.Author.Count.{below_more}
-use borrow.Author.Rules.{rules}
 use borrow.Author.Tests.{eqb-true}
-use Rattle.book.specs.Book.{block_size}
-use Rattle.book_check_peaks.specs.Unbeaten.{score_in}
 use Rattle.book_check_peaks.proofs.stands.Goals as goal
 
 pub loop-i-init : goal.loop-i-init

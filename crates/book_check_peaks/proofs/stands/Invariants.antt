@@ -2,10 +2,6 @@
 -- i beats the one at the place. The measure is how many scores are left.
 use Prim.Native.Nat.{◌-◌, ◌<◌, ◌≤◌, ℕ}
 use mathlib.Core.Path.{◌≡◌}
-use native.Mathlib.Omega.{arith}
-use borrow.Author.Count.{below_more}
-use borrow.Author.Rules.{rules}
-use borrow.Author.Tests.{eqb-true}
 use Rattle.book.specs.Book.{block_size}
 use Rattle.book_check_peaks.specs.Unbeaten.{score_in}
 use Rattle.book_check_peaks.proofs.stands.Given as goal

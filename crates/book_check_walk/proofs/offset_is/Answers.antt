@@ -1,7 +1,5 @@
 -- `book_check_walk::offset_is` meets its contract: its tests are those of `offset_is`.
 -- No loop, so no invariant.
-use native.Mathlib.Omega.{arith}
-use borrow.Author.Tests.{not-false, not-true}
 use Rattle.book_laws.specs.Check.{offset_is}
 use Rattle.book_check_walk.proofs.offset_is.Goals as goal
 

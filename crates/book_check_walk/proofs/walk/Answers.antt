@@ -2,7 +2,6 @@
 -- the careful walk tells. No loop, so no invariant.
 use mathlib.Core.Path.{◌∙◌, ap, sym}
 use native.Mathlib.Omega.{arith}
-use borrow.Author.Rules.{rules}
 use borrow.Author.Tests.{not-true}
 use Rattle.frame_code.specs.Image.{ended_as}
 use Rattle.book_check_walk.proofs.walk.Goals as goal

@@ -6,11 +6,10 @@ use native.Mathlib.Omega.{arith}
 use borrow.Author.Rules.{rules}
 use borrow.Author.Tests.{not-false, not-true}
 use Rattle.entries.specs.Names.{longest_name}
-use Rattle.book_laws.specs.Cursor.{cursor_of}
-use Rattle.book_seek.specs.Seek.{Quiet, none, settled}
+use Rattle.book_seek.specs.Seek.{none, settled}
 use Rattle.book_seek.proofs.Settling.{settled-early}
-use Rattle.book_check_walk.proofs.Reached.{Reached, reached_end, reached_on, reached_start}
-use Rattle.book_check_walk.proofs.Walking.{Walking, no_walk, walk_bad, walk_end, walk_misplaced, walk_start}
+use Rattle.book_check_walk.proofs.Reached.{reached_end, reached_on, reached_start}
+use Rattle.book_check_walk.proofs.Walking.{no_walk, walk_bad, walk_end, walk_misplaced, walk_start}
 use Rattle.book_check_walk.proofs.Walking.{walk_turn}
 use Rattle.book_check_walk.proofs.walk_each.Goals as goal
 

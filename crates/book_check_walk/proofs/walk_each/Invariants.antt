@@ -1,20 +1,15 @@
 -- `book_check_walk::walk_each` meets its contract. The loop's invariant: the records from index `at` on end where all
 -- of them do, the array stays 48 bytes long, without heads the search stands where the names read so far take it, and a
 -- record that keeps `limit` bytes or more changes nothing of it. The measure is the number of records left.
-use Prim.Native.Nat.{◌+◌, ◌-◌, ◌≤◌}
-use mathlib.Core.Path.{◌∙◌, ◌≡◌, refl, sym}
-use mathlib.Core.Bool.{false, true}
-use lib.ListN.{drop, length, length-take}
-use native.Mathlib.Omega.{arith}
-use borrow.Author.Rules.{rules}
-use borrow.Author.Tests.{not-false, not-true}
+use Prim.Native.Nat.{◌-◌, ◌≤◌}
+use mathlib.Core.Path.{◌≡◌}
+use mathlib.Core.Bool.{false}
+use lib.ListN.{length}
 use Rattle.entries.specs.Names.{longest_name}
 use Rattle.book_laws.specs.Cursor.{cursor_of}
-use Rattle.book_seek.specs.Seek.{Quiet, none, settled}
-use Rattle.book_seek.proofs.Settling.{settled-early}
-use Rattle.book_check_walk.proofs.Reached.{Reached, reached_end, reached_on, reached_start}
-use Rattle.book_check_walk.proofs.Walking.{Walking, no_walk, walk_bad, walk_end, walk_misplaced, walk_start}
-use Rattle.book_check_walk.proofs.Walking.{walk_turn}
+use Rattle.book_seek.specs.Seek.{Quiet, settled}
+use Rattle.book_check_walk.proofs.Reached.{Reached}
+use Rattle.book_check_walk.proofs.Walking.{Walking}
 use Rattle.book_check_walk.proofs.walk_each.Given as goal
 
 abbrev pub invariant-loop-index : goal.invariant-loop-index

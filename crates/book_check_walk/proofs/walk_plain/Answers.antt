@@ -1,16 +1,12 @@
-use Prim.Native.Nat.{◌+◌, ◌-◌, ◌≤◌, ℕ}
+use Prim.Native.Nat.{◌+◌, ◌-◌, ◌≤◌}
 use mathlib.Core.Path.{◌∙◌, refl, sym}
 use mathlib.Core.Bool.{false≢true}
-use mathlib.Core.List.{List}
-use lib.ListN.{drop, length, length-take, take}
+use lib.ListN.{drop, length, length-take}
 use native.Mathlib.Omega.{arith}
 use borrow.Author.Tests.{not-false}
 use Rattle.octets.proofs.Stores.{part_bytes}
-use Rattle.book_laws.specs.Cursor.{cursor_of}
 use Rattle.book_record_quick.specs.Quick.{HeaderAt}
-use Rattle.book_seek.specs.Seek.{GoesOn, Quiet, settled}
-use Rattle.book_seek.specs.declared.Seek.{Seek}
-use Rattle.book_check_walk.proofs.Counted.{Going, going_end, going_start, going_turn}
+use Rattle.book_check_walk.proofs.Counted.{going_end, going_start, going_turn}
 use Rattle.book_check_walk.proofs.walk_plain.Goals as goal
 
 pub limit-limit-requires : goal.limit-limit-requires

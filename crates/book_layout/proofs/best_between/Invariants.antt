@@ -1,9 +1,7 @@
 -- `book_layout::best_between` meets its contract. The loop's invariant: `b` is the best so far, `best` its score, and
 -- what is left decides as the whole did. The measure is the number of positions left.
 use Prim.Native.Nat.{◌-◌}
-use mathlib.Core.Logic.{⊎_elim}
-use native.Mathlib.Omega.{arith}
-use Rattle.book_layout.proofs.Best.{Best, best_end, best_kept, best_start, best_taken}
+use Rattle.book_layout.proofs.Best.{Best}
 use Rattle.book_layout.proofs.best_between.Given as goal
 
 abbrev pub invariant-loop-i : goal.invariant-loop-i

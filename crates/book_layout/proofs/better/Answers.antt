@@ -1,6 +1,5 @@
 -- `book_layout::better` meets its contract: the test on the two scores is the one of `better_of`.
 -- No loop, so no invariant.
-use borrow.Author.Rules.{rules}
 use borrow.Author.Tests.{le-ltb, lt-ltb}
 use Rattle.book_layout.proofs.better.Goals as goal
 

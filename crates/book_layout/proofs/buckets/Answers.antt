@@ -2,7 +2,6 @@
 -- No loop, so no invariant.
 use mathlib.Core.Path.{sym}
 use native.Mathlib.Omega.{arith}
-use borrow.Author.Tests.{not-false, not-true}
 use Rattle.book_laws.proofs.Stored.{buckets_off, buckets_on}
 use Rattle.book_layout.proofs.buckets.Goals as goal
 

@@ -1,6 +1,5 @@
 -- `book_layout::is_head` meets its contract: its tests are those of `head_at`.
 -- No loop, so no invariant.
-use borrow.Author.Tests.{not-false, not-true}
 use Rattle.book_layout.proofs.is_head.Goals as goal
 
 pub returns-then-not-heads : goal.returns-then-not-heads

@@ -1,6 +1,5 @@
 -- `book_layout::offset_at` meets its contract: the number that is read stands where `offset_at` looks.
 -- No loop, so no invariant.
-use borrow.Author.Rules.{rules}
 use Rattle.book_layout.proofs.offset_at.Goals as goal
 
 pub offset_start-requires : goal.offset_start-requires

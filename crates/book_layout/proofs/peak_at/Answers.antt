@@ -1,6 +1,5 @@
 -- `book_layout::peak_at` meets its contract: the number that is read stands where `peak_at` looks.
 -- No loop, so no invariant.
-use borrow.Author.Rules.{rules}
 use Rattle.book_layout.proofs.peak_at.Goals as goal
 
 pub peak_start-requires : goal.peak_start-requires

@@ -1,6 +1,5 @@
 -- `book_layout::score_at` meets its contract: the number that is read stands where `score_at` looks.
 -- No loop, so no invariant.
-use native.Mathlib.Omega.{arith}
 use Rattle.book_laws.specs.Check.{score_at}
 use Rattle.book_layout.proofs.score_at.Goals as goal
 

@@ -1,7 +1,6 @@
 -- `book_name::primed` meets its contract: the prefix is copied to the front of the array.
 -- No loop, so no invariant.
 use mathlib.Core.Path.{refl}
-use borrow.Author.Rules.{rules}
 use Rattle.book_name.proofs.Poising.{front_of-sets}
 use Rattle.book_name.proofs.primed.Goals as goal
 

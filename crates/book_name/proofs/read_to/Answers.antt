@@ -5,7 +5,7 @@ use borrow.Author.Rules.{rules}
 use Rattle.octets.proofs.Lists.{length_mapped}
 use Rattle.book.specs.Book.{in_book}
 use Rattle.book_laws.proofs.Held.{held_few}
-use Rattle.book_name.proofs.Poising.{Naming, held_of, naming_end, naming_inner, naming-inside, naming_on}
+use Rattle.book_name.proofs.Poising.{held_of, naming_end, naming_inner, naming-inside, naming_on}
 use Rattle.book_name.proofs.Poising.{naming_short, naming_start}
 use Rattle.book_name.proofs.read_to.Goals as goal
 

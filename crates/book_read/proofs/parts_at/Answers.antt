@@ -1,7 +1,6 @@
 -- `book_read::parts_at` meets its contract: the position tells the record's form, its first bytes the numbers.
 -- No loop, so no invariant.
 use native.Mathlib.Omega.{arith}
-use borrow.Author.Rules.{rules}
 use Rattle.book_read.specs.Record.{parts_at}
 use Rattle.book_read.proofs.parts_at.Goals as goal
 

@@ -6,7 +6,6 @@ use mathlib.Core.Bool.{Bool}
 use mathlib.Core.List.{List}
 use lib.ListN.{drop, length, length-drop}
 use native.Mathlib.Omega.{arith}
-use borrow.Author.Rules.{rules}
 use Rattle.octets.proofs.Stores.{part_bytes, to_end}
 use Rattle.book_read.specs.Record.{Inside, parts_at}
 use Rattle.book_read.specs.declared.Parts.{Parts}

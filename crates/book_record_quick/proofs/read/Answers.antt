@@ -8,7 +8,6 @@ use native.Mathlib.Omega.{arith}
 use Rattle.octets.proofs.Stores.{part_bytes}
 use Rattle.entries.specs.Names.{longest_name}
 use Rattle.book_record_quick.proofs.Stores.{nothing_read, stored_long, stored_rest}
-use borrow.Author.Rules.{rules}
 use Rattle.book_record_quick.proofs.read.Goals as goal
 
 pub overflow_cast-kept : goal.overflow_cast-kept
@@ -26,11 +25,11 @@ returns-then-own-lt1 c = nothing_read c.no_header-then-own-lt1.ensures c.require
 pub overflow_add-past : goal.overflow_add-past
 overflow_add-past c =
     omega (
-  arith,
-  c.if-len-kept.false,
-  c.requires,
-  c.shared_slice_known-3-1.given (c.args.at + 1),
-)
+      arith,
+      c.if-len-kept.false,
+      c.requires,
+      c.shared_slice_known-3-1.given (c.args.at + 1),
+    )
 
 pub returns-then-past-gt-LONGEST_NAME : goal.returns-then-past-gt-LONGEST_NAME
 returns-then-past-gt-LONGEST_NAME c =

@@ -5,7 +5,6 @@ use mathlib.Core.Bool.{false, false≢true}
 use mathlib.Core.List.{List}
 use Prim.Native.Nat.{◌+◌, ℕ}
 use native.Mathlib.Omega.{arith}
-use borrow.Author.Rules.{rules}
 use Rattle.book_record_quick.specs.Quick.{Headed}
 use Rattle.book_record_quick.specs.declared.Header.{Header}
 use Rattle.book_record_quick.proofs.read_header.Goals as goal

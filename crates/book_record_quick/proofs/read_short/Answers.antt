@@ -9,7 +9,6 @@ use borrow.Author.Tests.{not-false}
 use Rattle.octets.proofs.Stores.{part_bytes}
 use Rattle.book_record_quick.specs.Quick.{HeaderAt}
 use Rattle.book_record_quick.proofs.Stores.{nothing_read, stored_long, stored_rest}
-use borrow.Author.Rules.{rules}
 use Rattle.book_record_quick.proofs.read_short.Goals as goal
 
 pub returns-then-not-h : goal.returns-then-not-h
@@ -24,10 +23,10 @@ pub slice_bounds-store_short-end : goal.slice_bounds-store_short-end
 slice_bounds-store_short-end c =
     let header_at : let a = c.args in let r = c.read_header-h.result in HeaderAt a.buf.now a.at a.total a.name.now a.len r.kept r.own = c.read_header-h.ensures (not-false _ c.if-not-h.false) in
     omega (
-  arith,
-  header_at.inside,
-  c.requires,
-)
+      arith,
+      header_at.inside,
+      c.requires,
+    )
 
 pub store_short-requires : goal.store_short-requires
 store_short-requires c =

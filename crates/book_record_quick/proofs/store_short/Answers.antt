@@ -1,8 +1,7 @@
-use Prim.Native.Nat.{◌+◌, ◌-◌, ◌≤◌}
-use mathlib.Core.Path.{◌∙◌, ◌≡◌, refl, sym}
+use Prim.Native.Nat.{◌-◌}
+use mathlib.Core.Path.{◌∙◌, refl, sym}
 use mathlib.Core.Bool.{false≢true}
-use lib.ListN.{drop, length, length-set}
-use lib.Seq.{sets}
+use lib.ListN.{length-set}
 use native.Mathlib.Nat.{add-zero}
 use native.Mathlib.Omega.{arith}
 use Rattle.octets_code.proofs.Loops.{sets_end, sets_next}

@@ -1,13 +1,9 @@
 -- `book_record_quick::store_short` meets its contract. The loop's invariant: to store what is left of the rest gives
 -- what to store all of it at first gives. The measure is what is left of it.
 use Prim.Native.Nat.{◌+◌, ◌-◌, ◌≤◌}
-use mathlib.Core.Path.{◌∙◌, ◌≡◌, refl, sym}
-use mathlib.Core.Bool.{false≢true}
-use lib.ListN.{drop, length, length-set}
+use mathlib.Core.Path.{◌≡◌}
+use lib.ListN.{drop, length}
 use lib.Seq.{sets}
-use native.Mathlib.Nat.{add-zero}
-use native.Mathlib.Omega.{arith}
-use Rattle.octets_code.proofs.Loops.{sets_end, sets_next}
 use Rattle.book_record_quick.proofs.store_short.Given as goal
 
 abbrev pub invariant-loop-j : goal.invariant-loop-j

@@ -1,8 +1,5 @@
 -- `book_record_read::goes_above` meets its contract: the name before has ended, or its next byte decides.
 -- No loop, so no invariant.
-use mathlib.Core.Bool.{not}
-use lib.Dec.{eqb}
-use borrow.Author.Rules.{rules}
 use borrow.Author.Tests.{eq-eqb, le-leb, le-ltb, lt-leb, lt-ltb, ne_eqb}
 use Rattle.book_record_read.specs.RecordParts.{goes_above}
 use Rattle.book_record_read.proofs.goes_above.Goals as goal

@@ -1,13 +1,10 @@
 -- `book_record_read::head_part` meets its contract: each return is a test of `head_test`, in its order.
 -- No loop, so no invariant.
-use Prim.Native.Nat.{ℕ}
 use mathlib.Core.Path.{◌≡◌, sym}
 use mathlib.Core.Bool.{◌&&◌}
-use mathlib.Core.List.{List}
 use lib.ListN.{drop, get_or, take}
 use native.Mathlib.Omega.{arith}
-use borrow.Author.Rules.{rules}
-use borrow.Author.Tests.{le-leb, lt-leb, not-false, not-true}
+use borrow.Author.Tests.{le-leb, lt-leb}
 use Rattle.octets.specs.Octets.{below}
 use Rattle.entries.specs.Names.{is_name}
 use Rattle.book_record_read.specs.RecordParts.{head_test}

@@ -1,7 +1,6 @@
 -- `book_record_read::part_at` meets its contract: the tests of a head, or of another record, are those of `record_is`.
 -- No loop, so no invariant.
 use mathlib.Core.Path.{◌∙◌, sym}
-use borrow.Author.Rules.{rules}
 use Rattle.book_record_read.proofs.RecordParts.{head_part_lem, tail_part_lem}
 use Rattle.book_record_read.proofs.part_at.Goals as goal
 

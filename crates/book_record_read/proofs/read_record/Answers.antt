@@ -1,16 +1,13 @@
 -- `book_record_read::read_record` meets its contract: what `part_at` and `copy` tell is what a step of the cursor asks
 -- (proofs/Steps). No loop, so no invariant.
-use Prim.Native.Nat.{◌+◌, ◌≤◌, ℕ}
+use Prim.Native.Nat.{◌+◌, ◌≤◌}
 use mathlib.Core.Path.{◌∙◌, ◌≡◌, sym}
 use mathlib.Core.Bool.{false≢true}
-use mathlib.Core.List.{List}
 use lib.ListN.{drop, length, length-drop}
 use lib.Seq.{length-take-le}
 use native.Mathlib.Omega.{arith}
-use borrow.Author.Rules.{rules}
 use Rattle.book_laws.specs.Cursor.{cursor_of, name_in}
 use Rattle.book_record_read.specs.RecordParts.{record_part}
-use Rattle.book_laws.specs.declared.Cursor.{Cursor}
 use Rattle.book_record_read.specs.declared.Part.TheVariants.{Own}
 use Rattle.book_record_read.proofs.RecordParts.{Owned, part_own}
 use Rattle.octets.proofs.Stores.{part_bytes, to_end}
@@ -56,13 +53,12 @@ overflow_add-long c =
     omega (arith, owned.short)
 
 pub returns-in-Bad : goal.returns-in-Bad
-returns-in-Bad c =
-    (
-      step_bad c.args.heads c.args.src.now (cursor_of c.args.at c.args.index c.args.name.now c.args.len) c.requires.0
-          (rw (to_end c.args.src.now c.args.at) at (sym c.part_at-part.ensures
-          ∙ c.in-Bad.is)),
-      λ t. absurd (false≢true t),
-    )
+returns-in-Bad c = (
+  step_bad c.args.heads c.args.src.now (cursor_of c.args.at c.args.index c.args.name.now c.args.len) c.requires.0
+      (rw (to_end c.args.src.now c.args.at) at (sym c.part_at-part.ensures
+      ∙ c.in-Bad.is)),
+  λ t. absurd (false≢true t),
+)
 
 pub returns-in-Own : goal.returns-in-Own
 returns-in-Own c =

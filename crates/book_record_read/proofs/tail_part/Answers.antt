@@ -1,14 +1,12 @@
 -- `book_record_read::tail_part` meets its contract: each return is a test of `tail_test`, in its order.
 -- No loop, so no invariant.
-use Prim.Native.Nat.{◌+◌, ◌-◌, ℕ}
+use Prim.Native.Nat.{◌+◌, ◌-◌}
 use mathlib.Core.Path.{◌≡◌, sym}
 use mathlib.Core.Bool.{◌&&◌}
-use mathlib.Core.List.{List}
 use lib.Dec.{leb}
 use lib.ListN.{drop, get_or, length, take}
 use native.Mathlib.Omega.{arith}
-use borrow.Author.Rules.{rules}
-use borrow.Author.Tests.{le-leb, lt-leb, not-false, not-true}
+use borrow.Author.Tests.{le-leb, lt-leb}
 use Rattle.entries.specs.Names.{is_prefix, longest_name}
 use Rattle.book_record_read.specs.RecordParts.{goes_above, tail_test}
 use Rattle.octets.proofs.Stores.{part_bytes}

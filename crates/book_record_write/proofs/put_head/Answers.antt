@@ -3,7 +3,6 @@
 use mathlib.Core.Path.{◌∙◌}
 use lib.ListN.{length-set}
 use native.Mathlib.Omega.{arith}
-use borrow.Author.Rules.{rules}
 use Rattle.book_record_write.proofs.Writing.{head_stores}
 use Rattle.book_record_write.proofs.put_head.Goals as goal
 

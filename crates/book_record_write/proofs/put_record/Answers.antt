@@ -1,7 +1,6 @@
 -- `book_record_write::put_record` meets its contract: a record is written in the form that its position asks for.
 -- No loop, so no invariant.
 use mathlib.Core.Path.{◌∙◌, ◌≡◌, sym}
-use borrow.Author.Rules.{rules}
 use Rattle.book.specs.Records.{record_of}
 use Rattle.book_record_write.specs.Written.{head_record, tail_record}
 use Rattle.book_record_write.proofs.Writing.{record_head, record_tail}

@@ -4,7 +4,6 @@ use Prim.Native.Nat.{◌≤◌}
 use mathlib.Core.Path.{◌∙◌}
 use lib.ListN.{length, length-set}
 use native.Mathlib.Omega.{arith}
-use borrow.Author.Rules.{rules}
 use Rattle.octets.proofs.Coding.{common_le}
 use Rattle.book_record_write.proofs.Writing.{rest_length, tail_length, tail_stores}
 use Rattle.book_record_write.proofs.put_tail.Goals as goal

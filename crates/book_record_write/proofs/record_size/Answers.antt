@@ -3,7 +3,6 @@
 use mathlib.Core.Path.{◌∙◌, ap, sym}
 use lib.ListN.{length}
 use native.Mathlib.Omega.{arith}
-use borrow.Author.Rules.{rules}
 use Rattle.octets.proofs.Coding.{common_le}
 use Rattle.book_record_write.proofs.Writing.{record_head, record_tail, tail_length}
 use Rattle.book_record_write.proofs.record_size.Goals as goal

@@ -1,7 +1,6 @@
 use Prim.Native.Nat.{◌-◌}
 use native.Mathlib.Omega.{arith}
-use Rattle.book.specs.Book.{in_book}
-use Rattle.book_rows.proofs.Filling.{Filling, filling_end, filling_poised, filling_start, filling_turn}
+use Rattle.book_rows.proofs.Filling.{filling_end, filling_poised, filling_start, filling_turn}
 use Rattle.book_rows.proofs.Filling.{held_short_lem}
 use Rattle.book_rows.proofs.fill.Goals as goal
 

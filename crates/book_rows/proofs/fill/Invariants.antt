@@ -2,10 +2,8 @@
 -- and no position wanted lies between the cursor and the next one (proofs/Filling). The measure is the number of
 -- positions from the next one on.
 use Prim.Native.Nat.{◌-◌}
-use native.Mathlib.Omega.{arith}
 use Rattle.book.specs.Book.{in_book}
-use Rattle.book_rows.proofs.Filling.{Filling, filling_end, filling_poised, filling_start, filling_turn}
-use Rattle.book_rows.proofs.Filling.{held_short_lem}
+use Rattle.book_rows.proofs.Filling.{Filling}
 use Rattle.book_rows.proofs.fill.Given as goal
 
 abbrev pub invariant-loop-next : goal.invariant-loop-next

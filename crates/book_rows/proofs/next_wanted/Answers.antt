@@ -1,8 +1,6 @@
-use Prim.Native.Nat.{◌-◌, ◌≤◌}
-use lib.ListN.{length}
+use Prim.Native.Nat.{◌-◌}
 use native.Mathlib.Omega.{arith}
-use borrow.Author.Rules.{rules}
-use Rattle.book_rows.proofs.Filling.{Nearest, nearest_end, nearest_start, nearest_turn}
+use Rattle.book_rows.proofs.Filling.{nearest_end, nearest_start, nearest_turn}
 use Rattle.book_rows.proofs.next_wanted.Goals as goal
 
 pub loop-j-init : goal.loop-j-init

@@ -2,9 +2,7 @@
 -- before `from` is known (proofs/Filling). The measure is the number of positions left.
 use Prim.Native.Nat.{◌-◌, ◌≤◌}
 use lib.ListN.{length}
-use native.Mathlib.Omega.{arith}
-use borrow.Author.Rules.{rules}
-use Rattle.book_rows.proofs.Filling.{Nearest, nearest_end, nearest_start, nearest_turn}
+use Rattle.book_rows.proofs.Filling.{Nearest}
 use Rattle.book_rows.proofs.next_wanted.Given as goal
 
 abbrev pub invariant-loop-j : goal.invariant-loop-j

@@ -1,8 +1,7 @@
 use Prim.Native.Nat.{◌-◌}
-use lib.ListN.{length, length-take}
+use lib.ListN.{length-take}
 use native.Mathlib.Omega.{arith}
-use borrow.Author.Rules.{rules}
-use Rattle.book_rows.proofs.Filling.{Placing, placing_end, placing_start, placing_turn}
+use Rattle.book_rows.proofs.Filling.{placing_end, placing_start, placing_turn}
 use Rattle.book_rows.proofs.put_rows.Goals as goal
 
 pub loop-j-init : goal.loop-j-init

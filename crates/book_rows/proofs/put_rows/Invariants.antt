@@ -1,10 +1,8 @@
 -- `book_rows::put_rows` meets its contract. The loop's invariant: the rows before the j-th are done (proofs/Filling).
 -- The measure is the number of rows left.
 use Prim.Native.Nat.{◌-◌}
-use lib.ListN.{length, length-take}
-use native.Mathlib.Omega.{arith}
-use borrow.Author.Rules.{rules}
-use Rattle.book_rows.proofs.Filling.{Placing, placing_end, placing_start, placing_turn}
+use lib.ListN.{length}
+use Rattle.book_rows.proofs.Filling.{Placing}
 use Rattle.book_rows.proofs.put_rows.Given as goal
 
 abbrev pub invariant-loop-j : goal.invariant-loop-j

@@ -1,7 +1,6 @@
 -- `book_seek::settle` meets its contract: each return is a form of what a loop keeps (proofs/Settling). No loop, so no
 -- invariant.
 use mathlib.Core.Path.{◌∙◌, sym}
-use borrow.Author.Rules.{rules}
 use Rattle.book_seek.proofs.Settling.{settled-begun, settled-early, settled_late}
 use Rattle.book_seek.proofs.settle.Goals as goal
 

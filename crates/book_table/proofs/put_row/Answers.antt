@@ -1,11 +1,9 @@
-use Prim.Native.Nat.{◌+◌, ◌-◌, ◌≤◌}
-use mathlib.Core.Path.{◌∙◌, ◌≡◌, refl, sym}
-use lib.ListN.{drop, length, length-set}
-use lib.Seq.{sets}
+use Prim.Native.Nat.{◌-◌}
+use mathlib.Core.Path.{◌∙◌, refl, sym}
+use lib.ListN.{length-set}
 use native.Mathlib.Nat.{add-zero}
 use native.Mathlib.Omega.{arith}
 use Rattle.octets_code.proofs.Loops.{sets_end, sets_next}
-use Rattle.entries.specs.Names.{longest_name}
 use Rattle.book_table.proofs.put_row.Goals as goal
 
 pub loop-j-init : goal.loop-j-init

@@ -1,12 +1,9 @@
 -- `book_table::put_row` meets its contract. The loop's invariant: to store what is left of the name's array gives what
 -- to store all of it at first gives. The measure is the number of bytes left.
 use Prim.Native.Nat.{◌+◌, ◌-◌, ◌≤◌}
-use mathlib.Core.Path.{◌∙◌, ◌≡◌, refl, sym}
-use lib.ListN.{drop, length, length-set}
+use mathlib.Core.Path.{◌≡◌}
+use lib.ListN.{drop, length}
 use lib.Seq.{sets}
-use native.Mathlib.Nat.{add-zero}
-use native.Mathlib.Omega.{arith}
-use Rattle.octets_code.proofs.Loops.{sets_end, sets_next}
 use Rattle.entries.specs.Names.{longest_name}
 use Rattle.book_table.proofs.put_row.Given as goal
 

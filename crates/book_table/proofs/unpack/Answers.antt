@@ -1,10 +1,9 @@
 use Prim.Native.Nat.{◌-◌, ◌≤◌}
-use lib.ListN.{length, take}
 use native.Mathlib.Omega.{arith}
 use borrow.Author.Rules.{rules}
 use Rattle.book_laws.proofs.Held.{held_few}
 use Rattle.book_read.proofs.Reading.{Given, read_inside, read_turn}
-use Rattle.book_table.proofs.Unpacking.{Unpacking, unpack_end, unpack_start, unpack_turn}
+use Rattle.book_table.proofs.Unpacking.{unpack_end, unpack_start, unpack_turn}
 use Rattle.book_table.proofs.unpack.Goals as goal
 
 pub records_at-at-requires : goal.records_at-at-requires

@@ -1,5 +1,4 @@
 -- `book_write::finish` meets its contract: the peaks are put, then the frame (proofs/Stores). No loop.
-use native.Mathlib.Omega.{arith}
 use Rattle.book_write.proofs.Stores.{book_finished}
 use Rattle.book_write.proofs.finish.Goals as goal
 

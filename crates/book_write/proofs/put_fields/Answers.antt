@@ -1,6 +1,4 @@
 -- `book_write::put_fields` meets its contract: the score and the offset (proofs/Stores). No loop.
-use native.Mathlib.Omega.{arith}
-use borrow.Author.Rules.{rules}
 use Rattle.book_write.proofs.Stores.{fields_put_lem}
 use Rattle.book_write.proofs.put_fields.Goals as goal
 

@@ -2,7 +2,6 @@
 -- No loop.
 use mathlib.Core.Path.{refl}
 use native.Mathlib.Omega.{arith}
-use borrow.Author.Rules.{rules}
 use Rattle.book_write.proofs.Stores.{given_put_lem}
 use Rattle.book_write.proofs.put_given.Goals as goal
 
@@ -10,9 +9,8 @@ pub overflow_add-result : goal.overflow_add-result
 overflow_add-result c = omega (arith, c.requires.near, c.ranges)
 
 pub returns : goal.returns
-returns c =
-    (
-      given_put_lem c.args.slot c.args.dst.now c.args.score c.args.coded.now c.put_fields.ensures
-          c.copy.ensures,
-      refl,
-    )
+returns c = (
+  given_put_lem c.args.slot c.args.dst.now c.args.score c.args.coded.now c.put_fields.ensures
+      c.copy.ensures,
+  refl,
+)

@@ -1,7 +1,5 @@
 -- `book_write::put_offset` meets its contract: a head's offset is stored, at another position nothing.
 -- No loop.
-use native.Mathlib.Omega.{arith}
-use borrow.Author.Tests.{not-false, not-true}
 use Rattle.book_write.specs.Writing.{put_offset}
 use Rattle.book_write.proofs.put_offset.Goals as goal
 

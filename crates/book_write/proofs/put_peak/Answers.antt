@@ -1,6 +1,5 @@
 -- `book_write::put_peak` meets its contract: the block's best, found between its ends, is stored at its place.
 -- No loop.
-use native.Mathlib.Omega.{arith}
 use Rattle.book_write.proofs.Peaks.{peak_stored}
 use Rattle.book_write.proofs.put_peak.Goals as goal
 

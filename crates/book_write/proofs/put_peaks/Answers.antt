@@ -1,8 +1,6 @@
 use Prim.Native.Nat.{◌-◌}
 use native.Mathlib.Omega.{arith}
-use Rattle.octets.specs.Lists.{ceil}
-use Rattle.book.specs.Book.{block_size}
-use Rattle.book_write.proofs.Peaks.{PeaksLeft, peaks_end, peaks_start_lem, peaks-turn}
+use Rattle.book_write.proofs.Peaks.{peaks_end, peaks_start_lem, peaks-turn}
 use Rattle.book_write.proofs.put_peaks.Goals as goal
 
 pub loop-j-init : goal.loop-j-init

@@ -1,10 +1,9 @@
 -- `book_write::put_peaks` meets its contract. The loop's invariant: to put the peaks that are left gives the whole
 -- result (proofs/Peaks). The measure is how many blocks are left.
 use Prim.Native.Nat.{◌-◌}
-use native.Mathlib.Omega.{arith}
 use Rattle.octets.specs.Lists.{ceil}
 use Rattle.book.specs.Book.{block_size}
-use Rattle.book_write.proofs.Peaks.{PeaksLeft, peaks_end, peaks_start_lem, peaks-turn}
+use Rattle.book_write.proofs.Peaks.{PeaksLeft}
 use Rattle.book_write.proofs.put_peaks.Given as goal
 
 abbrev pub invariant-loop-j : goal.invariant-loop-j

@@ -1,8 +1,7 @@
 use Prim.Native.Nat.{◌-◌}
 use mathlib.Core.Path.{refl}
 use native.Mathlib.Omega.{arith}
-use borrow.Author.Rules.{rules}
-use Rattle.completion_turn.proofs.Slots.{BestLeft, left_end, left_turn}
+use Rattle.completion_turn.proofs.Slots.{left_end, left_turn}
 use Rattle.completion_array.proofs.best_of.Goals as goal
 
 pub loop-i-init : goal.loop-i-init

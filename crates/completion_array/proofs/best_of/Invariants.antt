@@ -1,10 +1,7 @@
 -- `completion_array::best_of` meets its contract. The loop's invariant: the search goes on from the best so far
 -- (completion_turn/proofs/Slots). The measure is the number of slots left.
 use Prim.Native.Nat.{◌-◌}
-use mathlib.Core.Path.{refl}
-use native.Mathlib.Omega.{arith}
-use borrow.Author.Rules.{rules}
-use Rattle.completion_turn.proofs.Slots.{BestLeft, left_end, left_turn}
+use Rattle.completion_turn.proofs.Slots.{BestLeft}
 use Rattle.completion_array.proofs.best_of.Given as goal
 
 abbrev pub invariant-loop-i : goal.invariant-loop-i

@@ -11,7 +11,7 @@ use Rattle.book_laws.specs.Held.{Held}
 use Rattle.book_laws.proofs.Held.{held-valid}
 use Rattle.completion_turn.specs.Turns.{Going}
 use Rattle.octets.proofs.Lists.{length_mapped}
-use Rattle.completion_turn.proofs.Turning.{GoesOn, goes_end, goes_start, goes_turn, taken_inside, turned, turns_less}
+use Rattle.completion_turn.proofs.Turning.{goes_end, goes_start, goes_turn, taken_inside, turned, turns_less}
 use Rattle.completion_array.proofs.run.Goals as goal
 
 pub loop-p-init : goal.loop-p-init

@@ -1,11 +1,10 @@
 use Prim.Native.Nat.{◌*◌, ◌-◌}
 use mathlib.Core.Path.{◌∙◌}
-use lib.ListN.{get_or, length}
+use lib.ListN.{get_or}
 use native.Mathlib.Omega.{arith}
-use borrow.Author.Rules.{rules}
 use Rattle.octets.proofs.Stores.{part_bytes}
 use Rattle.entries.specs.Names.{longest_name}
-use Rattle.completion_book.proofs.Putting.{PutLeft, put_end, put_inside, put_room, put_start, put_turn}
+use Rattle.completion_book.proofs.Putting.{put_end, put_inside, put_room, put_start, put_turn}
 use Rattle.completion_book.proofs.Putting.{row_inside, row_name_lem, row_short}
 use Rattle.completion_book.proofs.put_entries.Goals as goal
 

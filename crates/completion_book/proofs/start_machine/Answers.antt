@@ -2,8 +2,7 @@
 -- No loop, so no invariant.
 use mathlib.Core.Bool.{true}
 use mathlib.Core.Path.{◌∙◌, ◌≡◌, sym}
-use borrow.Author.Rules.{rules}
-use borrow.Author.Tests.{eq-eqb, le-ltb, lt-ltb, ne_eqb, not-false, not-true}
+use borrow.Author.Tests.{eq-eqb, le-ltb, lt-ltb, ne_eqb}
 use Rattle.entries.specs.Names.{is_prefix}
 use Rattle.book_check.specs.Checked.{CheckedAs}
 use Rattle.book_check.proofs.Refusing.{passed, refused_first}

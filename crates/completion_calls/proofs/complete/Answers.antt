@@ -1,6 +1,5 @@
 -- `completion_calls::complete` meets its contract: its machine may run, what it holds at the end can be written, and
 -- what is written is the completion.
-use Rattle.std.proofs.Common.{subst}
 use Rattle.completion_calls.proofs.Running.{begun-runs, completes, writable}
 use Rattle.completion_calls.proofs.complete.Goals as goal
 

@@ -1,5 +1,5 @@
 -- `completion_slots::take_best` meets its contract: the best of the first n slots stands below n.
-use Rattle.std.proofs.Common.{◌<◌, arith, length}
+use Rattle.std.proofs.Common.{arith}
 use Rattle.completion_slots.proofs.Within.{best_within}
 use Rattle.completion_slots.proofs.take_best.Goals as goal
 

@@ -2,7 +2,6 @@
 -- No loop, so no invariant.
 use mathlib.Core.Path.{refl}
 use native.Mathlib.Omega.{arith}
-use borrow.Author.Rules.{rules}
 use Rattle.completion_turn.proofs.Ranges.{open_none, parts_are}
 use Rattle.completion_turn.proofs.parts_of.Goals as goal
 

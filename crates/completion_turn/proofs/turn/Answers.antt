@@ -2,7 +2,6 @@
 -- No loop, so no invariant.
 use mathlib.Core.Path.{refl}
 use native.Mathlib.Omega.{arith}
-use borrow.Author.Rules.{rules}
 use Rattle.completion_turn.specs.Turns.{kth, next}
 use Rattle.completion_turn.proofs.turn.Goals as goal
 

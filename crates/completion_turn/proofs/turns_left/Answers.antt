@@ -1,5 +1,4 @@
 -- `completion_turn::turns_left` meets its contract: its one test. No loop, so no invariant.
-use native.Mathlib.Omega.{arith}
 use borrow.Author.Tests.{eq-eqb, ne_eqb}
 use Rattle.completion_turn.proofs.turns_left.Goals as goal
 

@@ -1,6 +1,5 @@
 -- `convert_calls::convert` meets its contract: the two layouts go by byte 0. No loop, so no invariant.
 use mathlib.Core.Path.{◌∙◌, sym}
-use borrow.Author.Rules.{rules}
 use Rattle.answer.proofs.Answers.{answered_as}
 use Rattle.convert.proofs.Convert.{goes_back, goes_up}
 use Rattle.convert_calls.proofs.Layouts.{in_layouts}

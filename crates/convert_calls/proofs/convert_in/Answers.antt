@@ -4,8 +4,7 @@ use Prim.Native.Nat.{◌≤◌}
 use mathlib.Core.Path.{◌∙◌, sym}
 use lib.ListN.{length}
 use native.Mathlib.Omega.{arith}
-use borrow.Author.Rules.{rules}
-use borrow.Author.Tests.{leb-false, leb-true, not-false, not-true}
+use borrow.Author.Tests.{leb-false, leb-true}
 use Rattle.book.specs.Book.{image_in, in_book_in, read_in}
 use Rattle.book_laws.specs.Held.{HeldIn}
 use Rattle.book_check.proofs.Held.{checked-damaged, checked-held}

@@ -1,6 +1,5 @@
 -- `convert_write::fill` meets its contract: all entries are put, and the book is finished. No loop.
 use native.Mathlib.Omega.{arith}
-use borrow.Author.Rules.{rules}
 use Rattle.book.proofs.Size.{book_length_lem}
 use Rattle.book_laws.proofs.Held.{held_few, held_stored}
 use Rattle.convert_write.proofs.Whole.{filled}
@@ -10,11 +9,10 @@ pub pass-total-requires : goal.pass-total-requires
 pass-total-requires c = record { held = c.requires.0; enough = λ t. c.requires.1 }
 
 pub finish-requires : goal.finish-requires
-finish-requires c =
-    (
-      held_few c.requires.0,
-      omega (arith, c.pass-total.ensures.end, book_length_lem c.args.c.to _ (held_stored c.requires.0).ok),
-    )
+finish-requires c = (
+  held_few c.requires.0,
+  omega (arith, c.pass-total.ensures.end, book_length_lem c.args.c.to _ (held_stored c.requires.0).ok),
+)
 
 pub returns : goal.returns
 returns c =

@@ -1,6 +1,5 @@
 -- `convert_write::image_size` meets its contract: the pass that measures ends where the image does. No loop.
 use mathlib.Core.Bool.{false≢true}
-use borrow.Author.Rules.{rules}
 use Rattle.convert_write.proofs.image_size.Goals as goal
 
 pub pass-requires : goal.pass-requires

@@ -3,7 +3,7 @@ use mathlib.Core.Path.{sym}
 use native.Mathlib.Omega.{arith}
 use borrow.Author.Rules.{rules}
 use Rattle.book_laws.proofs.Held.{held_few}
-use Rattle.convert_write.proofs.Whole.{Going, going_end, going_ready, going_start, going_turn}
+use Rattle.convert_write.proofs.Whole.{going_end, going_ready, going_start, going_turn}
 use Rattle.convert_write.proofs.pass.Goals as goal
 
 pub records_at-next-requires : goal.records_at-next-requires

@@ -1,11 +1,7 @@
 -- `convert_write::pass` meets its contract. The loop's invariant: to pass the entries that are left gives what to pass
 -- all of them gives (proofs/Whole). The measure is the number of entries left.
 use Prim.Native.Nat.{◌-◌}
-use mathlib.Core.Path.{sym}
-use native.Mathlib.Omega.{arith}
-use borrow.Author.Rules.{rules}
-use Rattle.book_laws.proofs.Held.{held_few}
-use Rattle.convert_write.proofs.Whole.{Going, going_end, going_ready, going_start, going_turn}
+use Rattle.convert_write.proofs.Whole.{Going}
 use Rattle.convert_write.proofs.pass.Given as goal
 
 abbrev pub invariant-loop-i : goal.invariant-loop-i

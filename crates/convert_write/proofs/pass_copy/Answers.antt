@@ -4,7 +4,6 @@ use Prim.Native.Nat.{◌+◌, ◌-◌, ◌≤◌}
 use mathlib.Core.Path.{◌≡◌, ap}
 use lib.ListN.{drop, length, take}
 use native.Mathlib.Omega.{arith}
-use borrow.Author.Rules.{rules}
 use Rattle.entries.specs.Names.{longest_name}
 use Rattle.book_laws.proofs.Held.{held_few}
 use Rattle.convert_write.proofs.Passing.{given_passed, read_ahead, ready_inside}

@@ -1,6 +1,5 @@
 -- `edit_calls::empty` meets its contract: refused below 7 bytes, else the book of no entries stands at the front.
 -- No loop, so no invariant.
-use borrow.Author.Rules.{rules}
 use Rattle.edit_calls.proofs.Nothing.{nothing-refused, nothing_written}
 use Rattle.edit_calls.proofs.empty.Goals as goal
 

@@ -5,7 +5,6 @@ use mathlib.Core.Path.{◌∙◌, ◌≡◌, sym}
 use mathlib.Core.Bool.{true}
 use mathlib.Core.List.{[]}
 use native.Mathlib.Omega.{arith}
-use borrow.Author.Tests.{not-false, not-true}
 use Rattle.entries.specs.Names.{is_name}
 use Rattle.book_laws.specs.Held.{Held}
 use Rattle.edit_calls.proofs.Editing.{held_low, held-set, new_asked, new_set, set_full, set-refused, set_unnamed}

@@ -4,8 +4,6 @@ use borrow.Enum.Refused.{opened}
 use mathlib.Core.Path.{◌∙◌, ◌≡◌, sym}
 use mathlib.Core.Bool.{true}
 use mathlib.Core.List.{[]}
-use borrow.Author.Rules.{rules}
-use borrow.Author.Tests.{not-false, not-true}
 use Rattle.entries.specs.Names.{is_name}
 use Rattle.book_laws.specs.Held.{Held}
 use Rattle.lookup_find.proofs.Finding.{place_low}

@@ -1,5 +1,5 @@
 -- `edit_copy::behind_gone` meets its contract: nothing, or the header that was read, changed. No loop.
-use Prim.Native.Nat.{◌+◌, ◌-◌, ◌≤◌, min, ℕ}
+use Prim.Native.Nat.{◌+◌, ◌-◌, ◌≤◌, min}
 use lib.ListN.{get_or, length}
 use native.Mathlib.Omega.{arith}
 use Rattle.entries.specs.Names.{longest_name}
@@ -32,11 +32,11 @@ pub overflow_add-all : goal.overflow_add-all
 overflow_add-all c =
     let inside : (c.args.at + 2 + c.args.own) + 2 ≤ length c.args.book.now = c.requires.inside c.if-end-next.false in
     omega (
-  arith,
-  inside,
-  c.requires.near,
-  c.requires.short,
-)
+      arith,
+      inside,
+      c.requires.near,
+      c.requires.short,
+    )
 
 pub bounds-book-next-2 : goal.bounds-book-next-2
 bounds-book-next-2 c =

@@ -1,6 +1,5 @@
 -- `edit_copy::behind_size` meets its contract: two runs, and a header where there is one. No loop.
 use mathlib.Core.Path.{refl}
-use native.Mathlib.Omega.{arith}
 use Rattle.edit_copy.proofs.Puts.{size_with, size_without}
 use Rattle.edit_copy.proofs.behind_size.Goals as goal
 

@@ -2,7 +2,6 @@
 --
 use Prim.Native.Nat.{◌+◌, ◌≤◌}
 use native.Mathlib.Omega.{arith}
-use borrow.Author.Rules.{rules}
 use Rattle.book_laws.proofs.Held.{held_few}
 use Rattle.edit_copy.proofs.Plans.{at_small, left_within, new_inside, new_room, new_short, planned_with}
 use Rattle.edit_copy.proofs.Plans.{records_small}
@@ -24,12 +23,12 @@ overflow_sub-start c = omega (arith, c.records_at-old.ensures, front_low c.requi
 
 pub overflow_add-start : goal.overflow_add-start
 overflow_add-start c =
-    let far : c.records_at-new.result + c.args.s.at ≤ 59790 = let a = c.requires.sought in omega ( arith, c.records_at-new.ensures, at_small a, records_small a (c.args.n + 1) (omega (arith, c.requires.room)), ) in
+    let far : c.records_at-new.result + c.args.s.at ≤ 59790 = let a = c.requires.sought in omega (arith, c.records_at-new.ensures, at_small a, records_small a (c.args.n + 1) (omega (arith, c.requires.room))) in
     omega (arith, far)
 
 pub overflow_add-at : goal.overflow_add-at
 overflow_add-at c =
-    let far : c.records_at-new.result + c.args.s.at ≤ 59790 = let a = c.requires.sought in omega ( arith, c.records_at-new.ensures, at_small a, records_small a (c.args.n + 1) (omega (arith, c.requires.room)), ) in
+    let far : c.records_at-new.result + c.args.s.at ≤ 59790 = let a = c.requires.sought in omega (arith, c.records_at-new.ensures, at_small a, records_small a (c.args.n + 1) (omega (arith, c.requires.room))) in
     omega (arith, far)
 
 pub overflow_sub-at : goal.overflow_sub-at
@@ -37,7 +36,7 @@ overflow_sub-at c = omega (arith, left_within c.requires.sought)
 
 pub overflow_add-at-2 : goal.overflow_add-at-2
 overflow_add-at-2 c =
-    let far : c.records_at-new.result + c.args.s.at ≤ 59790 = let a = c.requires.sought in omega ( arith, c.records_at-new.ensures, at_small a, records_small a (c.args.n + 1) (omega (arith, c.requires.room)), ) in
+    let far : c.records_at-new.result + c.args.s.at ≤ 59790 = let a = c.requires.sought in omega (arith, c.records_at-new.ensures, at_small a, records_small a (c.args.n + 1) (omega (arith, c.requires.room))) in
     omega (arith, far, new_short c.requires.sought c.requires)
 
 pub behind_new-behind-requires : goal.behind_new-behind-requires
@@ -49,7 +48,7 @@ behind_size-requires c =
 
 pub overflow_add-total : goal.overflow_add-total
 overflow_add-total c =
-    let far : c.records_at-new.result + c.args.s.at ≤ 59790 = let a = c.requires.sought in omega ( arith, c.records_at-new.ensures, at_small a, records_small a (c.args.n + 1) (omega (arith, c.requires.room)), ) in
+    let far : c.records_at-new.result + c.args.s.at ≤ 59790 = let a = c.requires.sought in omega (arith, c.records_at-new.ensures, at_small a, records_small a (c.args.n + 1) (omega (arith, c.requires.room))) in
     let a = c.requires.sought in
     let i = new_inside a c.requires c.read_u32-end.ensures c.behind_new-behind.ensures in
     omega (

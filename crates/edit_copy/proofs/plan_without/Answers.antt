@@ -2,7 +2,6 @@
 --
 use Prim.Native.Nat.{◌+◌, ◌-◌, ◌<◌, ◌≤◌}
 use native.Mathlib.Omega.{arith}
-use borrow.Author.Rules.{rules}
 use Rattle.book_laws.proofs.Held.{held_few}
 use Rattle.edit_copy.proofs.Plans.{at_small, gone-inside, gone_room, left_within, planned_without, records_small}
 use Rattle.edit_copy.proofs.Plans.{end_read}
@@ -26,7 +25,7 @@ overflow_sub-start c = omega (arith, c.records_at-old.ensures, front_low c.requi
 
 pub overflow_add-start : goal.overflow_add-start
 overflow_add-start c =
-    let far : c.records_at-new.result + c.args.s.at ≤ 59790 = let a = c.requires.sought in omega ( arith, c.records_at-new.ensures, at_small a, records_small a (c.args.n - 1) (omega (arith, held_few a.held)), ) in
+    let far : c.records_at-new.result + c.args.s.at ≤ 59790 = let a = c.requires.sought in omega (arith, c.records_at-new.ensures, at_small a, records_small a (c.args.n - 1) (omega (arith, held_few a.held))) in
     omega (arith, far)
 
 pub overflow_sub-name : goal.overflow_sub-name
@@ -43,7 +42,7 @@ behind_size-requires c =
 
 pub overflow_add-total : goal.overflow_add-total
 overflow_add-total c =
-    let far : c.records_at-new.result + c.args.s.at ≤ 59790 = let a = c.requires.sought in omega ( arith, c.records_at-new.ensures, at_small a, records_small a (c.args.n - 1) (omega (arith, held_few a.held)), ) in
+    let far : c.records_at-new.result + c.args.s.at ≤ 59790 = let a = c.requires.sought in omega (arith, c.records_at-new.ensures, at_small a, records_small a (c.args.n - 1) (omega (arith, held_few a.held))) in
     let i = gone-inside c.requires.sought c.requires c.read_u32-end.ensures c.behind_gone-behind.ensures in
     omega (arith, far, c.behind_size.ensures, header_most c.behind_gone-behind.result, i.1, i.2)
 

@@ -1,7 +1,6 @@
 -- `edit_copy::put_behind` meets its contract: the header and the two runs, one behind the other (proofs/Puts). No loop.
 --
 use native.Mathlib.Omega.{arith}
-use borrow.Author.Rules.{rules}
 use Rattle.edit_copy.proofs.Puts.{behind_put, header_most}
 use Rattle.edit_copy.proofs.put_behind.Goals as goal
 

@@ -1,6 +1,4 @@
 -- `edit_copy::put_header` meets its contract: nothing, or two bytes. No loop.
-use native.Mathlib.Omega.{arith}
-use borrow.Author.Rules.{rules}
 use borrow.Author.Tests.{not-false, not-true}
 use Rattle.edit_copy.proofs.Puts.{header_left, header_stored}
 use Rattle.edit_copy.proofs.put_header.Goals as goal

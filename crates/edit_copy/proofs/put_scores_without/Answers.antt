@@ -1,6 +1,5 @@
 -- `edit_copy::put_scores_without` meets its contract: two stores, one behind the other (proofs/Puts). No loop.
 use native.Mathlib.Omega.{arith}
-use borrow.Author.Rules.{rules}
 use Rattle.edit_copy.proofs.Puts.{scores-without}
 use Rattle.edit_copy.proofs.put_scores_without.Goals as goal
 

@@ -2,7 +2,6 @@
 -- then stored run by run and finished (proofs/Edits). No loop.
 use Prim.Native.Nat.{◌+◌, ◌<◌, ◌≤◌}
 use native.Mathlib.Omega.{arith}
-use borrow.Author.Rules.{rules}
 use Rattle.book_laws.proofs.Held.{held_few}
 use Rattle.edit_copy.proofs.Edits.{plan_room, without_most, without_stored, without_total}
 use Rattle.edit_copy.proofs.Plans.{at-inside, image_inside, scores-inside}

@@ -1,7 +1,5 @@
 -- `entries_check::half_after` meets its contract: the half that is open is closed first. No loop.
 use mathlib.Core.Path.{◌∙◌, sym}
-use native.Mathlib.Omega.{arith}
-use borrow.Author.Tests.{not-false, not-true}
 use Rattle.entries_check.proofs.Signs.{part_broken, part_closed, part_none}
 use Rattle.entries_check.proofs.half_after.Goals as goal
 

@@ -1,11 +1,8 @@
-use Prim.Native.Nat.{◌+◌, ◌-◌, ◌<◌, ◌≤◌, ℕ}
+use Prim.Native.Nat.{◌+◌, ◌-◌, ◌≤◌}
 use mathlib.Core.Path.{◌∙◌, ◌≡◌, sym}
 use mathlib.Core.Bool.{false}
-use mathlib.Core.List.{List}
-use lib.ListN.{drop, get_or, length}
+use lib.ListN.{drop, length}
 use native.Mathlib.Omega.{arith}
-use borrow.Author.Tests.{not-false, not-true}
-use Rattle.entries.specs.Names.{is_plain}
 use Rattle.entries_laws.specs.Signs.{half_after, no_half}
 use Rattle.entries_check.proofs.Signs.{no_sign, pair_next, signs_end}
 use Rattle.entries_check.proofs.half_from.Goals as goal
@@ -17,12 +14,11 @@ pub loop-i-init : goal.loop-i-init
 loop-i-init c = let p = c.past_plain-i.ensures in (p.within, sym p.half, p.stops)
 
 pub cut_at-requires : goal.cut_at-requires
-cut_at-requires c =
-    (
-      omega arith,
-      no_sign (c.args.w.now) c.loop-i.i (omega arith) (c.loop-i.invariant.2 (omega arith))
-          (sym c.pair_at.ensures ∙ c.if-not-pair_at.true),
-    )
+cut_at-requires c = (
+  omega arith,
+  no_sign (c.args.w.now) c.loop-i.i (omega arith) (c.loop-i.invariant.2 (omega arith))
+      (sym c.pair_at.ensures ∙ c.if-not-pair_at.true),
+)
 
 pub returns-then-not-pair_at : goal.returns-then-not-pair_at
 returns-then-not-pair_at c = c.cut_at.ensures ∙ c.loop-i.invariant.1

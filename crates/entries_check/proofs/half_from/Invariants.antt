@@ -1,16 +1,12 @@
 -- `entries_check::half_from` meets its contract. The loop's invariant: the same half is open behind the signs from `i`
 -- on as behind those from the start on, and no sign of one byte stands at `i`. The measure is what is left of the
 -- length.
-use Prim.Native.Nat.{◌+◌, ◌-◌, ◌<◌, ◌≤◌, ℕ}
-use mathlib.Core.Path.{◌∙◌, ◌≡◌, sym}
+use Prim.Native.Nat.{◌-◌, ◌<◌, ◌≤◌}
+use mathlib.Core.Path.{◌≡◌}
 use mathlib.Core.Bool.{false}
-use mathlib.Core.List.{List}
 use lib.ListN.{drop, get_or, length}
-use native.Mathlib.Omega.{arith}
-use borrow.Author.Tests.{not-false, not-true}
 use Rattle.entries.specs.Names.{is_plain}
 use Rattle.entries_laws.specs.Signs.{half_after, no_half}
-use Rattle.entries_check.proofs.Signs.{no_sign, pair_next, signs_end}
 use Rattle.entries_check.proofs.half_from.Given as goal
 
 abbrev pub invariant-loop-i : goal.invariant-loop-i

@@ -1,5 +1,4 @@
 -- `entries_check::is_plain` meets its contract. No loop.
-use lib.Dec.{leb}
 use borrow.Author.Tests.{le-leb, lt-leb}
 use Rattle.entries_check.proofs.is_plain.Goals as goal
 

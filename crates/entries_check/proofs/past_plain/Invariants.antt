@@ -1,12 +1,9 @@
 -- `entries_check::past_plain` meets its contract. The loop's invariant: signs of one byte alone stand from the start to
 -- `i`. The measure is what is left of the length.
 use Prim.Native.Nat.{◌-◌, ◌≤◌}
-use mathlib.Core.Path.{◌∙◌, ◌≡◌, refl, sym}
+use mathlib.Core.Path.{◌≡◌}
 use lib.ListN.{drop, length}
-use native.Mathlib.Omega.{arith}
-use borrow.Author.Tests.{not-false, not-true}
 use Rattle.entries_laws.specs.Signs.{half_after, no_half}
-use Rattle.entries_check.proofs.Signs.{plain_next}
 use Rattle.entries_check.proofs.past_plain.Given as goal
 
 abbrev pub invariant-loop-i : goal.invariant-loop-i

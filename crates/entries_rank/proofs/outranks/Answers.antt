@@ -1,6 +1,5 @@
 -- `entries_rank::outranks` meets its contract: unequal scores decide, else the names in byte order.
 -- No loop, so no invariant.
-use borrow.Author.Rules.{rules}
 use borrow.Author.Tests.{eq-eqb, ne_eqb}
 use Rattle.entries_rank.proofs.outranks.Goals as goal
 

@@ -1,7 +1,6 @@
 -- `frame_code::check_frame` meets its contract: each return gives the test that failed, or all of them.
 -- No loop, so no invariant.
 use native.Mathlib.Omega.{arith}
-use borrow.Author.Rules.{rules}
 use Rattle.frame_laws.proofs.Test.{frame_cut, frame_many, frame_other, frame_short}
 use Rattle.frame_code.proofs.Checked.{frame_none, frame_some}
 use Rattle.frame_code.proofs.check_frame.Goals as goal

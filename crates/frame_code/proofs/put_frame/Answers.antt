@@ -1,5 +1,4 @@
 -- `frame_code::put_frame` meets its contract: the three stores, one after the other. No loop.
-use native.Mathlib.Omega.{arith}
 use Rattle.frame_code.proofs.Stored.{frame_put}
 use Rattle.frame_code.proofs.put_frame.Goals as goal
 

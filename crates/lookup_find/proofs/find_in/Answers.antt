@@ -1,6 +1,5 @@
 -- `lookup_find::find_in` meets its contract: the place with its score, or none for a gap.
 -- No loop, so no invariant.
-use borrow.Author.Rules.{rules}
 use borrow.Author.Tests.{not-false, not-true}
 use Rattle.lookup_find.proofs.Finding.{found_gap, found_there}
 use Rattle.lookup_find.proofs.find_in.Goals as goal

@@ -2,7 +2,6 @@
 -- No loop, so no invariant.
 use mathlib.Core.Path.{◌∙◌}
 use native.Mathlib.Omega.{arith}
-use borrow.Author.Rules.{rules}
 use Rattle.book_laws.specs.Held.{Held}
 use Rattle.lookup_head_calls.proofs.Companion.{head_none, head_refused, head_some}
 use Rattle.lookup_head_calls.proofs.head.Goals as goal

@@ -4,8 +4,6 @@ use mathlib.Core.Path.{◌∙◌, ◌≡◌, ap}
 use mathlib.Core.Bool.{true}
 use lib.ListN.{length}
 use native.Mathlib.Omega.{arith}
-use borrow.Author.Rules.{rules}
-use borrow.Author.Tests.{not-false, not-true}
 use Rattle.answer.specs.Answers.{given}
 use Rattle.book_laws.specs.Held.{Held}
 use Rattle.lookup_head_calls.proofs.Companion.{length_none, length-refused, length_some}

@@ -1,7 +1,6 @@
 -- `lookup_name_calls::find` meets its contract: the checks in the table's order, then the finding.
 -- No loop, so no invariant.
 use mathlib.Core.Path.{◌∙◌, ap, sym}
-use borrow.Author.Tests.{not-false, not-true}
 use Rattle.answer.specs.Answers.{given}
 use Rattle.lookup.specs.Lookups.{find}
 use Rattle.book_check.proofs.Refusing.{passed}

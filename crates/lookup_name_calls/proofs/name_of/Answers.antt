@@ -3,8 +3,6 @@
 use borrow.Enum.Refused.{opened}
 use mathlib.Core.Path.{◌∙◌, ◌≡◌, ap, sym}
 use mathlib.Core.Bool.{true}
-use borrow.Author.Rules.{rules}
-use borrow.Author.Tests.{not-false, not-true}
 use Rattle.entries.specs.Names.{is_name}
 use Rattle.entries.proofs.Valid.{name_length}
 use Rattle.answer.specs.Answers.{given, writing, writing_image}

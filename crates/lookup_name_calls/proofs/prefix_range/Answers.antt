@@ -1,8 +1,6 @@
 -- `lookup_name_calls::prefix_range` meets its contract: the matches lie between the prefix's two places.
 -- No loop, so no invariant.
 use mathlib.Core.Path.{◌∙◌, sym}
-use native.Mathlib.Omega.{arith}
-use borrow.Author.Tests.{not-false, not-true}
 use Rattle.lookup.specs.Lookups.{prefix_range}
 use Rattle.book_check.proofs.Refusing.{passed}
 use Rattle.lookup_name_calls.proofs.Ranges.{span_none, span_some}

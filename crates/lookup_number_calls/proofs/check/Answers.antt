@@ -1,7 +1,6 @@
 -- `lookup_number_calls::check` meets its contract: the check's refusal, or its entries and the length that the image
 -- says.
 -- No loop, so no invariant.
-use borrow.Author.Rules.{rules}
 use Rattle.book.proofs.Checks.{read_not_old}
 use Rattle.book_laws.specs.Held.{Held}
 use Rattle.lookup.specs.Lookups.{check_book}

@@ -1,7 +1,6 @@
 -- `merge_calls::measure` meets its contract: a pass that stores nothing has room in any buffer (proofs/Whole).
 -- No loop.
 use native.Mathlib.Omega.{arith}
-use borrow.Author.Rules.{rules}
 use Rattle.merge_calls.proofs.Whole.{measure_room}
 use Rattle.merge_calls.proofs.measure.Goals as goal
 

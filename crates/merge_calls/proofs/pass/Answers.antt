@@ -1,16 +1,14 @@
-use Prim.Native.Nat.{◌-◌, ◌<◌, ◌≤◌, ℕ}
+use Prim.Native.Nat.{◌-◌, ◌<◌, ◌≤◌}
 use mathlib.Core.Path.{◌∙◌, ◌≡◌, sym}
 use mathlib.Core.Bool.{true}
-use mathlib.Core.List.{List}
 use lib.ListN.{length, take}
 use lib.Seq.{length-take-le}
 use native.Mathlib.Omega.{arith}
 use borrow.Author.Rules.{rules}
 use Rattle.book.specs.Book.{today}
 use Rattle.entries.specs.Names.{longest_name}
-use Rattle.book_laws.specs.Cursor.{cursor_of}
 use Rattle.merge_calls.specs.Merging.{goes_on}
-use Rattle.merge_calls.proofs.Turns.{PassLeft, left_below, left_end, left_fits, left_start, left_turn}
+use Rattle.merge_calls.proofs.Turns.{left_below, left_end, left_fits, left_start, left_turn}
 use Rattle.merge_calls.proofs.pass.Goals as goal
 
 pub first_name-x-requires : goal.first_name-x-requires
@@ -20,12 +18,11 @@ pub first_name-y-requires : goal.first_name-y-requires
 first_name-y-requires c = (c.requires.both.other, search rules)
 
 pub loop-l-init : goal.loop-l-init
-loop-l-init c =
-    (
-      left_start c.requires _ c.first_name-x.ensures c.first_name-y.ensures,
-      search rules,
-      search rules,
-    )
+loop-l-init c = (
+  left_start c.requires _ c.first_name-x.ensures c.first_name-y.ensures,
+  search rules,
+  search rules,
+)
 
 pub slice_bounds-next_entry-end : goal.slice_bounds-next_entry-end
 slice_bounds-next_entry-end c = sym c.loop-l.invariant.0.of_first.long

@@ -1,19 +1,12 @@
 -- `merge_calls::pass` meets its contract. The loop's invariant: to pass the entries that are left gives what to pass
 -- all of them gives (proofs/Turns), and the arrays that are lent stay 48 bytes long. The measure is the number of
 -- entries that may still be passed.
-use Prim.Native.Nat.{◌-◌, ◌<◌, ◌≤◌, ℕ}
-use mathlib.Core.Path.{◌∙◌, ◌≡◌, sym}
-use mathlib.Core.Bool.{true}
-use mathlib.Core.List.{List}
-use lib.ListN.{length, take}
-use lib.Seq.{length-take-le}
-use native.Mathlib.Omega.{arith}
-use borrow.Author.Rules.{rules}
-use Rattle.book.specs.Book.{today}
+use Prim.Native.Nat.{◌-◌}
+use mathlib.Core.Path.{◌≡◌}
+use lib.ListN.{length}
 use Rattle.entries.specs.Names.{longest_name}
 use Rattle.book_laws.specs.Cursor.{cursor_of}
-use Rattle.merge_calls.specs.Merging.{goes_on}
-use Rattle.merge_calls.proofs.Turns.{PassLeft, left_below, left_end, left_fits, left_start, left_turn}
+use Rattle.merge_calls.proofs.Turns.{PassLeft}
 use Rattle.merge_calls.proofs.pass.Given as goal
 
 abbrev pub invariant-loop-l : goal.invariant-loop-l

@@ -5,7 +5,6 @@ use Prim.Native.Nat.{◌+◌, ◌≤◌}
 use mathlib.Core.Path.{◌∙◌, ◌≡◌}
 use lib.ListN.{length}
 use native.Mathlib.Omega.{arith}
-use borrow.Author.Rules.{rules}
 use Rattle.book.specs.Book.{book_image, records_at, today}
 use Rattle.book_write.proofs.Reports.{whole_refused, whole_written}
 use Rattle.merge.specs.Joined.{merged_entries}

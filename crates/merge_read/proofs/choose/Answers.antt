@@ -1,6 +1,5 @@
 -- `merge_read::choose` meets its contract: the name is copied to the front, and the score is read.
 -- No loop.
-use borrow.Author.Rules.{rules}
 use Rattle.book_write.proofs.Calls.{name_copied}
 use Rattle.merge_read.proofs.choose.Goals as goal
 

@@ -4,8 +4,6 @@ use Prim.Native.Nat.{◌<◌}
 use mathlib.Core.Path.{◌≡◌}
 use mathlib.Core.Bool.{true}
 use native.Mathlib.Omega.{arith}
-use borrow.Author.Rules.{rules}
-use borrow.Author.Tests.{not-false, not-true}
 use Rattle.book_laws.proofs.Held.{held_few}
 use Rattle.merge_read.proofs.move_on.Goals as goal
 

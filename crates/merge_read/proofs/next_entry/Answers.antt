@@ -2,7 +2,6 @@
 -- (proofs/Turning). No loop.
 use mathlib.Core.Path.{sym}
 use native.Mathlib.Omega.{arith}
-use borrow.Author.Rules.{rules}
 use Rattle.merge_read.proofs.Turning.{due_low, loaded_few, loaded_fits, loaded_short, loaded_size, turned}
 use Rattle.merge_read.proofs.next_entry.Goals as goal
 

@@ -2,7 +2,6 @@
 -- No loop.
 use mathlib.Core.Path.{refl}
 use native.Mathlib.Omega.{arith}
-use borrow.Author.Rules.{rules}
 use Rattle.book_read.proofs.Reading.{Given}
 use Rattle.merge_read.proofs.Loading.{loaded_given, loaded_inside, loaded_none, loaded_read}
 use Rattle.merge_read.proofs.next_name.Goals as goal

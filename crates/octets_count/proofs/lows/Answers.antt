@@ -1,9 +1,8 @@
-use Prim.Native.Nat.{◌-◌, ◌≤◌}
-use mathlib.Core.Path.{◌∙◌, ◌≡◌, ap, sym}
-use lib.ListN.{length, take, drop}
+use Prim.Native.Nat.{◌≤◌}
+use mathlib.Core.Path.{◌∙◌, ap, sym}
+use lib.ListN.{drop}
 use lib.Seq.{take_all}
 use native.Mathlib.Omega.{arith}
-use borrow.Author.Rules.{rules}
 use Rattle.octets_count.specs.Counts.{low_count, stretch}
 use Rattle.octets_count.proofs.Laws.{low_both, low_front, low_more, low_none}
 use Rattle.octets_count.proofs.lows.Goals as goal

@@ -1,13 +1,9 @@
 -- `octets_count::lows` meets its contract. The invariant of both loops: the count is that of the first i bytes, and at
 -- most i. The measure is what is left of the length.
 use Prim.Native.Nat.{◌-◌, ◌≤◌}
-use mathlib.Core.Path.{◌∙◌, ◌≡◌, ap, sym}
-use lib.ListN.{length, take, drop}
-use lib.Seq.{take_all}
-use native.Mathlib.Omega.{arith}
-use borrow.Author.Rules.{rules}
-use Rattle.octets_count.specs.Counts.{low_count, stretch}
-use Rattle.octets_count.proofs.Laws.{low_both, low_front, low_more, low_none}
+use mathlib.Core.Path.{◌≡◌}
+use lib.ListN.{length, take}
+use Rattle.octets_count.specs.Counts.{low_count}
 use Rattle.octets_count.proofs.lows.Given as goal
 
 abbrev pub invariant-loop-i : goal.invariant-loop-i

@@ -1,10 +1,8 @@
-use Prim.Native.Nat.{◌-◌, ◌≤◌}
 use mathlib.Core.Path.{◌≡◌, ap, sym}
-use lib.ListN.{drop, length, length-drop, take}
+use lib.ListN.{drop, length-drop}
 use lib.Seq.{get_or-drop}
 use native.Mathlib.Omega.{arith}
-use borrow.Author.Rules.{rules}
-use Rattle.octets_count.specs.Counts.{low_count, low_of, stretch}
+use Rattle.octets_count.specs.Counts.{low_of, stretch}
 use Rattle.octets_count.proofs.Laws.{low_more, low_none}
 use Rattle.octets_count.proofs.lows_of_stretch.Goals as goal
 

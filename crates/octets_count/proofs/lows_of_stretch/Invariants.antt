@@ -1,13 +1,9 @@
 -- `octets_count::lows_of_stretch` meets its contract. The loop's invariant: the count is that of the stretch's first j
 -- bytes, and at most j. The measure is how many are left.
 use Prim.Native.Nat.{◌-◌, ◌≤◌}
-use mathlib.Core.Path.{◌≡◌, ap, sym}
-use lib.ListN.{drop, length, length-drop, take}
-use lib.Seq.{get_or-drop}
-use native.Mathlib.Omega.{arith}
-use borrow.Author.Rules.{rules}
-use Rattle.octets_count.specs.Counts.{low_count, low_of, stretch}
-use Rattle.octets_count.proofs.Laws.{low_more, low_none}
+use mathlib.Core.Path.{◌≡◌}
+use lib.ListN.{drop, take}
+use Rattle.octets_count.specs.Counts.{low_count, stretch}
 use Rattle.octets_count.proofs.lows_of_stretch.Given as goal
 
 abbrev pub invariant-loop-j : goal.invariant-loop-j

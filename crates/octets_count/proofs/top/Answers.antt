@@ -1,9 +1,7 @@
-use Prim.Native.Nat.{◌-◌, ◌<◌, ◌≤◌, ℕ}
 use lib.Dec.{ltb}
-use lib.ListN.{get_or-eq_default, get_or, length}
+use lib.ListN.{get_or-eq_default, length}
 use native.Mathlib.Omega.{arith}
 use borrow.Author.Count.{below_more}
-use borrow.Author.Rules.{rules}
 use borrow.Author.Tests.{ltb-false, ltb-true}
 use Rattle.octets.proofs.Tests.{by_test}
 use Rattle.octets_count.proofs.top.Goals as goal

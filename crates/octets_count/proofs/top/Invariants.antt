@@ -1,13 +1,7 @@
 -- `octets_count::top` meets its contract. The loop's invariant: no byte before i is over the largest. The measure is
 -- what is left of the length.
 use Prim.Native.Nat.{◌-◌, ◌<◌, ◌≤◌, ℕ}
-use lib.Dec.{ltb}
-use lib.ListN.{get_or-eq_default, get_or, length}
-use native.Mathlib.Omega.{arith}
-use borrow.Author.Count.{below_more}
-use borrow.Author.Rules.{rules}
-use borrow.Author.Tests.{ltb-false, ltb-true}
-use Rattle.octets.proofs.Tests.{by_test}
+use lib.ListN.{get_or, length}
 use Rattle.octets_count.proofs.top.Given as goal
 
 abbrev pub invariant-loop-i : goal.invariant-loop-i

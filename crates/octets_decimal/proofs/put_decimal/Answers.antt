@@ -1,7 +1,6 @@
 use lib.ListN.{length-set}
 use native.Mathlib.Omega.{arith}
-use borrow.Author.Rules.{rules}
-use Rattle.octets_decimal.proofs.Digits.{Numbering, number_end, number_low, number_on, number_start}
+use Rattle.octets_decimal.proofs.Digits.{number_end, number_low, number_on, number_start}
 use Rattle.octets_decimal.proofs.put_decimal.Goals as goal
 
 pub loop-rest-init : goal.loop-rest-init

@@ -1,9 +1,6 @@
 -- `octets_decimal::put_decimal` meets its contract. The loop's invariant: the digits of what is left, and those put in,
 -- are the number's. The measure is what is left of the number.
-use lib.ListN.{length-set}
-use native.Mathlib.Omega.{arith}
-use borrow.Author.Rules.{rules}
-use Rattle.octets_decimal.proofs.Digits.{Numbering, number_end, number_low, number_on, number_start}
+use Rattle.octets_decimal.proofs.Digits.{Numbering}
 use Rattle.octets_decimal.proofs.put_decimal.Given as goal
 
 abbrev pub invariant-loop-rest : goal.invariant-loop-rest

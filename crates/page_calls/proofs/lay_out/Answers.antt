@@ -4,7 +4,6 @@ use mathlib.Core.Path.{◌∙◌, ◌≡◌, ap, sym}
 use lib.ListN.{length}
 use lib.Seq.{length-take-le}
 use native.Mathlib.Omega.{arith}
-use borrow.Author.Rules.{rules}
 use Rattle.octets.specs.Octets.{overwrite}
 use Rattle.book_check.proofs.FromBook.{from_no_room, from_whole}
 use Rattle.book.specs.Book.{in_book}

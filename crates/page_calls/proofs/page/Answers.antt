@@ -1,6 +1,5 @@
 -- `page_calls::page` meets its contract: a checked book laid out, or the refusal that applies.
 -- No loop, so no invariant.
-use borrow.Author.Rules.{rules}
 use Rattle.book_check.proofs.FromBook.{from_refused}
 use Rattle.page.specs.Page.{page_image, write_page}
 use Rattle.page_calls.proofs.page.Goals as goal

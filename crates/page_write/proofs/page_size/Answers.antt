@@ -1,8 +1,6 @@
 use Prim.Native.Nat.{◌-◌}
-use lib.ListN.{length}
 use native.Mathlib.Omega.{arith}
-use borrow.Author.Rules.{rules}
-use Rattle.page_write.proofs.Writing.{Counting, count_end, count_on, count_start}
+use Rattle.page_write.proofs.Writing.{count_end, count_on, count_start}
 use Rattle.page_write.proofs.page_size.Goals as goal
 
 pub loop-i-init : goal.loop-i-init

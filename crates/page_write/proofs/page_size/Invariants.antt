@@ -2,9 +2,7 @@
 -- all of them. The measure is the number of names left.
 use Prim.Native.Nat.{◌-◌}
 use lib.ListN.{length}
-use native.Mathlib.Omega.{arith}
-use borrow.Author.Rules.{rules}
-use Rattle.page_write.proofs.Writing.{Counting, count_end, count_on, count_start}
+use Rattle.page_write.proofs.Writing.{Counting}
 use Rattle.page_write.proofs.page_size.Given as goal
 
 abbrev pub invariant-loop-i : goal.invariant-loop-i

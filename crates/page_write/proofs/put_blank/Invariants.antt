@@ -1,13 +1,10 @@
 -- `page_write::put_blank` meets its contract. The loop's invariant: the spaces left, stored now, make the line blank.
 -- The measure is the number of columns left.
 use Prim.Native.Nat.{◌+◌, ◌-◌, ◌≤◌}
-use mathlib.Core.Path.{◌∙◌, ◌≡◌, refl}
-use lib.ListN.{length, length-set}
+use mathlib.Core.Path.{◌≡◌}
+use lib.ListN.{length}
 use lib.Seq.{sets}
-use native.Mathlib.Omega.{arith}
-use borrow.Author.Rules.{rules}
 use Rattle.page.specs.Page.{page_columns, spaces}
-use Rattle.page_write.proofs.Writing.{blank_end, blank_on, blank_start}
 use Rattle.page_write.proofs.put_blank.Given as goal
 
 abbrev pub invariant-loop-j : goal.invariant-loop-j

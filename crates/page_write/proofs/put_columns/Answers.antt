@@ -1,11 +1,8 @@
-use Prim.Native.Nat.{◌-◌, ◌≤◌}
-use mathlib.Core.Path.{◌∙◌, ◌≡◌, ap, refl}
-use mathlib.Core.List.{◌++◌}
-use lib.ListN.{drop, length, length-set, take}
+use Prim.Native.Nat.{◌-◌}
+use mathlib.Core.Path.{◌∙◌, ap, refl}
+use lib.ListN.{length-set}
 use lib.Seq.{sets}
 use native.Mathlib.Omega.{arith}
-use borrow.Author.Rules.{rules}
-use Rattle.page.specs.Page.{padded, page_columns}
 use Rattle.page_write.proofs.Writing.{columns_end, columns_on}
 use Rattle.page_write.proofs.put_columns.Goals as goal
 
@@ -19,13 +16,12 @@ pub bounds-line-j : goal.bounds-line-j
 bounds-line-j c = omega (arith, c.loop-j.invariant.1)
 
 pub loop-j-preserved : goal.loop-j-preserved
-loop-j-preserved c =
-    (
-      omega arith,
-      length-set c.loop-j.line _ _ ∙ c.loop-j.invariant.1,
-      columns_on c.args.row.now c.requires.2 c.requires.1 c.loop-j.line c.loop-j.j (omega arith) c.loop-j.invariant.1
-          c.column.ensures c.loop-j.invariant.2,
-    )
+loop-j-preserved c = (
+  omega arith,
+  length-set c.loop-j.line _ _ ∙ c.loop-j.invariant.1,
+  columns_on c.args.row.now c.requires.2 c.requires.1 c.loop-j.line c.loop-j.j (omega arith) c.loop-j.invariant.1
+      c.column.ensures c.loop-j.invariant.2,
+)
 
 pub returns : goal.returns
 returns c =

@@ -1,14 +1,10 @@
 -- `page_write::put_columns` meets its contract. The loop's invariant: the columns put in, and those left, are all of
 -- them. The measure is the number of columns left.
 use Prim.Native.Nat.{◌-◌, ◌≤◌}
-use mathlib.Core.Path.{◌∙◌, ◌≡◌, ap, refl}
+use mathlib.Core.Path.{◌≡◌}
 use mathlib.Core.List.{◌++◌}
-use lib.ListN.{drop, length, length-set, take}
-use lib.Seq.{sets}
-use native.Mathlib.Omega.{arith}
-use borrow.Author.Rules.{rules}
+use lib.ListN.{drop, length, take}
 use Rattle.page.specs.Page.{padded, page_columns}
-use Rattle.page_write.proofs.Writing.{columns_end, columns_on}
 use Rattle.page_write.proofs.put_columns.Given as goal
 
 abbrev pub invariant-loop-j : goal.invariant-loop-j

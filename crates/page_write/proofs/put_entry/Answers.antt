@@ -4,7 +4,6 @@ use Prim.Native.Nat.{◌+◌, ◌≤◌}
 use mathlib.Core.Path.{◌∙◌, ◌≡◌, refl}
 use lib.ListN.{length, length-set, set}
 use native.Mathlib.Omega.{arith}
-use borrow.Author.Rules.{rules}
 use Rattle.page.specs.Page.{line_bytes, page_columns}
 use Rattle.page_write.proofs.Writing.{entry_done, first_room, rest_room}
 use Rattle.page_write.proofs.put_entry.Goals as goal
@@ -22,8 +21,7 @@ bounds-dst-at c =
 pub put_decimal-requires : goal.put_decimal-requires
 put_decimal-requires c =
     let room : c.args.at + line_bytes ≤ length c.args.dst.now = first_room c.args.row.now c.args.len c.args.score c.args.at c.requires.0 c.requires.2 in
-    let stored : length (set c.put_columns.new.dst (c.args.at + page_columns) 10) ≡ length c.args.dst.now = length-set c.put_columns.new.dst (c.args.at + page_columns) 10 ∙ c.put_columns.auto.dst in
-    (
+    let stored : length (set c.put_columns.new.dst (c.args.at + page_columns) 10) ≡ length c.args.dst.now = length-set c.put_columns.new.dst (c.args.at + page_columns) 10 ∙ c.put_columns.auto.dst in (
       omega arith,
       omega (arith, room, stored),
     )

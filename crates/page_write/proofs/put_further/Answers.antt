@@ -1,8 +1,6 @@
 use Prim.Native.Nat.{◌-◌}
-use lib.ListN.{length}
 use native.Mathlib.Omega.{arith}
-use borrow.Author.Rules.{rules}
-use Rattle.page_write.proofs.Writing.{Going, go_end, go_on, go_room, go_start, part_fits}
+use Rattle.page_write.proofs.Writing.{go_end, go_on, go_room, go_start, part_fits}
 use Rattle.page_write.proofs.put_further.Goals as goal
 
 pub loop-from-init : goal.loop-from-init

@@ -2,9 +2,7 @@
 -- now, give all further lines. The measure is the number of bytes left.
 use Prim.Native.Nat.{◌-◌}
 use lib.ListN.{length}
-use native.Mathlib.Omega.{arith}
-use borrow.Author.Rules.{rules}
-use Rattle.page_write.proofs.Writing.{Going, go_end, go_on, go_room, go_start, part_fits}
+use Rattle.page_write.proofs.Writing.{Going}
 use Rattle.page_write.proofs.put_further.Given as goal
 
 abbrev pub invariant-loop-from : goal.invariant-loop-from

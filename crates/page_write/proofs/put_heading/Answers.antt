@@ -2,7 +2,6 @@
 -- No loop, so no invariant.
 use mathlib.Core.Path.{◌∙◌, ap}
 use lib.ListN.{set}
-use borrow.Author.Rules.{rules}
 use Rattle.octets.specs.Text.{line_feed}
 use Rattle.octets.proofs.Stores.{sets-append}
 use Rattle.page.specs.Page.{heading, page_columns}

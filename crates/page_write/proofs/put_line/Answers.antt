@@ -4,7 +4,6 @@ use Prim.Native.Nat.{◌+◌}
 use mathlib.Core.Path.{◌∙◌, ap}
 use lib.ListN.{length-set, set}
 use lib.Seq.{sets}
-use borrow.Author.Rules.{rules}
 use Rattle.page.specs.Page.{page_columns}
 use Rattle.page_write.proofs.Writing.{line_put}
 use Rattle.page_write.proofs.put_line.Goals as goal

@@ -1,9 +1,8 @@
-use Prim.Native.Nat.{◌-◌, ◌<◌, ℕ}
+use Prim.Native.Nat.{◌-◌, ◌<◌}
 use lib.ListN.{get_or, length}
 use native.Mathlib.Omega.{arith}
-use borrow.Author.Rules.{rules}
 use Rattle.book_table.specs.Table.{entries}
-use Rattle.page_write.proofs.Paging.{Paging, page_end, page_room, page_start, page_turn}
+use Rattle.page_write.proofs.Paging.{page_end, page_room, page_start, page_turn}
 use Rattle.page_write.proofs.Paging.{row_fits, row_long, row_low}
 use Rattle.page_write.proofs.put_page.Goals as goal
 

@@ -1,12 +1,9 @@
 -- `page_write::put_page` meets its contract. The loop's invariant: the lines of the rows left, in rank, written now,
 -- give the page. The measure is the number of rows left.
-use Prim.Native.Nat.{◌-◌, ◌<◌, ℕ}
-use lib.ListN.{get_or, length}
-use native.Mathlib.Omega.{arith}
-use borrow.Author.Rules.{rules}
+use Prim.Native.Nat.{◌-◌}
+use lib.ListN.{length}
 use Rattle.book_table.specs.Table.{entries}
-use Rattle.page_write.proofs.Paging.{Paging, page_end, page_room, page_start, page_turn}
-use Rattle.page_write.proofs.Paging.{row_fits, row_long, row_low}
+use Rattle.page_write.proofs.Paging.{Paging}
 use Rattle.page_write.proofs.put_page.Given as goal
 
 abbrev pub invariant-loop-i : goal.invariant-loop-i

@@ -2,7 +2,6 @@
 -- No loop, so no invariant.
 use mathlib.Core.Path.{sym}
 use native.Mathlib.Omega.{arith}
-use borrow.Author.Rules.{rules}
 use Rattle.entries.proofs.Valid.{valid_of}
 use Rattle.entries_sort.proofs.Rank.{ranked}
 use Rattle.book_table.specs.Table.{entries}

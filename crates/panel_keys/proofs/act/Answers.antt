@@ -1,6 +1,6 @@
 -- `panel_keys::act` meets its contract: a key that changes the text, one that takes a name, and those that move the
 -- highlight, or do nothing, from the row with the held name (proofs/Acts). No loop, so no invariant.
-use Prim.Native.Nat.{◌-◌, ◌≤◌, min, ℕ}
+use Prim.Native.Nat.{◌-◌, ◌≤◌, min}
 use mathlib.Core.Path.{◌∙◌, ◌≡◌, ap, sym}
 use lib.ListN.{length}
 use native.Mathlib.Omega.{arith}
@@ -11,8 +11,7 @@ use Rattle.book.specs.Book.{in_book}
 use Rattle.panel.specs.Panel.{highlighted, held_in, offered_for, panel_of, row_with, typed_in, typing}
 use Rattle.panel_typing.proofs.Text.{typed_length}
 use Rattle.panel_typing.specs.Typing.{moved_row, takes}
-use Rattle.panel_rows.specs.declared.Row.{Row}
-use Rattle.panel_rows.specs.Rows.{OnRow, Rows, row_at}
+use Rattle.panel_rows.specs.Rows.{Rows, row_at}
 use Rattle.panel_rows.proofs.Rows.{on_row_of}
 use Rattle.panel_keys.proofs.Acts as acts
 use Rattle.panel_keys.proofs.act.Goals as goal

@@ -7,7 +7,6 @@ use lib.ListN.{length, take}
 use lib.Seq.{length-take-le}
 use native.Mathlib.Omega.{arith}
 use borrow.Author.Rules.{rules}
-use borrow.Author.Tests.{not-false, not-true}
 use Rattle.entries.specs.Entries.{names}
 use Rattle.entries.specs.Names.{longest_name}
 use Rattle.book.specs.Book.{in_book, records_at, today}

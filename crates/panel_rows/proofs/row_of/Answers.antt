@@ -1,8 +1,5 @@
-use Prim.Native.Nat.{◌+◌, ◌-◌, ◌≤◌}
-use mathlib.Core.Path.{◌≡◌}
-use lib.ListN.{drop, length}
+use Prim.Native.Nat.{◌-◌}
 use native.Mathlib.Omega.{arith}
-use borrow.Author.Rules.{rules}
 use Rattle.panel_rows.specs.Rows.{row_of}
 use Rattle.panel_rows.proofs.Rows.{row_end, row_here, row_next}
 use Rattle.panel_rows.proofs.row_of.Goals as goal

@@ -1,7 +1,6 @@
 -- `panel_typing::moved` meets its contract: the tests of the definition, in its order.
 -- No loop, so no invariant.
 use native.Mathlib.Omega.{arith}
-use borrow.Author.Rules.{rules}
 use borrow.Author.Tests.{ne_eqb}
 use Rattle.panel_typing.proofs.moved.Goals as goal
 

@@ -1,10 +1,7 @@
 use Prim.Native.Nat.{◌-◌}
-use lib.ListN.{length}
 use mathlib.Core.Path.{◌∙◌, sym}
-use native.Mathlib.Omega.{arith}
-use borrow.Author.Tests.{not-false, not-true}
 use Rattle.program.specs.Program.{is_digit}
-use Rattle.program_parse.proofs.Digits.{Counting, count_end, count_on, count_start, count_stop}
+use Rattle.program_parse.proofs.Digits.{count_end, count_on, count_start, count_stop}
 use Rattle.program_parse.proofs.count_digits.Goals as goal
 
 pub loop-i-init : goal.loop-i-init

@@ -2,11 +2,8 @@
 -- are all of them. The measure is what is left of the length.
 use Prim.Native.Nat.{◌-◌}
 use lib.ListN.{length}
-use mathlib.Core.Path.{◌∙◌, sym}
-use native.Mathlib.Omega.{arith}
-use borrow.Author.Tests.{not-false, not-true}
 use Rattle.program.specs.Program.{is_digit}
-use Rattle.program_parse.proofs.Digits.{Counting, count_end, count_on, count_start, count_stop}
+use Rattle.program_parse.proofs.Digits.{Counting}
 use Rattle.program_parse.proofs.count_digits.Given as goal
 
 abbrev pub invariant-loop-i : goal.invariant-loop-i

@@ -1,8 +1,6 @@
 -- `program_parse::number_at_front` meets its contract: the tests of a number's form in their order.
 -- No loop, so no invariant.
 use native.Mathlib.Omega.{arith}
-use borrow.Author.Tests.{not-false, not-true}
-use borrow.Author.Rules.{rules}
 use Rattle.octets.proofs.Stores.{to_end}
 use Rattle.program.specs.Program.{is_digit}
 use Rattle.program_parse.proofs.Digits.{front_most}

@@ -3,7 +3,6 @@
 use mathlib.Core.Path.{◌∙◌, ◌≡◌, sym}
 use native.Mathlib.Omega.{arith}
 use lib.ListN.{drop}
-use borrow.Author.Rules.{rules}
 use Rattle.octets.proofs.Stores.{to_end}
 use Rattle.program_parse.specs.Parsing.{number_as}
 use Rattle.program_parse.specs.declared.Number.TheVariants as number

@@ -1,6 +1,5 @@
 -- `program_parse::parse` meets its contract: the words in their order.
 -- No loop, so no invariant.
-use borrow.Author.Rules.{rules}
 use Rattle.octets.specs.Text.{text}
 use Rattle.program_parse.proofs.Parsing.{other_line, set_line, top-line, withdraw_line, word_within}
 use Rattle.program_parse.proofs.parse.Goals as goal

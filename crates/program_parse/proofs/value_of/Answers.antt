@@ -1,7 +1,6 @@
 use Prim.Native.Nat.{◌-◌}
 use native.Mathlib.Omega.{arith}
-use borrow.Author.Rules.{rules}
-use Rattle.program_parse.proofs.Digits.{Valuing, value_digit, value_end, value_fits, value_in, value_on_lem}
+use Rattle.program_parse.proofs.Digits.{value_digit, value_end, value_fits, value_in, value_on_lem}
 use Rattle.program_parse.proofs.Digits.{value_start}
 use Rattle.program_parse.proofs.value_of.Goals as goal
 

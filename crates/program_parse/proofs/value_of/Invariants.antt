@@ -2,10 +2,7 @@
 -- give the whole value, and it is below the power of ten of the digits passed. The measure is how many are left.
 --
 use Prim.Native.Nat.{◌-◌}
-use native.Mathlib.Omega.{arith}
-use borrow.Author.Rules.{rules}
-use Rattle.program_parse.proofs.Digits.{Valuing, value_digit, value_end, value_fits, value_in, value_on_lem}
-use Rattle.program_parse.proofs.Digits.{value_start}
+use Rattle.program_parse.proofs.Digits.{Valuing}
 use Rattle.program_parse.proofs.value_of.Given as goal
 
 abbrev pub invariant-loop-i : goal.invariant-loop-i

@@ -1,5 +1,4 @@
 -- `program_print::put_bad` meets its contract: four bytes, copied. No loop, so no invariant.
-use borrow.Author.Rules.{rules}
 use Rattle.octets_laws.proofs.Printed.{put_part}
 use Rattle.program.specs.Program.{bad_line}
 use Rattle.program_print.proofs.put_bad.Goals as goal

@@ -3,7 +3,6 @@
 use mathlib.Core.Path.{◌∙◌}
 use lib.ListN.{length-set}
 use native.Mathlib.Omega.{arith}
-use borrow.Author.Rules.{rules}
 use Rattle.octets.proofs.Decimal.{decimal_most}
 use Rattle.octets_laws.proofs.Printed.{put_append, put_byte, put_part}
 use Rattle.program_print.proofs.put_counted.Goals as goal
@@ -31,4 +30,4 @@ returns c =
     put_append
     (put_append (put_part c.args.out.now c.args.at c.args.word.now (omega (arith, c.requires)) c.copy.ensures)
     c.put_decimal-end.ensures)
-    (put_byte _ _ _ ((omega ( arith, c.put_decimal-end.ensures.ends, c.put_decimal-end.auto.out, c.copy.auto.dst, decimal_most c.args.v, c.requires, ))))
+    (put_byte _ _ _ ((omega (arith, c.put_decimal-end.ensures.ends, c.put_decimal-end.auto.out, c.copy.auto.dst, decimal_most c.args.v, c.requires))))

@@ -2,7 +2,6 @@
 -- No loop, so no invariant.
 use mathlib.Core.Path.{refl}
 use native.Mathlib.Omega.{arith}
-use borrow.Author.Rules.{rules}
 use Rattle.program_print.proofs.Printing.{put_digits}
 use Rattle.program_print.proofs.put_decimal.Goals as goal
 

@@ -3,7 +3,6 @@
 use mathlib.Core.Path.{◌∙◌}
 use lib.ListN.{length-set}
 use native.Mathlib.Omega.{arith}
-use borrow.Author.Rules.{rules}
 use Rattle.octets.proofs.Decimal.{decimal_most}
 use Rattle.octets_laws.proofs.Printed.{put_append, put_byte, put_part}
 use Rattle.program_print.proofs.put_entry_line.Goals as goal
@@ -57,4 +56,4 @@ returns c =
       c.put_decimal-end.auto.out,
     ))
     c.copy.ensures))
-    (put_byte _ _ _ ((omega ( arith, c.put_decimal-end.ensures.ends, decimal_most c.args.score, c.requires, c.copy.auto.dst, length-set c.put_decimal-end.new.out c.put_decimal-end.result 32, c.put_decimal-end.auto.out, ))))
+    (put_byte _ _ _ ((omega (arith, c.put_decimal-end.ensures.ends, decimal_most c.args.score, c.requires, c.copy.auto.dst, length-set c.put_decimal-end.new.out c.put_decimal-end.result 32, c.put_decimal-end.auto.out))))

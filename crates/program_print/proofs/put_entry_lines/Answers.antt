@@ -1,9 +1,8 @@
 use Prim.Native.Nat.{◌-◌}
 use native.Mathlib.Omega.{arith}
-use borrow.Author.Rules.{rules}
 use Rattle.sheet.specs.Sheet.{sheet_from}
 use Rattle.sheet_write.proofs.Entries.{Here}
-use Rattle.program_print.proofs.Printing.{Offering, offer_end, offer_here, offer_on, offer_room, offer_start}
+use Rattle.program_print.proofs.Printing.{offer_end, offer_here, offer_on, offer_room, offer_start}
 use Rattle.program_print.proofs.put_entry_lines.Goals as goal
 
 pub loop-i-init : goal.loop-i-init

@@ -1,11 +1,7 @@
 -- `program_print::put_entry_lines` meets its contract. The loop's invariant: the lines of the entries that are left,
 -- written now, give all lines. The measure is how many entries are left.
 use Prim.Native.Nat.{◌-◌}
-use native.Mathlib.Omega.{arith}
-use borrow.Author.Rules.{rules}
-use Rattle.sheet.specs.Sheet.{sheet_from}
-use Rattle.sheet_write.proofs.Entries.{Here}
-use Rattle.program_print.proofs.Printing.{Offering, offer_end, offer_here, offer_on, offer_room, offer_start}
+use Rattle.program_print.proofs.Printing.{Offering}
 use Rattle.program_print.proofs.put_entry_lines.Given as goal
 
 abbrev pub invariant-loop-i : goal.invariant-loop-i

@@ -4,7 +4,6 @@ use mathlib.Core.Path.{refl, sym}
 use lib.ListN.{length-take, take}
 use lib.Seq.{length-take-le}
 use native.Mathlib.Omega.{arith}
-use borrow.Author.Rules.{rules}
 use Rattle.script.specs.Run.{bench}
 use Rattle.program_run.proofs.Feeding.{feed_begun, feed_line, part_within}
 use Rattle.program_run.proofs.feed.Goals as goal

@@ -3,7 +3,6 @@
 use mathlib.Core.Path.{refl, sym}
 use lib.Seq.{length-take-le}
 use native.Mathlib.Omega.{arith}
-use borrow.Author.Rules.{rules}
 use Rattle.script.specs.Run.{bench}
 use Rattle.program_run.proofs.Feeding.{finish_line, finish_none}
 use Rattle.program_run.proofs.finish.Goals as goal

@@ -3,7 +3,6 @@
 use mathlib.Core.Path.{sym}
 use lib.Seq.{length-take-le}
 use native.Mathlib.Omega.{arith}
-use borrow.Author.Rules.{rules}
 use Rattle.program_run.proofs.Feeding.{kept_part}
 use Rattle.program_run.proofs.keep.Goals as goal
 

@@ -1,9 +1,5 @@
 use Prim.Native.Nat.{◌-◌}
-use lib.ListN.{length}
-use native.Mathlib.Omega.{arith}
-use borrow.Author.Rules.{rules}
-use Rattle.program_parse.proofs.Digits.{Counting, count_end, count_on, count_start, count_stop}
-use Rattle.program.specs.Console.{in_line}
+use Rattle.program_parse.proofs.Digits.{count_end, count_on, count_start, count_stop}
 use Rattle.program_run.proofs.Feeding.{feed_byte, line_byte}
 use Rattle.program_run.proofs.line_length.Goals as goal
 

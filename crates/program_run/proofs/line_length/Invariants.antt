@@ -2,11 +2,8 @@
 -- all of the line. The measure is what is left of the length.
 use Prim.Native.Nat.{◌-◌}
 use lib.ListN.{length}
-use native.Mathlib.Omega.{arith}
-use borrow.Author.Rules.{rules}
-use Rattle.program_parse.proofs.Digits.{Counting, count_end, count_on, count_start, count_stop}
+use Rattle.program_parse.proofs.Digits.{Counting}
 use Rattle.program.specs.Console.{in_line}
-use Rattle.program_run.proofs.Feeding.{feed_byte, line_byte}
 use Rattle.program_run.proofs.line_length.Given as goal
 
 abbrev pub invariant-loop-i : goal.invariant-loop-i

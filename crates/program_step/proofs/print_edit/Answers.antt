@@ -1,7 +1,6 @@
 -- `program_step::print_edit` meets its contract: by the answer's kind; the counts of a book that was written are small.
 -- No loop, so no invariant.
 use native.Mathlib.Omega.{arith}
-use borrow.Author.Rules.{rules}
 use Rattle.script_step.proofs.Calling.{wrote_small}
 use Rattle.program_step.proofs.Editing.{printed-refused, printed_wrote}
 use Rattle.program_step.proofs.print_edit.Goals as goal

@@ -2,7 +2,6 @@
 -- as can be asked for, and the looks are few. No loop, so no invariant.
 use Prim.Native.Nat.{◌≤◌}
 use native.Mathlib.Omega.{arith}
-use borrow.Author.Rules.{rules}
 use Rattle.entries.specs.Completion.{max_count}
 use Rattle.completion.specs.Machine.{most_looks}
 use Rattle.program_print.specs.Printing.{Laid}

@@ -1,6 +1,5 @@
 -- `program_step::step` meets its contract: by what the line asks for.
 -- No loop, so no invariant.
-use borrow.Author.Rules.{rules}
 use Rattle.octets.proofs.Stores.{to_end}
 use Rattle.program_step.proofs.Stepping.{rest_inside, step_as, step_bad}
 use Rattle.program_step.proofs.step.Goals as goal

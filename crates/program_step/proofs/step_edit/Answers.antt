@@ -1,6 +1,5 @@
 -- `program_step::step_edit` meets its contract: the call on the bench, its answer's line, and the roles after it.
 -- No loop, so no invariant.
-use borrow.Author.Rules.{rules}
 use Rattle.program_step.proofs.Editing.{edit_done}
 use Rattle.program_step.proofs.step_edit.Goals as goal
 

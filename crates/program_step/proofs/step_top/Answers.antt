@@ -1,6 +1,5 @@
 -- `program_step::step_top` meets its contract: by the buffer that holds the book.
 -- No loop, so no invariant.
-use borrow.Author.Rules.{rules}
 use Rattle.program_step.proofs.Stepping.{top_first, top_second}
 use Rattle.program_step.proofs.step_top.Goals as goal
 

@@ -4,7 +4,6 @@ use Prim.Native.Nat.{ℕ}
 use mathlib.Core.Path.{◌≡◌}
 use mathlib.Core.List.{List}
 use lib.ListN.{length, length-replicate, replicate}
-use borrow.Author.Rules.{rules}
 use Rattle.program_step.specs.Step.{answer_room}
 use Rattle.program_step.proofs.Completing.{top-shown}
 use Rattle.program_step.proofs.top_from.Goals as goal
@@ -17,11 +16,10 @@ long : length array ≡ answer_room
 long = length-replicate {A = ℕ} answer_room 0
 
 pub print_top-requires : goal.print_top-requires
-print_top-requires c =
-    (
-      (top-shown c.args.book.now c.args.prefix.now array c.args.k long c.complete_in-c.ensures).0,
-      c.requires,
-    )
+print_top-requires c = (
+  (top-shown c.args.book.now c.args.prefix.now array c.args.k long c.complete_in-c.ensures).0,
+  c.requires,
+)
 
 pub returns : goal.returns
 returns c =

@@ -1,6 +1,5 @@
 -- `script_calls::call_length` meets its contract: the tests of a call's front in their order.
 -- No loop, so no invariant.
-use borrow.Author.Rules.{rules}
 use Rattle.script_calls.proofs.Counting.{cut_none, kind_none, short_none, whole_found}
 use Rattle.script_calls.proofs.call_length.Goals as goal
 

@@ -1,6 +1,6 @@
 use Prim.Native.Nat.{◌+◌, ◌-◌}
 use mathlib.Core.Path.{◌≡◌}
-use lib.ListN.{drop, length}
+use lib.ListN.{drop}
 use native.Mathlib.Omega.{arith}
 use Rattle.octets.proofs.Stores.{to_end}
 use Rattle.script_calls.specs.Code.{found_length}
@@ -32,10 +32,10 @@ loop-at-smaller c =
     let found : c.call_length-len.result ≡ found_length (drop c.loop-at.at c.args.script.now) = rw (to_end _ c.loop-at.at) at c.call_length-len.ensures in
     let turned : Counting c.args.script.now (c.loop-at.at + c.call_length-len.result) (c.loop-at.n + 1) = count_on c.loop-at.invariant found c.if-len-eq0.false in
     omega (
-  arith,
-  turned.within,
-  count_less c.loop-at.invariant found c.if-len-eq0.false,
-)
+      arith,
+      turned.within,
+      count_less c.loop-at.invariant found c.if-len-eq0.false,
+    )
 
 pub loop-at-preserved : goal.loop-at-preserved
 loop-at-preserved c =

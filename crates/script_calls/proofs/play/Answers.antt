@@ -1,14 +1,14 @@
 use Prim.Native.Nat.{◌-◌}
 use mathlib.Core.Path.{◌≡◌}
 use mathlib.Core.Bool.{false}
-use lib.ListN.{drop, length}
+use lib.ListN.{drop}
 use native.Mathlib.Omega.{arith}
 use Rattle.octets.proofs.Stores.{to_end}
 use Rattle.script_calls.specs.Code.{found_length}
 use Rattle.script_step.specs.Calls.{Performed}
 use Rattle.script.specs.Run.{bench}
 use Rattle.script.specs.Script.{call_at}
-use Rattle.script_calls.proofs.Playing.{Playing, play_call, play_end, play_less, play_on, play_room, play_start}
+use Rattle.script_calls.proofs.Playing.{play_call, play_end, play_less, play_on, play_room, play_start}
 use Rattle.script_calls.proofs.Playing.{play_within}
 use Rattle.script_calls.proofs.play.Goals as goal
 

@@ -1,17 +1,10 @@
 -- `script_calls::play` meets its contract. The loop's invariant: the calls that are left, performed now, give the whole
 -- history. The measure is what is left of the script.
 use Prim.Native.Nat.{◌-◌}
-use mathlib.Core.Path.{◌≡◌}
 use mathlib.Core.Bool.{false}
-use lib.ListN.{drop, length}
-use native.Mathlib.Omega.{arith}
-use Rattle.octets.proofs.Stores.{to_end}
-use Rattle.script_calls.specs.Code.{found_length}
-use Rattle.script_step.specs.Calls.{Performed}
+use lib.ListN.{length}
 use Rattle.script.specs.Run.{bench}
-use Rattle.script.specs.Script.{call_at}
-use Rattle.script_calls.proofs.Playing.{Playing, play_call, play_end, play_less, play_on, play_room, play_start}
-use Rattle.script_calls.proofs.Playing.{play_within}
+use Rattle.script_calls.proofs.Playing.{Playing}
 use Rattle.script_calls.proofs.play.Given as goal
 
 abbrev pub invariant-loop-at : goal.invariant-loop-at

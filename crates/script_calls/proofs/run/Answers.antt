@@ -1,7 +1,6 @@
 -- `script_calls::run` meets its contract: the checks in their order, then "empty" into the first buffer and every call.
 -- No loop, so no invariant.
 use mathlib.Core.Path.{◌∙◌, ◌≡◌, sym}
-use borrow.Author.Rules.{rules}
 use Rattle.script_calls.specs.Code.{counted_as}
 use Rattle.script.specs.Script.{calls}
 use Rattle.script_calls.specs.declared.CallCount.TheVariants as counted

@@ -1,7 +1,6 @@
 -- `script_step::call` meets its contract: by the call's kind; the counts of a book that was written are small.
 -- No loop, so no invariant.
 use native.Mathlib.Omega.{arith}
-use borrow.Author.Rules.{rules}
 use Rattle.script_step.proofs.Calling.{set_called, withdraw_called}
 use Rattle.script_step.proofs.call.Goals as goal
 

@@ -1,6 +1,5 @@
 -- `script_step::numbers` meets its contract: by the answer's kind; the counts of a book that was written are small.
 -- No loop, so no invariant.
-use borrow.Author.Rules.{rules}
 use native.Mathlib.Omega.{arith}
 use Rattle.script_step.proofs.Calling.{tells_refused, tells_wrote, wrote_small}
 use Rattle.script_step.proofs.numbers.Goals as goal

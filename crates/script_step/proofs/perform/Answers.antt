@@ -1,6 +1,5 @@
 -- `script_step::perform` meets its contract: from the buffer that holds the book into the other.
 -- No loop, so no invariant.
-use borrow.Author.Rules.{rules}
 use Rattle.script_step.proofs.Calling.{back, forth}
 use Rattle.script_step.proofs.perform.Goals as goal
 

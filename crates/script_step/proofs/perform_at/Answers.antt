@@ -1,7 +1,6 @@
 -- `script_step::perform_at` meets its contract: the call that the kind names, with the name behind the 7 bytes in
 -- front. No loop, so no invariant.
 use mathlib.Core.Path.{refl}
-use borrow.Author.Rules.{rules}
 use native.Mathlib.Omega.{arith}
 use Rattle.script.proofs.Script.{CallStands, call-stands}
 use Rattle.script_step.proofs.Calling.{call-parts, part_name}

@@ -4,7 +4,6 @@ use Prim.Native.Nat.{◌+◌}
 use mathlib.Core.Path.{◌∙◌, ap}
 use lib.ListN.{length-set}
 use lib.Seq.{sets}
-use borrow.Author.Rules.{rules}
 use Rattle.octets.specs.Octets.{be}
 use Rattle.script_step.proofs.Calling.{stored}
 use Rattle.script_step.proofs.put_answer.Goals as goal

@@ -1,6 +1,5 @@
 -- `script_step::turned_after` meets its contract: by the answer's kind.
 -- No loop, so no invariant.
-use borrow.Author.Rules.{rules}
 use Rattle.script_step.proofs.Calling.{roles_change, roles_stay}
 use Rattle.script_step.proofs.turned_after.Goals as goal
 

@@ -1,7 +1,6 @@
 -- `sheet_calls::build` meets its contract: measured first, then written.
 -- No loop, so no invariant.
 use native.Mathlib.Omega.{arith}
-use borrow.Author.Rules.{rules}
 use Rattle.book.specs.Book.{book_image}
 use Rattle.sheet_check.specs.Held.{HeldSheet}
 use Rattle.frame_code.proofs.Held.{image_damaged}

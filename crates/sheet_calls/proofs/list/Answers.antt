@@ -1,7 +1,6 @@
 -- `sheet_calls::list` meets its contract: measured first, then written.
 -- No loop, so no invariant.
 use native.Mathlib.Omega.{arith}
-use borrow.Author.Rules.{rules}
 use Rattle.book_check.proofs.FromBook.{from_no_room, from_refused, from_whole}
 use Rattle.sheet.specs.Sheet.{list_book, sheet_image}
 use Rattle.sheet_calls.proofs.list.Goals as goal

@@ -1,7 +1,6 @@
 -- `sheet_check::check` meets its contract: each return gives the test that failed, or all of them, to the law of the
 -- answer (proofs/Answer, and frame_code's proofs/Checked). No loop, so no invariant.
 use native.Mathlib.Omega.{arith}
-use borrow.Author.Rules.{rules}
 use Rattle.octets.proofs.Numbers.{Bytes}
 use Rattle.frame_code.proofs.Checked.{Framed, frame_held, no_end_lem, no_frame, other_end}
 use Rattle.sheet_check.proofs.Answer.{is_sheet, must_end, rows_walk, sheet_format}

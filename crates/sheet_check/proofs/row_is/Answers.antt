@@ -1,12 +1,10 @@
 -- `sheet_check::row_is` meets its contract: each return is a test of `row_is`, in its order.
 -- No loop, so no invariant.
-use Prim.Native.Nat.{ℕ}
 use mathlib.Core.Path.{◌≡◌, sym}
 use mathlib.Core.Bool.{◌&&◌}
-use mathlib.Core.List.{List}
 use lib.ListN.{get_or, length}
 use native.Mathlib.Omega.{arith}
-use borrow.Author.Tests.{le-leb, lt-leb, not-false, not-true}
+use borrow.Author.Tests.{le-leb, lt-leb}
 use Rattle.octets.specs.Octets.{below}
 use Rattle.entries.specs.Names.{is_name}
 use Rattle.octets.proofs.Stores.{part_bytes}

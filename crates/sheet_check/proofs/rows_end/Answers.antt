@@ -3,11 +3,10 @@ use mathlib.Core.Path.{◌∙◌, ◌≡◌, ap, sym}
 use mathlib.Core.Bool.{true}
 use lib.ListN.{drop, get_or, length}
 use native.Mathlib.Omega.{arith}
-use borrow.Author.Tests.{not-false, not-true}
 use Rattle.octets.proofs.Stores.{to_end}
 use Rattle.frame_code.specs.Image.{ended_as}
 use Rattle.sheet_check.specs.Check.{row_is}
-use Rattle.sheet_check.proofs.RowLoop.{RowsPassed, between, pass_bad, pass_end, pass_room, pass_start, pass_turn}
+use Rattle.sheet_check.proofs.RowLoop.{between, pass_bad, pass_end, pass_room, pass_start, pass_turn}
 use Rattle.sheet_check.proofs.rows_end.Goals as goal
 
 pub loop-i-init : goal.loop-i-init

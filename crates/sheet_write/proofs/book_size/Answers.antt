@@ -3,7 +3,7 @@ use mathlib.Core.Path.{ap}
 use lib.ListN.{length}
 use native.Mathlib.Omega.{arith}
 use Rattle.sheet.specs.Sheet.{in_sheet}
-use Rattle.sheet_write.proofs.Building.{Sizing, size_end, size_here, size_small, size_start, size_turn}
+use Rattle.sheet_write.proofs.Building.{size_end, size_here, size_small, size_start, size_turn}
 use Rattle.sheet_write.proofs.Entries.{Here}
 use Rattle.sheet_check.proofs.Held.{sheet_few}
 use Rattle.sheet_write.proofs.book_size.Goals as goal

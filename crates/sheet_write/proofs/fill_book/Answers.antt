@@ -4,7 +4,7 @@ use native.Mathlib.Omega.{arith}
 use Rattle.book.specs.Book.{today}
 use Rattle.book.proofs.Size.{book_length_lem}
 use Rattle.sheet.specs.Sheet.{in_sheet}
-use Rattle.sheet_write.proofs.Building.{Filling, fill_end, fill_here, fill_room, fill_start, fill_turn}
+use Rattle.sheet_write.proofs.Building.{fill_end, fill_here, fill_room, fill_start, fill_turn}
 use Rattle.sheet_write.proofs.Entries.{Here}
 use Rattle.sheet_check.proofs.Held.{sheet_few, sheet_ok}
 use Rattle.sheet_write.proofs.fill_book.Goals as goal

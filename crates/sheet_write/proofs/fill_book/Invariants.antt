@@ -1,14 +1,7 @@
 -- `sheet_write::fill_book` meets its contract. The loop's invariant: a book half written, the next entry of the sheet
 -- at the index reached. The measure is the number of entries left.
 use Prim.Native.Nat.{◌-◌}
-use mathlib.Core.Path.{◌∙◌, ◌≡◌}
-use native.Mathlib.Omega.{arith}
-use Rattle.book.specs.Book.{today}
-use Rattle.book.proofs.Size.{book_length_lem}
-use Rattle.sheet.specs.Sheet.{in_sheet}
-use Rattle.sheet_write.proofs.Building.{Filling, fill_end, fill_here, fill_room, fill_start, fill_turn}
-use Rattle.sheet_write.proofs.Entries.{Here}
-use Rattle.sheet_check.proofs.Held.{sheet_few, sheet_ok}
+use Rattle.sheet_write.proofs.Building.{Filling}
 use Rattle.sheet_write.proofs.fill_book.Given as goal
 
 abbrev pub invariant-loop-i : goal.invariant-loop-i

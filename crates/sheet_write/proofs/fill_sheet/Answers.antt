@@ -6,7 +6,7 @@ use native.Mathlib.Omega.{arith}
 use borrow.Author.Rules.{rules}
 use Rattle.book_laws.proofs.Held.{held_few}
 use Rattle.book_read.proofs.Reading.{Given, read_inside, read_turn}
-use Rattle.sheet_write.proofs.Listing.{Writing, sheet_length_lem, write_end, write_room, write_start, write_turn}
+use Rattle.sheet_write.proofs.Listing.{sheet_length_lem, write_end, write_room, write_start, write_turn}
 use Rattle.sheet_write.proofs.fill_sheet.Goals as goal
 
 pub put_frame-requires : goal.put_frame-requires

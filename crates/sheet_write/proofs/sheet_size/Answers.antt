@@ -7,7 +7,7 @@ use Rattle.octets.proofs.Stores.{to_end}
 use Rattle.book.specs.Book.{today}
 use Rattle.book_laws.proofs.Held.{held_few}
 use Rattle.book_read.specs.Record.{parts_at}
-use Rattle.sheet_write.proofs.Listing.{Measuring, measure_end, measure_room, measure_small, measure_start}
+use Rattle.sheet_write.proofs.Listing.{measure_end, measure_room, measure_small, measure_start}
 use Rattle.sheet_write.proofs.Listing.{measure_turn, measure_two}
 use Rattle.sheet_write.proofs.sheet_size.Goals as goal
 

@@ -3,8 +3,7 @@
 use mathlib.Core.Path.{◌∙◌, ◌≡◌, sym}
 use mathlib.Core.Bool.{false, true}
 use native.Mathlib.Omega.{arith}
-use borrow.Author.Tests.{le-ltb, lt-ltb, not-false, not-true}
-use borrow.Author.Rules.{rules}
+use borrow.Author.Tests.{le-ltb, lt-ltb}
 use Rattle.entries.specs.Completion.{max_count}
 use Rattle.entries.specs.Names.{is_prefix}
 use Rattle.completion.specs.Complete.{bad_count}

@@ -1,6 +1,5 @@
 -- `trie_calls::write_trie` meets its contract: a checked book's trie, or the refusal that applies.
 -- No loop, so no invariant.
-use borrow.Author.Rules.{rules}
 use Rattle.book_laws.specs.Held.{Held}
 use Rattle.book_check.proofs.FromBook.{from_no_room, from_refused, from_whole}
 use Rattle.trie.specs.Calls.{write_trie}

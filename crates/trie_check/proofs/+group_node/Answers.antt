@@ -1,4 +1,4 @@
-use Rattle.std.proofs.Common.{ℕ, ◌≡◌, ◌∙◌, arith, get_or, set, subst, sym, true}
+use Rattle.std.proofs.Common.{◌≡◌, ◌∙◌, arith, get_or, set, subst, sym, true}
 use Rattle.octets.proofs.Numbers.{Bytes}
 use Rattle.trie_check_fields.proofs.Heads.{Read, read_node}
 use Rattle.trie_check_laws.specs.Walk.{mark_place, stands}

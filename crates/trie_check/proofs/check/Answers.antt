@@ -1,7 +1,6 @@
 -- `trie_check::check` meets its contract: each return gives the test that failed, or all of them, to the law of the
 -- answer (proofs/Answer, and frame_code's proofs/Checked). No loop, so no invariant.
 use native.Mathlib.Omega.{arith}
-use borrow.Author.Rules.{rules}
 use Rattle.octets.proofs.Numbers.{Bytes}
 use Rattle.frame_code.proofs.Checked.{Framed, frame_held, no_frame}
 use Rattle.trie_check.proofs.Answer.{is_empty, is_trie_lem, no_walk, not_empty, other_end, some_missing, trie_format}

@@ -1,8 +1,6 @@
 use Prim.Native.Nat.{◌-◌}
-use lib.ListN.{length}
 use native.Mathlib.Omega.{arith}
-use borrow.Author.Rules.{rules}
-use Rattle.trie_check_fields.proofs.Ends.{EndsWith, end_cut, end_last, ends_on}
+use Rattle.trie_check_fields.proofs.Ends.{end_cut, end_last, ends_on}
 use Rattle.trie_check_fields.proofs.Heads.{Read, read_node}
 use Rattle.frame_code.specs.declared.Ended.TheVariants.{At, Damaged}
 use Rattle.trie_check_fields.proofs.group_end.Goals as goal

@@ -2,11 +2,7 @@
 -- does. Measure: the bytes from `from` on.
 use Prim.Native.Nat.{◌-◌}
 use lib.ListN.{length}
-use native.Mathlib.Omega.{arith}
-use borrow.Author.Rules.{rules}
-use Rattle.trie_check_fields.proofs.Ends.{EndsWith, end_cut, end_last, ends_on}
-use Rattle.trie_check_fields.proofs.Heads.{Read, read_node}
-use Rattle.frame_code.specs.declared.Ended.TheVariants.{At, Damaged}
+use Rattle.trie_check_fields.proofs.Ends.{EndsWith}
 use Rattle.trie_check_fields.proofs.group_end.Given as goal
 
 abbrev pub invariant-loop-n : goal.invariant-loop-n

@@ -1,7 +1,6 @@
 -- `trie_check_fields::head_at` meets its contract: each return gives the test that failed, or all that was read, to the
 -- law of the answer (proofs/Heads). No loop, so no invariant.
 use native.Mathlib.Omega.{arith}
-use borrow.Author.Rules.{rules}
 use Rattle.octets.proofs.Numbers.{Bytes}
 use Rattle.trie_check_fields.proofs.Heads.{Sizes, child_size_lem, head_good, head_known, head_out}
 use Rattle.trie_check_fields.proofs.Heads.{head_short, head_wide, label_size, score_size_lem}
@@ -16,19 +15,19 @@ returns-then-buf-at c =
 
 pub overflow_add-body : goal.overflow_add-body
 overflow_add-body c =
-    let sizes : Sizes c.args.buf.now c.args.at c.score_size-score_size.result c.child_size-child_size.result c.label_length-len.result = record { inside = c.if-buf-at.false; is_score = c.score_size-score_size.ensures; is_child = c.child_size-child_size.ensures; is_label = c.label_length-len.ensures; } in
+    let sizes : Sizes c.args.buf.now c.args.at c.score_size-score_size.result c.child_size-child_size.result c.label_length-len.result = record { inside = c.if-buf-at.false; is_score = c.score_size-score_size.ensures; is_child = c.child_size-child_size.ensures; is_label = c.label_length-len.ensures } in
     let bytes : Bytes c.args.buf.now = λ i. (omega (arith, c.shared_slice_known-1.given i)) in
     omega (arith, score_size_lem sizes bytes, child_size_lem sizes)
 
 pub overflow_add-body-2 : goal.overflow_add-body-2
 overflow_add-body-2 c =
-    let sizes : Sizes c.args.buf.now c.args.at c.score_size-score_size.result c.child_size-child_size.result c.label_length-len.result = record { inside = c.if-buf-at.false; is_score = c.score_size-score_size.ensures; is_child = c.child_size-child_size.ensures; is_label = c.label_length-len.ensures; } in
+    let sizes : Sizes c.args.buf.now c.args.at c.score_size-score_size.result c.child_size-child_size.result c.label_length-len.result = record { inside = c.if-buf-at.false; is_score = c.score_size-score_size.ensures; is_child = c.child_size-child_size.ensures; is_label = c.label_length-len.ensures } in
     let bytes : Bytes c.args.buf.now = λ i. (omega (arith, c.shared_slice_known-1.given i)) in
     omega (arith, score_size_lem sizes bytes, child_size_lem sizes, label_size sizes)
 
 pub returns-then-buf-at-2 : goal.returns-then-buf-at-2
 returns-then-buf-at-2 c =
-    let sizes : Sizes c.args.buf.now c.args.at c.score_size-score_size.result c.child_size-child_size.result c.label_length-len.result = record { inside = c.if-buf-at.false; is_score = c.score_size-score_size.ensures; is_child = c.child_size-child_size.ensures; is_label = c.label_length-len.ensures; } in
+    let sizes : Sizes c.args.buf.now c.args.at c.score_size-score_size.result c.child_size-child_size.result c.label_length-len.result = record { inside = c.if-buf-at.false; is_score = c.score_size-score_size.ensures; is_child = c.child_size-child_size.ensures; is_label = c.label_length-len.ensures } in
     record {
       is = head_short sizes c.if-buf-at-2.true;
       known = tt;
@@ -36,28 +35,28 @@ returns-then-buf-at-2 c =
 
 pub field_at-field-requires : goal.field_at-field-requires
 field_at-field-requires c =
-    let sizes : Sizes c.args.buf.now c.args.at c.score_size-score_size.result c.child_size-child_size.result c.label_length-len.result = record { inside = c.if-buf-at.false; is_score = c.score_size-score_size.ensures; is_child = c.child_size-child_size.ensures; is_label = c.label_length-len.ensures; } in
+    let sizes : Sizes c.args.buf.now c.args.at c.score_size-score_size.result c.child_size-child_size.result c.label_length-len.result = record { inside = c.if-buf-at.false; is_score = c.score_size-score_size.ensures; is_child = c.child_size-child_size.ensures; is_label = c.label_length-len.ensures } in
     let bytes : Bytes c.args.buf.now = λ i. (omega (arith, c.shared_slice_known-1.given i)) in
     let s = score_size_lem sizes bytes in
     (omega arith, s.0, s.1)
 
 pub returns-then-size_of-score_size : goal.returns-then-size_of-score_size
 returns-then-size_of-score_size c =
-    let sizes : Sizes c.args.buf.now c.args.at c.score_size-score_size.result c.child_size-child_size.result c.label_length-len.result = record { inside = c.if-buf-at.false; is_score = c.score_size-score_size.ensures; is_child = c.child_size-child_size.ensures; is_label = c.label_length-len.ensures; } in
+    let sizes : Sizes c.args.buf.now c.args.at c.score_size-score_size.result c.child_size-child_size.result c.label_length-len.result = record { inside = c.if-buf-at.false; is_score = c.score_size-score_size.ensures; is_child = c.child_size-child_size.ensures; is_label = c.label_length-len.ensures } in
     record {
       is = head_wide sizes c.if-buf-at-2.false c.field_at-field.ensures
-      c.size_of.ensures c.if-size_of-score_size.true;
+          c.size_of.ensures c.if-size_of-score_size.true;
       known = tt;
     }
 
 pub field_at-child-requires : goal.field_at-child-requires
 field_at-child-requires c =
-    let sizes : Sizes c.args.buf.now c.args.at c.score_size-score_size.result c.child_size-child_size.result c.label_length-len.result = record { inside = c.if-buf-at.false; is_score = c.score_size-score_size.ensures; is_child = c.child_size-child_size.ensures; is_label = c.label_length-len.ensures; } in
+    let sizes : Sizes c.args.buf.now c.args.at c.score_size-score_size.result c.child_size-child_size.result c.label_length-len.result = record { inside = c.if-buf-at.false; is_score = c.score_size-score_size.ensures; is_child = c.child_size-child_size.ensures; is_label = c.label_length-len.ensures } in
     let s = child_size_lem sizes in (omega arith, s.0, s.1)
 
 pub returns : goal.returns
 returns c =
-    let sizes : Sizes c.args.buf.now c.args.at c.score_size-score_size.result c.child_size-child_size.result c.label_length-len.result = record { inside = c.if-buf-at.false; is_score = c.score_size-score_size.ensures; is_child = c.child_size-child_size.ensures; is_label = c.label_length-len.ensures; } in
+    let sizes : Sizes c.args.buf.now c.args.at c.score_size-score_size.result c.child_size-child_size.result c.label_length-len.result = record { inside = c.if-buf-at.false; is_score = c.score_size-score_size.ensures; is_child = c.child_size-child_size.ensures; is_label = c.label_length-len.ensures } in
     let bytes : Bytes c.args.buf.now = λ i. (omega (arith, c.shared_slice_known-1.given i)) in
     let good =
     head_good sizes c.if-buf-at-2.false c.field_at-field.ensures c.size_of.ensures

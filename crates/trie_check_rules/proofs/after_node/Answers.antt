@@ -1,6 +1,5 @@
 -- `trie_check_rules::after_node` meets its contract, field by field. No loop, so no invariant.
 use mathlib.Core.Bool.{false}
-use borrow.Author.Rules.{rules}
 use Rattle.trie_check_rules.proofs.after_node.Goals as goal
 
 pub returns : goal.returns

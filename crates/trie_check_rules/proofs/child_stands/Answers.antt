@@ -1,6 +1,5 @@
 -- `trie_check_rules::child_stands` meets its contract: each answer is a law of the child field (proofs/Rules).
 -- No loop, so no invariant.
-use borrow.Author.Rules.{rules}
 use borrow.Author.Tests.{not-false, not-true}
 use Rattle.trie_check_rules.proofs.Rules.{child_away, child_leaf, child_next, child_own}
 use Rattle.trie_check_rules.proofs.child_stands.Goals as goal

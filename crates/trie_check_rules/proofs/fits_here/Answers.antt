@@ -1,7 +1,5 @@
 -- `trie_check_rules::fits_here` meets its contract: the three tests in the order of `stands`.
 -- No loop, so no invariant.
-use borrow.Author.Rules.{rules}
-use borrow.Author.Tests.{not-false, not-true}
 use Rattle.trie_check_rules.proofs.Rules.{all_three, no_label, no_score}
 use Rattle.trie_check_rules.proofs.fits_here.Goals as goal
 

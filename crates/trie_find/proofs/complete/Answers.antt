@@ -1,7 +1,6 @@
 use Prim.Native.Nat.{◌-◌}
 use native.Mathlib.Omega.{arith}
-use borrow.Author.Rules.{rules}
-use Rattle.trie_find.proofs.Offering.{TrieOffering, offering-full, offering-length, offering-none, offering_on}
+use Rattle.trie_find.proofs.Offering.{offering-full, offering-length, offering-none, offering_on}
 use Rattle.trie_find.proofs.Offering.{offering_ready, offering_room, offering_start}
 use Rattle.trie_find.proofs.complete.Goals as goal
 

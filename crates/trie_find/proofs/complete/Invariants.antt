@@ -2,10 +2,7 @@
 -- Invariant: the entries offered so far and those that the search still offers are the completion; the bytes of the
 -- first stand at the front of the destination. The entries still to be offered fall.
 use Prim.Native.Nat.{◌-◌}
-use native.Mathlib.Omega.{arith}
-use borrow.Author.Rules.{rules}
-use Rattle.trie_find.proofs.Offering.{TrieOffering, offering-full, offering-length, offering-none, offering_on}
-use Rattle.trie_find.proofs.Offering.{offering_ready, offering_room, offering_start}
+use Rattle.trie_find.proofs.Offering.{TrieOffering}
 use Rattle.trie_find.proofs.complete.Given as goal
 
 abbrev pub invariant-loop-offered : goal.invariant-loop-offered

@@ -4,8 +4,6 @@ use Prim.Native.Nat.{ℕ}
 use mathlib.Core.Path.{◌∙◌, ◌≡◌, ap, sym}
 use mathlib.Core.List.{List}
 use lib.ListN.{length, length-replicate, replicate}
-use borrow.Author.Rules.{rules}
-use Rattle.octets.specs.Octets.{number_at}
 use Rattle.trie_find_laws.specs.Places.{score_field_at}
 use Rattle.trie_find_steps.specs.Steps.{arrive_at}
 use Rattle.trie_find.specs.Offers.{first_waits}

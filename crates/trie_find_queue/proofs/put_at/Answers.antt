@@ -5,7 +5,7 @@ use native.Mathlib.Omega.{arith}
 use borrow.Author.Rules.{rules}
 use Rattle.entries.specs.Completion.{max_count}
 use Rattle.trie_find_queue.specs.Waits.{nowhere}
-use Rattle.trie_find_queue.proofs.Moves.{Moving, moving-full, moving_more, moving_on, moving_start}
+use Rattle.trie_find_queue.proofs.Moves.{moving-full, moving_more, moving_on, moving_start}
 use Rattle.octets.proofs.Lists.{length_mapped}
 use Rattle.trie_find_queue.proofs.put_at.Goals as goal
 
@@ -34,10 +34,10 @@ bounds-nodes-count c = omega (arith, c.if-count-most.true, c.requires.2)
 pub overflow_add-result : goal.overflow_add-result
 overflow_add-result c =
     let q : c.args.q.count ≤ max_count = omega (
-  arith,
-  c.requires.1,
-  c.requires.2,
-) in omega (arith, q)
+      arith,
+      c.requires.1,
+      c.requires.2,
+    ) in omega (arith, q)
 
 pub returns-then-count-most : goal.returns-then-count-most
 returns-then-count-most c =

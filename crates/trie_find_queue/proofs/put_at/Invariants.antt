@@ -1,15 +1,8 @@
 -- `trie_find_queue::put_at` meets its contract: from index i on each node takes the place of the next; what is carried
 -- at the end is put behind the last if there is room. Invariant: the nodes up to j, the one carried, and the nodes from
 -- j on are the list with x put in. The nodes left fall.
-use Prim.Native.Nat.{◌-◌, ◌≤◌}
-use mathlib.Core.Path.{◌≡◌}
-use lib.ListN.{length}
-use native.Mathlib.Omega.{arith}
-use borrow.Author.Rules.{rules}
-use Rattle.entries.specs.Completion.{max_count}
-use Rattle.trie_find_queue.specs.Waits.{nowhere}
-use Rattle.trie_find_queue.proofs.Moves.{Moving, moving-full, moving_more, moving_on, moving_start}
-use Rattle.octets.proofs.Lists.{length_mapped}
+use Prim.Native.Nat.{◌-◌}
+use Rattle.trie_find_queue.proofs.Moves.{Moving}
 use Rattle.trie_find_queue.proofs.put_at.Given as goal
 
 abbrev pub invariant-loop-j : goal.invariant-loop-j

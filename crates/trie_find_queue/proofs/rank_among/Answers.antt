@@ -3,10 +3,9 @@ use mathlib.Core.Path.{◌∙◌, ◌≡◌, sym}
 use lib.ListN.{length}
 use native.Mathlib.Omega.{arith}
 use borrow.Author.Rules.{rules}
-use borrow.Author.Tests.{not-false, not-true}
 use Rattle.entries.specs.Completion.{max_count}
 use Rattle.trie_find_queue.specs.Waits.{nowhere}
-use Rattle.trie_find_queue.proofs.Moves.{Placing, in_front, placing_end, placing_found, placing_on}
+use Rattle.trie_find_queue.proofs.Moves.{in_front, placing_end, placing_found, placing_on}
 use Rattle.trie_find_queue.proofs.Moves.{placing_start}
 use Rattle.octets.proofs.Lists.{length_mapped}
 use Rattle.trie_find_queue.proofs.rank_among.Goals as goal
@@ -20,8 +19,7 @@ bounds-nodes-i c = omega (arith, c.loop-i-test.true, c.requires.0.few)
 pub node_outranks-requires : goal.node_outranks-requires
 node_outranks-requires c =
     let long : length c.args.q.nodes ≡ max_count = search (rules, length_mapped) in
-    let room : c.args.q.count ≤ length c.args.q.nodes = omega (arith, long, c.requires.0.few) in
-    (
+    let room : c.args.q.count ≤ length c.args.q.nodes = omega (arith, long, c.requires.0.few) in (
       c.requires.0.short _ (in_front nowhere c.args.q.nodes c.args.q.count c.loop-i.i
           c.loop-i-test.true room),
       c.requires.1,

@@ -5,7 +5,7 @@ use native.Mathlib.Omega.{arith}
 use borrow.Author.Rules.{rules}
 use Rattle.entries.specs.Completion.{max_count}
 use Rattle.trie_find_queue.specs.Waits.{nowhere}
-use Rattle.trie_find_queue.proofs.Moves.{Closing, closing_end, closing_on, closing_start}
+use Rattle.trie_find_queue.proofs.Moves.{closing_end, closing_on, closing_start}
 use Rattle.octets.proofs.Lists.{length_mapped}
 use Rattle.trie_find_queue.proofs.rest.Goals as goal
 

@@ -2,14 +2,7 @@
 -- Invariant: the nodes in front of i - 1 and those from i on are the nodes behind the first. The nodes left fall.
 --
 use Prim.Native.Nat.{◌-◌}
-use mathlib.Core.Path.{◌≡◌, refl}
-use lib.ListN.{length}
-use native.Mathlib.Omega.{arith}
-use borrow.Author.Rules.{rules}
-use Rattle.entries.specs.Completion.{max_count}
-use Rattle.trie_find_queue.specs.Waits.{nowhere}
-use Rattle.trie_find_queue.proofs.Moves.{Closing, closing_end, closing_on, closing_start}
-use Rattle.octets.proofs.Lists.{length_mapped}
+use Rattle.trie_find_queue.proofs.Moves.{Closing}
 use Rattle.trie_find_queue.proofs.rest.Given as goal
 
 abbrev pub invariant-loop-i : goal.invariant-loop-i

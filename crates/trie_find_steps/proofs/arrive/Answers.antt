@@ -2,7 +2,6 @@
 -- the mark. No loop, so no invariant.
 use mathlib.Core.Path.{◌∙◌, ap}
 use lib.Seq.{sets}
-use borrow.Author.Rules.{rules}
 use Rattle.trie_find_steps.proofs.Fields.{arrive_is}
 use Rattle.trie_find_steps.proofs.arrive.Goals as goal
 

@@ -1,7 +1,6 @@
 -- `trie_find_steps::first_child` meets its contract: the node where the child field leads, behind the node's own path.
 -- No loop, so no invariant.
 use mathlib.Core.Path.{◌∙◌, refl}
-use borrow.Author.Rules.{rules}
 use Rattle.trie_find_steps.proofs.Fields.{arrive_same}
 use Rattle.trie_find_steps.proofs.first_child.Goals as goal
 

@@ -1,7 +1,6 @@
 -- `trie_find_steps::from_behind` meets its contract: a leaf changes nothing, else the first child counts.
 -- No loop, so no invariant.
 use mathlib.Core.Path.{◌∙◌, sym}
-use borrow.Author.Rules.{rules}
 use Rattle.trie_find_steps.proofs.Fields.{from_inner, from_leaf}
 use Rattle.trie_find_steps.proofs.from_behind.Goals as goal
 

@@ -2,7 +2,6 @@
 -- No loop, so no invariant.
 use mathlib.Core.Path.{ap}
 use lib.Dec.{eqb}
-use borrow.Author.Rules.{rules}
 use Rattle.trie_find_steps.proofs.is_leaf.Goals as goal
 
 pub returns : goal.returns

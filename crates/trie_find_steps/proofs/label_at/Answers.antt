@@ -4,7 +4,6 @@ use Prim.Native.Nat.{◌+◌}
 use mathlib.Core.Path.{◌∙◌, ◌≡◌, ap}
 use lib.ListN.{drop, take}
 use native.Mathlib.Omega.{arith}
-use borrow.Author.Rules.{rules}
 use Rattle.trie.specs.Reading.{label_length}
 use Rattle.trie_find_laws.specs.Places.{header_at, label_from}
 use Rattle.trie_find_steps.proofs.label_at.Goals as goal

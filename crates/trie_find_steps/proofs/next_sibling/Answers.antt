@@ -3,7 +3,6 @@
 use Prim.Native.Nat.{◌-◌}
 use mathlib.Core.Path.{◌∙◌, ◌≡◌, ap, sym}
 use native.Mathlib.Omega.{arith}
-use borrow.Author.Rules.{rules}
 use Rattle.trie_find_laws.specs.Places.{score_field_at}
 use Rattle.trie_find_steps.specs.Steps.{FitsPath, behind_of, front_of}
 use Rattle.trie_find_steps.proofs.Fields.{arrive_same}

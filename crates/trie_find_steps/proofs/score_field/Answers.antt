@@ -3,7 +3,6 @@
 use Prim.Native.Nat.{◌+◌}
 use mathlib.Core.Path.{◌∙◌, ap, sym}
 use native.Mathlib.Omega.{arith}
-use borrow.Author.Rules.{rules}
 use Rattle.octets.specs.Octets.{number_at}
 use Rattle.trie_find_laws.specs.Places.{header_at}
 use Rattle.trie.proofs.Header.{score_most}

@@ -1,12 +1,10 @@
 use Prim.Native.Nat.{◌-◌}
 use mathlib.Core.Path.{◌∙◌, ◌≡◌, ap, sym}
 use mathlib.Core.Bool.{false}
-use lib.ListN.{length}
 use native.Mathlib.Omega.{arith}
-use borrow.Author.Tests.{not-false, not-true}
 use Rattle.octets.specs.Octets.{begins}
 use Rattle.trie_find_queue.specs.Waits.{path_of}
-use Rattle.trie_find_turns.proofs.Leading.{Heading, heading_on, heading_start, nobody_reaches, toward_ahead}
+use Rattle.trie_find_turns.proofs.Leading.{heading_on, heading_start, nobody_reaches, toward_ahead}
 use Rattle.trie_find_turns.proofs.Leading.{toward_here, toward_inside, toward_onward, toward_short, toward_stuck}
 use Rattle.trie_find_turns.proofs.descend.Goals as goal
 

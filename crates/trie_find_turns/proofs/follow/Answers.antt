@@ -1,13 +1,11 @@
 use Prim.Native.Nat.{◌-◌}
 use mathlib.Core.Path.{◌∙◌, ◌≡◌, ap, sym}
 use mathlib.Core.Bool.{false}
-use lib.ListN.{length}
 use native.Mathlib.Omega.{arith}
-use borrow.Author.Tests.{not-false, not-true}
 use Rattle.trie_find_laws.specs.Places.{is_leaf_at}
 use Rattle.trie_find_steps.specs.Steps.{child_index}
 use Rattle.trie_find_turns.proofs.Standing.{child_at}
-use Rattle.trie_find_turns.proofs.Turning.{Following, child_there, following_on, following_ready}
+use Rattle.trie_find_turns.proofs.Turning.{child_there, following_on, following_ready}
 use Rattle.trie_find_turns.proofs.Turning.{following_start, todo_ahead, todo_done}
 use Rattle.trie_find_turns.proofs.follow.Goals as goal
 

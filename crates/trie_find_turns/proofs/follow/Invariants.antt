@@ -2,16 +2,8 @@
 -- is a leaf. Invariant: what a turn gives from the first node it gives from this one. The bytes ahead of the node fall.
 --
 use Prim.Native.Nat.{◌-◌}
-use mathlib.Core.Path.{◌∙◌, ◌≡◌, ap, sym}
-use mathlib.Core.Bool.{false}
 use lib.ListN.{length}
-use native.Mathlib.Omega.{arith}
-use borrow.Author.Tests.{not-false, not-true}
-use Rattle.trie_find_laws.specs.Places.{is_leaf_at}
-use Rattle.trie_find_steps.specs.Steps.{child_index}
-use Rattle.trie_find_turns.proofs.Standing.{child_at}
-use Rattle.trie_find_turns.proofs.Turning.{Following, child_there, following_on, following_ready}
-use Rattle.trie_find_turns.proofs.Turning.{following_start, todo_ahead, todo_done}
+use Rattle.trie_find_turns.proofs.Turning.{Following}
 use Rattle.trie_find_turns.proofs.follow.Given as goal
 
 abbrev pub invariant-loop-queue : goal.invariant-loop-queue

@@ -3,7 +3,6 @@
 use mathlib.Core.Path.{ap, refl}
 use mathlib.Core.Bool.{not}
 use borrow.Author.Tests.{not-false, not-true}
-use borrow.Author.Rules.{rules}
 use Rattle.trie_find_turns.proofs.is_stuck.Goals as goal
 
 pub returns-then-not-x : goal.returns-then-not-x

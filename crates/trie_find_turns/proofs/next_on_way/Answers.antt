@@ -1,7 +1,6 @@
 -- `trie_find_turns::next_on_way` meets its contract: the first child where the way goes down, else the next sibling.
 -- No loop, so no invariant.
 use mathlib.Core.Path.{◌∙◌, sym}
-use borrow.Author.Rules.{rules}
 use Rattle.trie_find_turns.proofs.next_on_way.Goals as goal
 
 pub first_child-requires : goal.first_child-requires

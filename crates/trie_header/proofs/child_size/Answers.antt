@@ -3,7 +3,6 @@
 use Prim.Native.Nat.{◌/◌}
 use mathlib.Core.Path.{◌∙◌, ap}
 use lib.Bits.{and_mask}
-use borrow.Author.Rules.{rules}
 use Rattle.trie.specs.Reading.{child_size, size_at}
 use Rattle.trie_header.proofs.child_size.Goals as goal
 

@@ -1,6 +1,5 @@
 -- `trie_header::code_of` meets its contract: the test is that of `code_of`.
 -- No loop, so no invariant.
-use borrow.Author.Rules.{rules}
 use borrow.Author.Tests.{eq-eqb, ne_eqb}
 use Rattle.trie_header.proofs.code_of.Goals as goal
 

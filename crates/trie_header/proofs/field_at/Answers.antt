@@ -2,7 +2,6 @@
 -- No loop, so no invariant.
 use mathlib.Core.Path.{◌∙◌, ◌≡◌, ap, sym}
 use native.Mathlib.Omega.{arith}
-use borrow.Author.Rules.{rules}
 use Rattle.octets.specs.Octets.{number_at}
 use Rattle.trie_header.proofs.Fields.{number-none, number-one}
 use Rattle.trie_header.proofs.field_at.Goals as goal
@@ -13,10 +12,10 @@ returns-then-size-eq0 c = rw c.if-size-eq0.true (sym (number-none c.args.buf.now
 pub overflow_cast-result : goal.overflow_cast-result
 overflow_cast-result c =
     omega (
-  arith,
-  c.shared_slice_known-1.given
-      c.args.at,
-)
+      arith,
+      c.shared_slice_known-1.given
+          c.args.at,
+    )
 
 pub returns-then-size-eq1 : goal.returns-then-size-eq1
 returns-then-size-eq1 c =

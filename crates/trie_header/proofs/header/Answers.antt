@@ -1,6 +1,5 @@
 -- `trie_header::header` meets its contract: the codes, the mark and the label's length have no bit in common
 -- (proofs/Packed). No loop, so no invariant.
-use borrow.Author.Rules.{rules}
 use Rattle.trie_header.proofs.Packed.{header_packed}
 use Rattle.trie_header.proofs.header.Goals as goal
 

@@ -1,6 +1,5 @@
 -- `trie_header::label_part` meets its contract: a part of the buffer is those of its bytes.
 -- No loop, so no invariant.
-use borrow.Author.Rules.{rules}
 use Rattle.octets.proofs.Stores.{part_bytes}
 use Rattle.trie_header.proofs.label_part.Goals as goal
 

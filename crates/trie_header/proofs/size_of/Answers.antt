@@ -12,15 +12,15 @@ returns-then-v-lt256 c = simp (ne_eqb _ _ c.if-v-eq0.false, lt-ltb _ _ c.if-v-lt
 pub returns-then-v-lt65536 : goal.returns-then-v-lt65536
 returns-then-v-lt65536 c =
     simp (
-  ne_eqb _ _ c.if-v-eq0.false,
-  le-ltb _ _ c.if-v-lt256.false,
-  lt-ltb _ _ c.if-v-lt65536.true,
-)
+      ne_eqb _ _ c.if-v-eq0.false,
+      le-ltb _ _ c.if-v-lt256.false,
+      lt-ltb _ _ c.if-v-lt65536.true,
+    )
 
 pub returns : goal.returns
 returns c =
     simp (
-  ne_eqb _ _ c.if-v-eq0.false,
-  le-ltb _ _ c.if-v-lt256.false,
-  le-ltb _ _ c.if-v-lt65536.false,
-)
+      ne_eqb _ _ c.if-v-eq0.false,
+      le-ltb _ _ c.if-v-lt256.false,
+      le-ltb _ _ c.if-v-lt65536.false,
+    )

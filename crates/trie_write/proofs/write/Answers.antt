@@ -5,7 +5,6 @@ use mathlib.Core.Path.{sym}
 use lib.ListN.{length-replicate}
 use lib.Seq.{length-take-le}
 use native.Mathlib.Omega.{arith}
-use borrow.Author.Rules.{rules}
 use Rattle.book_laws.proofs.Held.{held_few, held_stored}
 use Rattle.trie_write.proofs.Whole.{answered-same}
 use Rattle.trie_write.proofs.write.Goals as goal

@@ -5,7 +5,6 @@ use mathlib.Core.Path.{◌∙◌, ◌≡◌, ap, refl}
 use mathlib.Core.Bool.{false≢true}
 use lib.ListN.{length}
 use native.Mathlib.Omega.{arith}
-use borrow.Author.Rules.{rules}
 use Rattle.trie_write.proofs.Whole.{measured, ready, refused, size_is, small, wrote}
 use Rattle.trie_write.proofs.write_rows.Goals as goal
 

@@ -2,7 +2,6 @@
 -- then put. No loop, so no invariant.
 use Prim.Native.Nat.{◌+◌, ◌≤◌}
 use native.Mathlib.Omega.{arith}
-use borrow.Author.Rules.{rules}
 use Rattle.trie_write_nodes.proofs.Loops.{able_sized, all_fit, finish_not, finish_put, own_le, room_for}
 use Rattle.trie_write_nodes.proofs.finish.Goals as goal
 
@@ -29,12 +28,11 @@ overflow_sub-to-then-to c =
     omega (arith, fits)
 
 pub put_nodes-requires : goal.put_nodes-requires
-put_nodes-requires c =
-    (
-      c.requires.0,
-      all_fit c.requires.1 c.plain_fields.ensures c.nodes_size-other.ensures.0 c.first_fields-first.ensures
-          c.nodes_size-full.ensures.0 c.if-to.true,
-    )
+put_nodes-requires c = (
+  c.requires.0,
+  all_fit c.requires.1 c.plain_fields.ensures c.nodes_size-other.ensures.0 c.first_fields-first.ensures
+      c.nodes_size-full.ensures.0 c.if-to.true,
+)
 
 pub overflow_add-result : goal.overflow_add-result
 overflow_add-result c = omega (arith, c.nodes_size-full.ensures.1, c.requires.1.low)

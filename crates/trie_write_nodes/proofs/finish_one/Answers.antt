@@ -3,7 +3,6 @@
 use Prim.Native.Nat.{◌+◌, ◌≤◌}
 use mathlib.Core.Path.{refl}
 use native.Mathlib.Omega.{arith}
-use borrow.Author.Rules.{rules}
 use Rattle.trie_write_nodes.proofs.Loops.{alone, finish_alone, finish_not, one_fits, own_le, room_for}
 use Rattle.trie_write_nodes.proofs.finish_one.Goals as goal
 

@@ -1,7 +1,6 @@
 use Prim.Native.Nat.{◌-◌}
 use native.Mathlib.Omega.{arith}
-use borrow.Author.Rules.{rules}
-use Rattle.trie_write_nodes.proofs.Loops.{NodesSizing, here_falls, here_short, sizing_end, sizing_start}
+use Rattle.trie_write_nodes.proofs.Loops.{here_falls, here_short, sizing_end, sizing_start}
 use Rattle.trie_write_nodes.proofs.Loops.{sizing_turn}
 use Rattle.trie_write_runs.proofs.Runs.{within}
 use Rattle.trie_write_nodes.proofs.nodes_size.Goals as goal
@@ -13,11 +12,10 @@ pub run_at-r-requires : goal.run_at-r-requires
 run_at-r-requires c = within c.requires.0 c.loop-i-test.true
 
 pub node_size-m-requires : goal.node_size-m-requires
-node_size-m-requires c =
-    (
-      rw c.run_at-r.ensures (here_short c.requires.0 c.requires.1 c.loop-i.invariant c.loop-i-test.true),
-      c.loop-i.invariant.size,
-    )
+node_size-m-requires c = (
+  rw c.run_at-r.ensures (here_short c.requires.0 c.requires.1 c.loop-i.invariant c.loop-i-test.true),
+  c.loop-i.invariant.size,
+)
 
 pub score_at-score-requires : goal.score_at-score-requires
 score_at-score-requires c = c.requires.0

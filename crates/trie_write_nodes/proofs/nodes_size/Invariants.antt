@@ -1,11 +1,7 @@
 -- `trie_write_nodes::nodes_size` meets its contract. The loop's invariant: the bytes counted, with the nodes left
 -- counted now, are the whole. The measure is the number of nodes left.
 use Prim.Native.Nat.{◌-◌}
-use native.Mathlib.Omega.{arith}
-use borrow.Author.Rules.{rules}
-use Rattle.trie_write_nodes.proofs.Loops.{NodesSizing, here_falls, here_short, sizing_end, sizing_start}
-use Rattle.trie_write_nodes.proofs.Loops.{sizing_turn}
-use Rattle.trie_write_runs.proofs.Runs.{within}
+use Rattle.trie_write_nodes.proofs.Loops.{NodesSizing}
 use Rattle.trie_write_nodes.proofs.nodes_size.Given as goal
 
 abbrev pub invariant-loop-i : goal.invariant-loop-i

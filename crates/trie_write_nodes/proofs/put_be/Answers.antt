@@ -2,8 +2,6 @@
 -- No loop, so no invariant.
 use mathlib.Core.Path.{◌∙◌, ap}
 use lib.Seq.{sets}
-use native.Mathlib.Omega.{arith}
-use borrow.Author.Rules.{rules}
 use Rattle.trie_write_nodes.proofs.Bytes.{be-part}
 use Rattle.trie_write_nodes.proofs.put_be.Goals as goal
 

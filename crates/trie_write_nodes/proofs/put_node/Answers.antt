@@ -5,7 +5,6 @@ use mathlib.Core.Path.{◌∙◌, ap}
 use lib.ListN.{length, length-set}
 use lib.Seq.{sets}
 use native.Mathlib.Omega.{arith}
-use borrow.Author.Rules.{rules}
 use Rattle.trie.proofs.Header.{size_of_most}
 use Rattle.trie_write_runs.proofs.Fields.{child_size_le, node_length_lem}
 use Rattle.trie_write_nodes.proofs.Bytes.{label_part, node_put}
@@ -19,7 +18,7 @@ header-requires c =
 
 pub bounds-dst-at : goal.bounds-dst-at
 bounds-dst-at c =
-    let room : c.args.at + 1 + c.size_of-score.result + c.child_field_size-child.result + c.args.r.len ≤ length c.args.dst.now = omega ( arith, c.requires.room, (node_length_lem c.args.r c.args.f c.requires.sound.short c.requires.small c.size_of-score.ensures c.child_field_size-child.ensures).0, ) in
+    let room : c.args.at + 1 + c.size_of-score.result + c.child_field_size-child.result + c.args.r.len ≤ length c.args.dst.now = omega (arith, c.requires.room, (node_length_lem c.args.r c.args.f c.requires.sound.short c.requires.small c.size_of-score.ensures c.child_field_size-child.ensures).0) in
     omega (arith, room)
 
 pub put_be-requires : goal.put_be-requires
@@ -29,7 +28,7 @@ put_be-requires c =
 
 pub overflow_add-at-3 : goal.overflow_add-at-3
 overflow_add-at-3 c =
-    let room : c.args.at + 1 + c.size_of-score.result + c.child_field_size-child.result + c.args.r.len ≤ length c.args.dst.now = omega ( arith, c.requires.room, (node_length_lem c.args.r c.args.f c.requires.sound.short c.requires.small c.size_of-score.ensures c.child_field_size-child.ensures).0, ) in
+    let room : c.args.at + 1 + c.size_of-score.result + c.child_field_size-child.result + c.args.r.len ≤ length c.args.dst.now = omega (arith, c.requires.room, (node_length_lem c.args.r c.args.f c.requires.sound.short c.requires.small c.size_of-score.ensures c.child_field_size-child.ensures).0) in
     omega (arith, room)
 
 pub put_be-requires-2 : goal.put_be-requires-2
@@ -39,12 +38,12 @@ put_be-requires-2 c =
 
 pub overflow_add-at-5 : goal.overflow_add-at-5
 overflow_add-at-5 c =
-    let room : c.args.at + 1 + c.size_of-score.result + c.child_field_size-child.result + c.args.r.len ≤ length c.args.dst.now = omega ( arith, c.requires.room, (node_length_lem c.args.r c.args.f c.requires.sound.short c.requires.small c.size_of-score.ensures c.child_field_size-child.ensures).0, ) in
+    let room : c.args.at + 1 + c.size_of-score.result + c.child_field_size-child.result + c.args.r.len ≤ length c.args.dst.now = omega (arith, c.requires.room, (node_length_lem c.args.r c.args.f c.requires.sound.short c.requires.small c.size_of-score.ensures c.child_field_size-child.ensures).0) in
     omega (arith, room)
 
 pub overflow_add-at-6 : goal.overflow_add-at-6
 overflow_add-at-6 c =
-    let room : c.args.at + 1 + c.size_of-score.result + c.child_field_size-child.result + c.args.r.len ≤ length c.args.dst.now = omega ( arith, c.requires.room, (node_length_lem c.args.r c.args.f c.requires.sound.short c.requires.small c.size_of-score.ensures c.child_field_size-child.ensures).0, ) in
+    let room : c.args.at + 1 + c.size_of-score.result + c.child_field_size-child.result + c.args.r.len ≤ length c.args.dst.now = omega (arith, c.requires.room, (node_length_lem c.args.r c.args.f c.requires.sound.short c.requires.small c.size_of-score.ensures c.child_field_size-child.ensures).0) in
     omega (arith, room)
 
 pub shape_of-dst : goal.shape_of-dst

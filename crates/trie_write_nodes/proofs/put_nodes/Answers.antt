@@ -1,8 +1,7 @@
 use Prim.Native.Nat.{◌-◌}
 use mathlib.Core.Path.{ap, refl}
 use native.Mathlib.Omega.{arith}
-use borrow.Author.Rules.{rules}
-use Rattle.trie_write_nodes.proofs.Loops.{Putting, node_falls, node_fits, node_room, node_sound, putting_end}
+use Rattle.trie_write_nodes.proofs.Loops.{node_falls, node_fits, node_room, node_sound, putting_end}
 use Rattle.trie_write_nodes.proofs.Loops.{putting_start, putting_turn}
 use Rattle.trie_write_runs.proofs.Runs.{within}
 use Rattle.trie_write_nodes.proofs.put_nodes.Goals as goal
@@ -14,11 +13,10 @@ pub run_at-r-requires : goal.run_at-r-requires
 run_at-r-requires c = within c.requires.0 c.loop-i-test.true
 
 pub node_size-m-requires : goal.node_size-m-requires
-node_size-m-requires c =
-    (
-      rw c.run_at-r.ensures (node_sound c.requires.0 c.requires.1 c.loop-i.invariant c.loop-i-test.true).short,
-      c.loop-i.invariant.small,
-    )
+node_size-m-requires c = (
+  rw c.run_at-r.ensures (node_sound c.requires.0 c.requires.1 c.loop-i.invariant c.loop-i-test.true).short,
+  c.loop-i.invariant.small,
+)
 
 pub score_at-score-requires : goal.score_at-score-requires
 score_at-score-requires c = c.requires.0

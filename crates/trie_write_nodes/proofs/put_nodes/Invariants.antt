@@ -1,12 +1,7 @@
 -- `trie_write_nodes::put_nodes` meets its contract. The loop's invariant: the bytes put, with the nodes left put now,
 -- are the whole. The measure is the number of nodes left.
 use Prim.Native.Nat.{◌-◌}
-use mathlib.Core.Path.{ap, refl}
-use native.Mathlib.Omega.{arith}
-use borrow.Author.Rules.{rules}
-use Rattle.trie_write_nodes.proofs.Loops.{Putting, node_falls, node_fits, node_room, node_sound, putting_end}
-use Rattle.trie_write_nodes.proofs.Loops.{putting_start, putting_turn}
-use Rattle.trie_write_runs.proofs.Runs.{within}
+use Rattle.trie_write_nodes.proofs.Loops.{Putting}
 use Rattle.trie_write_nodes.proofs.put_nodes.Given as goal
 
 abbrev pub invariant-loop-i : goal.invariant-loop-i

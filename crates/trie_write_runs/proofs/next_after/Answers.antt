@@ -1,6 +1,5 @@
 -- `trie_write_runs::next_after` meets its contract: a leaf leaves the child field as it was, another node counts what
 -- stands under it. No loop, so no invariant.
-use borrow.Author.Rules.{rules}
 use borrow.Author.Tests.{eq-eqb}
 use Rattle.trie_write_runs.specs.Fields.{after}
 use Rattle.trie_write_runs.proofs.Fields.{after_inner_lem}

@@ -1,7 +1,6 @@
 -- `trie_write_runs::node_size` meets its contract: the sum of the sizes of a node's parts.
 -- No loop, so no invariant.
 use native.Mathlib.Omega.{arith}
-use borrow.Author.Rules.{rules}
 use Rattle.trie.proofs.Header.{size_of_most}
 use Rattle.trie_write_runs.proofs.Fields.{child_size_le, node_length_lem}
 use Rattle.trie_write_runs.proofs.node_size.Goals as goal

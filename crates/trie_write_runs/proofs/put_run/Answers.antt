@@ -2,7 +2,6 @@
 -- No loop, so no invariant.
 use lib.ListN.{length-set}
 use native.Mathlib.Omega.{arith}
-use borrow.Author.Rules.{rules}
 use Rattle.trie_write_runs.proofs.Runs.{words_put}
 use Rattle.trie_write_runs.proofs.put_run.Goals as goal
 

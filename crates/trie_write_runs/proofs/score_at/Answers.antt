@@ -1,7 +1,6 @@
 -- `trie_write_runs::score_at` meets its contract: the run at the index, or none behind the last.
 -- No loop, so no invariant.
 use mathlib.Core.Path.{◌∙◌, ap, sym}
-use borrow.Author.Rules.{rules}
 use Rattle.trie_write_runs.specs.Runs.{first_high}
 use Rattle.trie_write_runs.proofs.Runs.{kept_end, kept_next, within}
 use Rattle.trie_write_runs.proofs.score_at.Goals as goal
