@@ -1,6 +1,5 @@
 -- `labels::read_part` meets its contract: the bytes that the read gave are those of the part answered.
 -- No loop, so no invariant. Assumes nothing but what reading gives.
-use borrow.Author.Rules.{rules}
 use Rattle.labels.proofs.Lending.{fed_read}
 use Rattle.labels.proofs.read_part.Goals as goal
 
