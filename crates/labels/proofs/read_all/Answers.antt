@@ -1,10 +1,8 @@
-use mathlib.Core.Path.{◌∙◌, ◌≡◌, refl}
+use mathlib.Core.Path.{◌∙◌, refl}
 use mathlib.Core.Bool.{false}
-use lib.ListN.{length}
 use native.Mathlib.Omega.{arith}
-use Rattle.program.specs.Console.{SomeFed, console_in}
 use Rattle.program.proofs.Input.{fed_more, fed_none}
-use Rattle.labels.proofs.Lending.{Ready, ready_on, ready_start}
+use Rattle.labels.proofs.Lending.{ready_on, ready_start}
 use Rattle.labels.proofs.read_all.Goals as goal
 
 pub loop-reads-init : goal.loop-reads-init
