@@ -1,6 +1,6 @@
 -- The count stands in its place.
 use Rattle.std.proofs.Common.{◌≡◌, length}
-use Rattle.std.proofs.Math.Path.{◌∙◌, sym}
+use Rattle.std.proofs.Math.Path.{◌∙◌}
 use Rattle.book.specs.Book.{in_book}
 use Rattle.label_book_c.proofs.HeadStart.{count_there, few_there}
 use Rattle.label_book_c.proofs.head_start.Goals as goal

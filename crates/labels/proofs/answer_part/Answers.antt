@@ -1,12 +1,12 @@
-use Prim.Native.Nat.{◌+◌, ◌-◌}
+use Prim.Native.Nat.{◌+◌}
 use mathlib.Core.Path.{refl, sym}
-use lib.ListN.{drop, length, length-drop, take}
+use lib.ListN.{drop, length-drop}
 use lib.Seq.{length-take-le}
 use native.Mathlib.Omega.{arith}
 use Rattle.octets.proofs.Stores.{to_end}
 use Rattle.program_run.specs.Feed.{FeedDone}
 use Rattle.program.specs.Console.{console_in}
-use Rattle.labels.proofs.Lending.{Feeding, Ready, feeding_end, feeding_on, feeding_start, ready_on, ready_start}
+use Rattle.labels.proofs.Lending.{Feeding, feeding_end, feeding_on, feeding_start, ready_on, ready_start}
 use Rattle.labels.proofs.answer_part.Goals as goal
 
 pub loop-used-init : goal.loop-used-init

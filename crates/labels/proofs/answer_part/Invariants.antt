@@ -1,15 +1,10 @@
 -- `labels::answer_part` meets its contract. The loop's invariant: what is left of the part, fed to the console that the
 -- buffers hold, leads where all of it leads from the start; the buffers keep their lengths, and there is room for a
 -- line. The measure is what is left of the part.
-use Prim.Native.Nat.{◌+◌, ◌-◌}
-use mathlib.Core.Path.{refl, sym}
-use lib.ListN.{drop, length, length-drop, take}
-use lib.Seq.{length-take-le}
-use native.Mathlib.Omega.{arith}
-use Rattle.octets.proofs.Stores.{to_end}
-use Rattle.program_run.specs.Feed.{FeedDone}
+use Prim.Native.Nat.{◌-◌}
+use lib.ListN.{length}
 use Rattle.program.specs.Console.{console_in}
-use Rattle.labels.proofs.Lending.{Feeding, Ready, feeding_end, feeding_on, feeding_start, ready_on, ready_start}
+use Rattle.labels.proofs.Lending.{Feeding, Ready}
 use Rattle.labels.proofs.answer_part.Given as goal
 
 abbrev pub invariant-loop-used : goal.invariant-loop-used

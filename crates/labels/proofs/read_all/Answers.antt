@@ -1,19 +1,16 @@
-use mathlib.Core.Path.{◌∙◌, ◌≡◌, refl}
+use mathlib.Core.Path.{◌∙◌, refl}
 use mathlib.Core.Bool.{false}
-use lib.ListN.{length}
 use native.Mathlib.Omega.{arith}
-use Rattle.program.specs.Console.{SomeFed, console_in}
 use Rattle.program.proofs.Input.{fed_more, fed_none}
-use Rattle.labels.proofs.Lending.{Ready, ready_on, ready_start}
+use Rattle.labels.proofs.Lending.{ready_on, ready_start}
 use Rattle.labels.proofs.read_all.Goals as goal
 
 pub loop-reads-init : goal.loop-reads-init
-loop-reads-init c =
-    (
-      fed_none 0 false c.args.line.now c.args.first.now c.args.second.now (omega arith),
-      refl,
-      ready_start c.args.first.now c.args.second.now c.requires,
-    )
+loop-reads-init c = (
+  fed_none 0 false c.args.line.now c.args.first.now c.args.second.now (omega arith),
+  refl,
+  ready_start c.args.first.now c.args.second.now c.requires,
+)
 
 pub read_part-s-requires : goal.read_part-s-requires
 read_part-s-requires c = c.loop-reads.invariant.2.room
@@ -25,13 +22,12 @@ pub loop-reads-smaller : goal.loop-reads-smaller
 loop-reads-smaller c = omega (arith, c.loop-reads-test.true)
 
 pub loop-reads-preserved : goal.loop-reads-preserved
-loop-reads-preserved c =
-    (
-      fed_more c.loop-reads.invariant.0 c.read_part-s.ensures.is,
-      c.read_part-s.auto.input ∙ c.loop-reads.invariant.1,
-      ready_on c.loop-reads.invariant.2 c.read_part-s.ensures.is.few c.read_part-s.auto.line c.read_part-s.auto.first
-          c.read_part-s.auto.second c.read_part-s.auto.out,
-    )
+loop-reads-preserved c = (
+  fed_more c.loop-reads.invariant.0 c.read_part-s.ensures.is,
+  c.read_part-s.auto.input ∙ c.loop-reads.invariant.1,
+  ready_on c.loop-reads.invariant.2 c.read_part-s.ensures.is.few c.read_part-s.auto.line c.read_part-s.auto.first
+      c.read_part-s.auto.second c.read_part-s.auto.out,
+)
 
 pub shape_of-input-else-more : goal.shape_of-input-else-more
 shape_of-input-else-more c = c.loop-reads.invariant.1

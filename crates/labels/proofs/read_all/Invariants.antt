@@ -1,13 +1,11 @@
 -- `labels::read_all` meets its contract. The loop's invariant: the console that the buffers hold is the one that some
 -- bytes lead to from the start, those read so far; the buffers keep their lengths, and there is room for a line. The
 -- measure is how many reads are left.
-use mathlib.Core.Path.{◌∙◌, ◌≡◌, refl}
+use mathlib.Core.Path.{◌≡◌}
 use mathlib.Core.Bool.{false}
 use lib.ListN.{length}
-use native.Mathlib.Omega.{arith}
 use Rattle.program.specs.Console.{SomeFed, console_in}
-use Rattle.program.proofs.Input.{fed_more, fed_none}
-use Rattle.labels.proofs.Lending.{Ready, ready_on, ready_start}
+use Rattle.labels.proofs.Lending.{Ready}
 use Rattle.labels.proofs.read_all.Given as goal
 
 abbrev pub invariant-loop-reads : goal.invariant-loop-reads
