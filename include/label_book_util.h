@@ -83,7 +83,8 @@ static inline const char *label_book_refusal_text(uint8_t number) {
     case LABEL_BOOK_TEXT_FULL:
         return "the panel's text is full";
     case LABEL_BOOK_OLD_VERSION:
-        return "a book of the old version 21, which has to be converted first";
+        return "a book of the old version 21, which this version cannot read; "
+               "the converter comes with the next one";
     default:
         return "no such refusal";
     }

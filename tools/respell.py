@@ -7,6 +7,7 @@ usage: tools/respell.py     at the top of a checkout on which /opt/rattle/port/p
 camel case wherever it stands, a record's fields among them), the old name, the new one. A name of a module is turned in
 the file of that module and in the files that import it from there. Where a lemma would take the name of the definition
 that it is about, it has `_lem` behind it. Functions of src/, exported names, texts and file names stay as they are.
+Our own `if_then_else_`, over types of any level, is `if_then_otherwise_` now: the other is the library's name.
 Run it once: a lemma's name may be one that a definition had lost before.
 """
 import os
@@ -94,6 +95,20 @@ def turned(path, text, everywhere, of_module):
     return ''.join([*pieces, token.sub(one, text[at:])])
 
 
+CHOICE = 'if◌then◌else◌'
+CLAUSE = re.compile(r'(?<=\bensures \{ )[^\n]*')
+
+
+def otherwise(path, text):
+    """Our choice by a test under the name that the library leaves free."""
+    if CHOICE not in text:
+        return text
+    text = text.replace(CHOICE, CHOICE.replace('else', 'otherwise'))
+    if path.endswith('.rt'):
+        return CLAUSE.sub(lambda m: re.sub(r'\belse\b', 'otherwise', m.group(0)), text)
+    return TOKEN.sub(lambda m: 'otherwise' if m.group(0) == 'else' else m.group(0), text)
+
+
 def main():
     everywhere, of_module = table()
     for folder, dirs, files in os.walk('crates'):
@@ -104,7 +119,7 @@ def main():
             path = os.path.join(folder, file)
             with open(path, encoding='utf-8') as f:
                 old = f.read()
-            new = turned(path, old, everywhere, of_module)
+            new = otherwise(path, turned(path, old, everywhere, of_module))
             if new != old:
                 with open(path, 'w', encoding='utf-8') as f:
                     f.write(new)

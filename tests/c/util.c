@@ -173,7 +173,8 @@ static void words_of_refusals(void) {
               "a name or prefix that is not allowed (a name has 1 to 48 bytes, "
               "each from 20 to 7E or in a whole \xC2\xB5 or \xCE\xA9)");
     SAME_TEXT(label_book_refusal_text(LABEL_BOOK_OLD_VERSION),
-              "a book of the old version 21, which has to be converted first");
+              "a book of the old version 21, which this version cannot read; "
+              "the converter comes with the next one");
     SAME_TEXT(label_book_refusal_text(11), "no such refusal");
     SAME_TEXT(label_book_refusal_text(255), "no such refusal");
 }

@@ -1,7 +1,7 @@
 -- An answer as C gets it: the number returned, and the values told through pointers, all of them 0 with a refusal.
 use Rattle.std.specs.Prelude.{ℕ, ◌≡◌}
 use Rattle.std.proofs.Math.Option.{Option, none, some}
-use Rattle.octets.specs.Lists.{if◌then◌else◌}
+use Rattle.octets.specs.Lists.{if◌then◌otherwise◌}
 use Rattle.answer.specs.Answers.{Answer, FoundCounts, OfferedCounts, PlayedCounts, SpanCounts, WrittenCounts, counts}
 use Rattle.answer.specs.Answers.{none_found, none_offered, none_played, none_span, none_written, number}
 
@@ -48,4 +48,4 @@ pub record SpanTold (a : Answer SpanCounts) (r i k : ℕ) : Type 0 where
 pub record PlayedTold (a : Answer PlayedCounts) (r n t : ℕ) : Type 0 where
   pub returned : r ≡ number a
   pub calls : n ≡ (counts none_played a).calls
-  pub turned : t ≡ (if (counts none_played a).turned then 1 else 0)
+  pub turned : t ≡ (if (counts none_played a).turned then 1 otherwise 0)

@@ -1,7 +1,7 @@
 -- Answers and refusals (document 01, "When a call declines"), and the bytes of one answer entry.
 use Rattle.std.specs.Prelude.{ℕ, Bool, false, not, List, [], ◌++◌, ◌∷◌, map, ltb, length}
 use Rattle.std.proofs.Math.Option.{Option}
-use Rattle.octets.specs.Lists.{concat_map, if◌then◌else◌, keep}
+use Rattle.octets.specs.Lists.{concat_map, if◌then◌otherwise◌, keep}
 use Rattle.octets.specs.Octets.{be, overwrite}
 use Rattle.entries.specs.Entries.{Entry}
 use Rattle.frame.specs.Frame.{entries_of, is_read}
@@ -76,7 +76,7 @@ n when b = record { number = n; applies = b }
 -- the number of the first check that applies, else the answer
 abbrev pub unless : {A : Type 0} → List Check → A → Answer A
 unless [] a = given a
-unless (c ∷ cs) a = if c.applies then refused c.number else unless cs a
+unless (c ∷ cs) a = if c.applies then refused c.number otherwise unless cs a
 
 -- the numbers of those that apply
 abbrev pub applying : List Check → List ℕ

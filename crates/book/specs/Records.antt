@@ -2,7 +2,7 @@
 -- name gives what it shares with the name before. Whether there are heads, `heads`, is a parameter: it differs by
 -- version.
 use Rattle.std.specs.Prelude.{◌%◌, ◌+◌, ◌-◌, suc, zero, ℕ, Bool, false, true, List, [], ◌++◌, ◌∷◌, eqb, drop, get_or, length, take}
-use Rattle.octets.specs.Lists.{if◌then◌else◌}
+use Rattle.octets.specs.Lists.{if◌then◌otherwise◌}
 use Rattle.octets.specs.Octets.{common}
 
 -- names in a bucket
@@ -22,7 +22,7 @@ head_at false i = false
 -- byte (the longest prefix shared with the name before), the length of the rest, the rest
 unfoldable pub record_of : Bool → ℕ → List ℕ → List ℕ → List ℕ
 record_of heads i prev w =
-    if head_at heads i then (length w ∷ w) else (common prev w ∷ (length w - common prev w) ∷ drop (common prev w) w)
+    if head_at heads i then (length w ∷ w) otherwise (common prev w ∷ (length w - common prev w) ∷ drop (common prev w) w)
 
 -- the records of names, the first at position i and behind the name prev
 abbrev pub records : Bool → ℕ → List ℕ → List (List ℕ) → List ℕ
@@ -39,10 +39,10 @@ unfoldable pub record_name : Bool → ℕ → List ℕ → List ℕ → List ℕ
 record_name heads i prev bs =
     if head_at heads i
     then take (get_or bs 0 0) (drop 1 bs)
-    else (take (get_or bs 0 0) prev ++ take (get_or bs 1 0) (drop 2 bs))
+    otherwise (take (get_or bs 0 0) prev ++ take (get_or bs 1 0) (drop 2 bs))
 
 unfoldable pub record_length : Bool → ℕ → List ℕ → ℕ
-record_length heads i bs = if head_at heads i then 1 + get_or bs 0 0 else 2 + get_or bs 1 0
+record_length heads i bs = if head_at heads i then 1 + get_or bs 0 0 otherwise 2 + get_or bs 1 0
 
 -- n names from the records at the front of bs, the first at position i and behind the name prev
 abbrev pub names_from : Bool → ℕ → ℕ → List ℕ → List ℕ → List (List ℕ)

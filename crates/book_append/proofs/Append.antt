@@ -6,7 +6,7 @@ use mathlib.Core.List.{List, [], ◌++◌, ◌∷◌, append-nil}
 use lib.ListN.{length, length-append, length-take}
 use lib.Seq.{length-sets, take-length}
 use native.Mathlib.Omega.{arith}
-use Rattle.octets.specs.Lists.{if◌then◌else◌}
+use Rattle.octets.specs.Lists.{if◌then◌otherwise◌}
 use Rattle.octets.proofs.Lists.{append-all}
 use Rattle.octets.proofs.Tests.{and_true_both, by_test}
 use Rattle.entries.specs.Entries.{Entry, entry, names}
@@ -241,7 +241,7 @@ module _ {l : Layout} {store : Bool} {n i at : ℕ} {prev w : List ℕ} {s : ℕ
   -- the record given as its bytes
   pub passed_given :
       {bytes : List ℕ} {r : ℕ} {new : List ℕ} → bytes ≡ record_of l.heads i prev w
-      → new ≡ (if store then put_record l n i at bytes s d else d) → r ≡ at + length bytes
+      → new ≡ (if store then put_record l n i at bytes s d otherwise d) → r ≡ at + length bytes
       → AppendDone l store n (cursor_behind at i prev) (entry w s ∷ []) d (cursor_behind r (i + 1) w) new
   unfolding put_entry
   passed_given {bytes} {new = new} e put end =

@@ -1,6 +1,6 @@
 -- A pass over entries, which puts them one after the other or only measures them: what it asks and what it leaves.
 use Rattle.std.specs.Prelude.{◌+◌, ◌<◌, ◌≤◌, suc, ℕ, ◌≡◌, Bool, true, List, [], ◌∷◌, length}
-use Rattle.octets.specs.Lists.{all, if◌then◌else◌}
+use Rattle.octets.specs.Lists.{all, if◌then◌otherwise◌}
 use Rattle.octets.specs.Octets.{overwrite}
 use Rattle.entries.specs.Entries.{Entry, max_entries, names}
 use Rattle.entries.specs.Names.{is_name, longest_name}
@@ -47,11 +47,11 @@ pub record Went (l : Layout) (c : Cursor) (es : List Entry) (r : Cursor) : Type 
 
 -- what stands in d after it: with `store` they are put, else d is as it was
 abbrev pub after_pass : Layout → Bool → ℕ → Cursor → List Entry → List ℕ → List ℕ
-after_pass l store n c es d = if store then put_all l n c.index (name_in c) c.at es d else d
+after_pass l store n c es d = if store then put_all l n c.index (name_in c) c.at es d otherwise d
 
 -- the same of one entry of the score s, its record given as bytes
 abbrev pub after_given : EntryTarget → List ℕ → ℕ → List ℕ → List ℕ
-after_given to bytes s d = if to.store then given_put to.slot bytes s d else d
+after_given to bytes s d = if to.store then given_put to.slot bytes s d otherwise d
 
 -- and what it leaves
 pub record AppendDone (l : Layout) (store : Bool) (n : ℕ) (c : Cursor) (es : List Entry) (d : List ℕ) (r : Cursor)

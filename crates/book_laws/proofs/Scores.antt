@@ -9,7 +9,7 @@ use lib.ListN.{length}
 use native.Mathlib.Nat.{add-zero}
 use native.Mathlib.Omega.{arith}
 use borrow.Author.Tests.{ltb-false, ltb-true}
-use Rattle.octets.specs.Lists.{if◌then◌else◌}
+use Rattle.octets.specs.Lists.{if◌then◌otherwise◌}
 use Rattle.octets.proofs.Tests.{by_test}
 use Rattle.entries.specs.Entries.{Entry, at, best, outranks, rising}
 use Rattle.entries.proofs.Rank.{not_outranks_trans, outranks_asym, outranks_high, outranks_irrefl}
@@ -30,7 +30,7 @@ module _
     tops_on zero first b i h t = subst (Tops first b) (sym (add-zero i)) t
     tops_on (suc m) first b i h t =
         subst (Tops first (best_on buf b i (suc m))) (omega arith)
-        (tops_on m first (if ltb (score_at buf b) (score_at buf i) then i else b) (suc i) (omega arith)
+        (tops_on m first (if ltb (score_at buf b) (score_at buf i) then i otherwise b) (suc i) (omega arith)
         (by_test (ltb (score_at buf b) (score_at buf i)) (λ u. rw u (taken u)) (λ u. rw u (kept u))))
       where
         lo : first ≤ b

@@ -2,7 +2,7 @@
 -- exactly what `read_in` reads.
 use Rattle.std.specs.Prelude.{◌*◌, ◌+◌, ◌-◌, ◌/◌, min, suc, zero, ℕ, Bool, ◌&&◌, true, List, [], eqb, leb, ltb, drop, length}
 use Rattle.std.proofs.Math.Option.{Option, none, some}
-use Rattle.octets.specs.Lists.{ceil, if◌then◌else◌}
+use Rattle.octets.specs.Lists.{ceil, if◌then◌otherwise◌}
 use Rattle.octets.specs.Octets.{number_at}
 use Rattle.entries.specs.Entries.{at}
 use Rattle.book.specs.Records.{bucket_size, head_at, record_length, record_name}
@@ -37,7 +37,7 @@ peak_at l buf n j = number_at 2 buf (peak_start l n j)
 
 -- a bucket's offset says where its head's record stands; another position has none
 unfoldable pub offset_is : Layout → ℕ → ℕ → ℕ → List ℕ → Bool
-offset_is l n i at buf = if head_at l.heads i then eqb (offset_at buf n (i / bucket_size)) at else true
+offset_is l n i at buf = if head_at l.heads i then eqb (offset_at buf n (i / bucket_size)) at otherwise true
 
 -- the records of m names, the first at position i and index `at` and behind the name prev: where they end, or none
 abbrev pub records_end : Layout → ℕ → ℕ → ℕ → List ℕ → ℕ → List ℕ → Option ℕ
@@ -46,11 +46,11 @@ records_end l (suc m) n i prev at buf =
     if offset_is l n i at buf && record_is l.heads i prev (drop at buf)
     then records_end l m n (suc i) (record_name l.heads i prev (drop at buf))
     (at + record_length l.heads i (drop at buf)) buf
-    else none
+    otherwise none
 
 -- the better of two positions by score, the first at equal scores
 abbrev pub better_of : List ℕ → ℕ → ℕ → ℕ
-better_of buf b i = if ltb (score_at buf b) (score_at buf i) then i else b
+better_of buf b i = if ltb (score_at buf b) (score_at buf i) then i otherwise b
 
 -- the best of position b and the m positions from i on, by score; the earlier one at equal scores
 abbrev pub best_on : List ℕ → ℕ → ℕ → ℕ → ℕ

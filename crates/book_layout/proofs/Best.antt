@@ -6,7 +6,7 @@ use lib.Dec.{ltb}
 use native.Mathlib.Numerals.{add-one}
 use native.Mathlib.Omega.{arith}
 use borrow.Author.Tests.{le-ltb, lt-ltb}
-use Rattle.octets.specs.Lists.{if◌then◌else◌}
+use Rattle.octets.specs.Lists.{if◌then◌otherwise◌}
 use Rattle.book_laws.specs.Check.{best_between, best_on, score_at}
 
 -- the best position: b is the best of those before i, and has this score
@@ -25,7 +25,7 @@ best_start buf first end h e = record { past = omega arith; within = omega arith
 -- a turn: s is the score of position i
 module _ {buf : List ℕ} {first end b score i s : ℕ} (g : Best buf first end b score i) (h : i < end)
     (e : s ≡ score_at buf i) where
-  on : best_on buf (if ltb score s then i else b) (suc i) (end - suc i) ≡ best_between buf first end
+  on : best_on buf (if ltb score s then i otherwise b) (suc i) (end - suc i) ≡ best_between buf first end
   on = let z : end - i ≡ suc (end - suc i) = omega arith in rw (g.scored, e) (rw z at g.left)
 
   pub best_taken : score < s → Best buf first end i s (i + 1)

@@ -1,7 +1,7 @@
 -- The parts of a record of a book, as its first bytes tell, and what reading its name leaves.
 use Rattle.std.specs.Prelude.{◌+◌, ◌≤◌, ℕ, ◌≡◌, Bool, List, drop, get_or, length, take}
 use Rattle.std.proofs.lemmas.List.Edits.{sets}
-use Rattle.octets.specs.Lists.{if◌then◌else◌}
+use Rattle.octets.specs.Lists.{if◌then◌otherwise◌}
 use Rattle.book.specs.Records.{head_at}
 use Rattle.book_read.specs.declared.Parts.{Parts}
 
@@ -11,7 +11,7 @@ unfoldable pub parts_at : Bool → ℕ → List ℕ → Parts
 parts_at heads i s =
     if head_at heads i
     then record { kept = 0; start = 1; own = get_or s 0 0 }
-    else record { kept = get_or s 0 0; start = 2; own = get_or s 1 0 }
+    otherwise record { kept = get_or s 0 0; start = 2; own = get_or s 1 0 }
 
 -- the record's own bytes
 abbrev pub own_bytes : List ℕ → Parts → List ℕ

@@ -1,7 +1,7 @@
 -- The parts of a record: how many bytes it keeps of the name before, where its own bytes start, and how many they are.
 -- They are found by tests of the record's own bytes; only a head's name is compared as a whole with the name before.
 use Rattle.std.specs.Prelude.{◌+◌, ◌-◌, ◌≤◌, ℕ, ◌≡◌, Bool, ◌&&◌, false, not, true, List, leb, ltb, drop, get_or, length, take}
-use Rattle.octets.specs.Lists.{if◌then◌else◌}
+use Rattle.octets.specs.Lists.{if◌then◌otherwise◌}
 use Rattle.octets.specs.Octets.{below, common}
 use Rattle.entries.specs.Names.{is_name, is_prefix, longest_name}
 use Rattle.entries_laws.specs.Signs.{is_tail}
@@ -21,7 +21,7 @@ unfoldable pub record_part : Bool → ℕ → List ℕ → List ℕ → Part
 record_part heads i prev s =
     if head_at heads i
     then own_if (record_is heads i prev s) 0 1 (get_or s 0 0)
-    else own_if (record_is heads i prev s) (get_or s 0 0) 2 (get_or s 1 0)
+    otherwise own_if (record_is heads i prev s) (get_or s 0 0) 2 (get_or s 1 0)
 
 -- The tests, in the code's order. A head: the length byte, that many bytes, a name, above the one before.
 unfoldable pub head_test : List ℕ → List ℕ → Bool
@@ -32,7 +32,7 @@ head_test prev s =
 -- a name that keeps the first k bytes of prev and goes on with b shares no more with prev, and is above it; the kept
 -- bytes do not end inside a pair
 unfoldable pub goes_above : List ℕ → ℕ → ℕ → Bool
-goes_above prev k b = if leb (length prev) k then true else (ltb (get_or prev k 0) b && not (is_tail (get_or prev k 0)))
+goes_above prev k b = if leb (length prev) k then true otherwise (ltb (get_or prev k 0) b && not (is_tail (get_or prev k 0)))
 
 -- another record: the two bytes, a common byte within the name before, a rest, that many bytes, not too many in all,
 -- the rest's allowed, and the first of them above the byte that the name before has in its place

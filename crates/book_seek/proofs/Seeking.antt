@@ -10,7 +10,7 @@ use lib.Seq.{get_or-append_seam, take-append-le, take-append_seam, take-length}
 use native.Mathlib.Nat.{add-zero}
 use native.Mathlib.Omega.{arith}
 use borrow.Author.Tests.{eq-eqb, eqb-false, eqb-true}
-use Rattle.octets.specs.Lists.{if◌then◌else◌, keep}
+use Rattle.octets.specs.Lists.{if◌then◌otherwise◌, keep}
 use Rattle.octets.specs.Octets.{begins, below, common, same}
 use Rattle.octets.proofs.Coding.{common_le}
 use Rattle.octets_code.proofs.Loops.{same_apart, same-begins}
@@ -97,7 +97,7 @@ module _ (key : List ℕ) (kept : ℕ) (rest : List ℕ) (shared : ℕ) where
 -- lists of names with one more
 place_more :
     (past : Bool) (key : List ℕ) (vs : List (List ℕ)) (w : List ℕ)
-    → place_in past key (vs ++ (w ∷ [])) ≡ place_in past key vs + (if before past key w then 1 else 0)
+    → place_in past key (vs ++ (w ∷ [])) ≡ place_in past key vs + (if before past key w then 1 otherwise 0)
 unfolding place_in
 place_more past key [] w = by_test (before past key w) (λ t. rw t) (λ t. rw t)
 place_more past key (v ∷ vs) w =
@@ -178,8 +178,8 @@ module _
 
     counted :
         (past : Bool) {b : Bool} → before past key w ≡ b
-        → place_in past key ws ≡ place_in past key vs + (if b then 1 else 0)
-    counted past e = place_more past key vs w ∙ ap (λ b. place_in past key vs + (if b then 1 else 0)) e
+        → place_in past key ws ≡ place_in past key vs + (if b then 1 otherwise 0)
+    counted past e = place_more past key vs w ∙ ap (λ b. place_in past key vs + (if b then 1 otherwise 0)) e
 
     -- a place that was found stays
     stays :

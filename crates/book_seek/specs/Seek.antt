@@ -1,6 +1,6 @@
 -- The place of a key among names, and what is known of it while their records are read. No record is a bucket's head.
 use Rattle.std.specs.Prelude.{◌+◌, ◌<◌, ◌≤◌, ℕ, ◌≡◌, Bool, ◌&&◌, ◌||◌, false, true, List, [], ◌++◌, ◌∷◌, eqb, drop, get_or, length, take}
-use Rattle.octets.specs.Lists.{if◌then◌else◌, keep}
+use Rattle.octets.specs.Lists.{if◌then◌otherwise◌, keep}
 use Rattle.octets.specs.Octets.{begins, below, common, same}
 use Rattle.book.specs.Records.{last_or, record_of, records}
 use Rattle.book_seek.specs.declared.Seek.{Seek}
@@ -114,7 +114,7 @@ abbrev pub settled_by : ℕ → Seek → ℕ → ℕ → Seek
 settled_by order s i at =
     if eqb order order_below
     then early i at s.below
-    else (if eqb order order_begun then placed s order_begun i else s)
+    otherwise (if eqb order order_begun then placed s order_begun i otherwise s)
 
 unfoldable pub settled : Seek → ℕ → ℕ → Seek
 settled s i at = settled_by s.order s i at

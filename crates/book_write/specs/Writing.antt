@@ -1,7 +1,7 @@
 -- A book written into a buffer entry by entry, then its peaks and its frame, as functions on the buffer.
 use Rattle.std.specs.Prelude.{◌*◌, ◌/◌, suc, zero, ℕ, List}
 use Rattle.std.proofs.lemmas.List.Edits.{sets}
-use Rattle.octets.specs.Lists.{ceil, if◌then◌else◌}
+use Rattle.octets.specs.Lists.{ceil, if◌then◌otherwise◌}
 use Rattle.octets.specs.Octets.{be}
 use Rattle.entries.specs.Entries.{Entry}
 use Rattle.book.specs.Records.{bucket_size, head_at, record_of}
@@ -12,7 +12,7 @@ use Rattle.frame_code.specs.Stored.{put_frame}
 
 -- the offset of a bucket, where its head is at position i and index `at`
 unfoldable pub put_offset : Layout → ℕ → ℕ → ℕ → List ℕ → List ℕ
-put_offset l n i at d = if head_at l.heads i then sets d (offset_start n (i / bucket_size)) (be 2 at) else d
+put_offset l n i at d = if head_at l.heads i then sets d (offset_start n (i / bucket_size)) (be 2 at) otherwise d
 
 -- what stands in front of the records of an entry of the score s at position i of n, its record at index `at`
 abbrev pub put_fields : Layout → ℕ → ℕ → ℕ → ℕ → List ℕ → List ℕ

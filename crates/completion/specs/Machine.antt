@@ -1,6 +1,6 @@
 -- The machine on which looks are counted (document 01, "Completion").
 use Rattle.std.specs.Prelude.{◌*◌, ◌+◌, ◌-◌, ◌≤◌, suc, zero, ℕ, ◌≡◌, List, [], ◌++◌, ◌∷◌, map, ltb, drop, get_or, length, set, take}
-use Rattle.octets.specs.Lists.{if◌then◌else◌}
+use Rattle.octets.specs.Lists.{if◌then◌otherwise◌}
 use Rattle.entries.specs.Completion.{completion, matches, range_start}
 use Rattle.entries.specs.Entries.{Entry, at, best}
 use Rattle.completion.specs.declared.Range.{Range}
@@ -9,7 +9,7 @@ use Rattle.completion.specs.declared.Range.{Range}
 unfoldable pub open_range : List Entry → ℕ → ℕ → List Range
 open_range es i j =
     let b = i + best (take (j - i) (drop i es)) in
-    if ltb i j then (record { first = i; best = b; score = (at es b).score; last = j - 1 } ∷ []) else []
+    if ltb i j then (record { first = i; best = b; score = (at es b).score; last = j - 1 } ∷ []) otherwise []
 
 -- which of the open ranges has the best-ranked position, and that range
 abbrev pub bests : List Entry → List Range → List Entry

@@ -1,6 +1,6 @@
 -- A completion from its start to its answer: the machine before the first turn, and what is written once it has run.
 use Rattle.std.specs.Prelude.{◌*◌, ◌+◌, ◌<◌, ◌≤◌, ℕ, ◌≡◌, ◌||◌, false, not, true, List, [], ◌++◌, ◌∷◌, map, eqb, ltb, length, replicate}
-use Rattle.octets.specs.Lists.{◌∈◌, if◌then◌else◌}
+use Rattle.octets.specs.Lists.{◌∈◌, if◌then◌otherwise◌}
 use Rattle.octets.specs.Octets.{overwrite}
 use Rattle.entries.specs.Completion.{begun, matches, max_count, range_start}
 use Rattle.entries.specs.Entries.{Entry, at, names}
@@ -147,4 +147,4 @@ outcome_of es s dst =
     let l = entries_at es (so_far s) in
     if eqb s.refusal 0
     then record { answer = given (offered_as l s.looks); dest = overwrite dst (entries_bytes l) }
-    else record { answer = refused s.refusal; dest = dst }
+    otherwise record { answer = refused s.refusal; dest = dst }

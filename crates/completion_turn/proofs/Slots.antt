@@ -9,7 +9,7 @@ use lib.Seq.{get_or-append_seam, get_or-take, length-take-le, take-suc}
 use native.Mathlib.Nat.{add-zero}
 use native.Mathlib.Omega.{arith}
 use borrow.Author.Tests.{ltb-false, ltb-true}
-use Rattle.octets.specs.Lists.{◌∈◌, if◌then◌else◌}
+use Rattle.octets.specs.Lists.{◌∈◌, if◌then◌otherwise◌}
 use Rattle.octets.proofs.Lists.{get_in}
 use Rattle.octets.proofs.Order.{below_asym, below_irrefl}
 use Rattle.octets.proofs.Tests.{by_test}
@@ -26,14 +26,14 @@ use Rattle.completion_turn.specs.Turns.{RangeInside}
 
 -- the best of an entry and some behind it
 best_cons : (e : Entry) (zs : List Entry) → 0 < length zs
-    → best (e ∷ zs) ≡ (if outranks e (at zs (best zs)) then 0 else suc (best zs))
+    → best (e ∷ zs) ≡ (if outranks e (at zs (best zs)) then 0 otherwise suc (best zs))
 best_cons e [] h = absurd (omega arith)
 best_cons e (f ∷ zs) h = refl
 
 -- the best of entries and one more behind them
 best_snoc :
     (e : Entry) (es : List Entry) (x : Entry)
-    → best ((e ∷ es) ++ (x ∷ [])) ≡ (if outranks (at (e ∷ es) (best (e ∷ es))) x then best (e ∷ es) else length (e
+    → best ((e ∷ es) ++ (x ∷ [])) ≡ (if outranks (at (e ∷ es) (best (e ∷ es))) x then best (e ∷ es) otherwise length (e
     ∷ es))
 best_snoc e [] x = refl
 best_snoc e (f ∷ es) x =
@@ -93,7 +93,7 @@ bests_next es xs i h =
 
 best_behind :
     (zs : List Entry) (x : Entry) → 0 < length zs
-    → best (zs ++ (x ∷ [])) ≡ (if outranks (at zs (best zs)) x then best zs else length zs)
+    → best (zs ++ (x ∷ [])) ≡ (if outranks (at zs (best zs)) x then best zs otherwise length zs)
 best_behind [] x h = absurd (omega arith)
 best_behind (e ∷ es) x h = best_snoc e es x
 

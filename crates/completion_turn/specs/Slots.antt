@@ -1,6 +1,6 @@
 -- The slots in which open ranges wait: an array, or a slice that the caller lends.
 use Rattle.std.specs.Prelude.{◌+◌, ◌-◌, suc, zero, ℕ, Bool, List, eqb, ltb, get_or, set, take}
-use Rattle.octets.specs.Lists.{if◌then◌else◌}
+use Rattle.octets.specs.Lists.{if◌then◌otherwise◌}
 use Rattle.completion.specs.declared.Range.{Range}
 use Rattle.completion.specs.Machine.{no_range}
 use Rattle.completion_turn.specs.declared.BestRange.{BestRange}
@@ -9,11 +9,11 @@ use Rattle.completion_turn.specs.declared.Progress.{Progress}
 -- the best of the first range is ranked before the best of the second: higher score, at equal scores the earlier
 -- position, which has the earlier name; so it is `outranks` of crate entries (law `ahead-is`)
 abbrev pub is_ahead : Range → Range → Bool
-is_ahead x y = if eqb x.score y.score then ltb x.best y.best else ltb y.score x.score
+is_ahead x y = if eqb x.score y.score then ltb x.best y.best otherwise ltb y.score x.score
 
 -- the better of the best so far and the range x in slot i
 abbrev pub better_range : BestRange → ℕ → Range → BestRange
-better_range b i x = if is_ahead b.range x then b else record { at = i; range = x }
+better_range b i x = if is_ahead b.range x then b otherwise record { at = i; range = x }
 
 -- the best of b and the k slots from i on
 abbrev pub best_from : List Range → ℕ → ℕ → BestRange → BestRange

@@ -1,6 +1,6 @@
 -- The machine between two turns, what a turn gives, and what a whole run does.
 use Rattle.std.specs.Prelude.{◌*◌, ◌+◌, ◌-◌, ◌/◌, ◌<◌, ◌≤◌, ℕ, ◌≡◌, List, [], ◌++◌, ◌∷◌, eqb, length, set, take}
-use Rattle.octets.specs.Lists.{◌∈◌, if◌then◌else◌}
+use Rattle.octets.specs.Lists.{◌∈◌, if◌then◌otherwise◌}
 use Rattle.entries.specs.Completion.{max_count}
 use Rattle.entries.specs.Entries.{Entry, at}
 use Rattle.book.specs.Book.{in_book}
@@ -52,7 +52,7 @@ abbrev pub next_of : Progress → Range → RangeParts → Progress
 next_of p r q =
     let filled = p.filled - 1 + q.count in
     record {
-      turns = if eqb filled 0 then 0 else p.turns - 1;
+      turns = if eqb filled 0 then 0 otherwise p.turns - 1;
       at0 = p.filled - 1;
       r0 = q.first;
       at1 = p.filled - 1 + q.count / 2;

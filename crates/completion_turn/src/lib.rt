@@ -3,7 +3,7 @@
 #![tactic(auto)]
 
 ghost use Rattle.std.specs.Prelude.{◌≡◌, [], ◌∷◌, ◌-◌, ◌<◌, ◌≤◌, eqb};
-ghost use Rattle.octets.specs.Lists.{if◌then◌else◌};
+ghost use Rattle.octets.specs.Lists.{if◌then◌otherwise◌};
 ghost use Rattle.book.specs.Book.{in_book};
 ghost use Rattle.book_laws.specs.Held.{Held};
 ghost use Rattle.completion.specs.Machine.{open_range};
@@ -124,7 +124,7 @@ fn parts_of(book: &[u8], n: usize, r: completion::Range) -> RangeParts
 // How many may still be offered, once another was and so many ranges are open.
 fn turns_left(turns: usize, filled: usize) -> usize
     requires { 0 < turns }
-    ensures { result ≡ (if eqb filled 0 then 0 else turns - 1) }
+    ensures { result ≡ (if eqb filled 0 then 0 otherwise turns - 1) }
 {
     if filled == 0 { 0 } else { turns - 1 }
 }

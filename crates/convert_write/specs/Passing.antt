@@ -1,6 +1,6 @@
 -- A book passed record by record into another layout: what a record asks, and what passing it leaves.
 use Rattle.std.specs.Prelude.{◌+◌, ◌<◌, ◌≤◌, ℕ, ◌≡◌, Bool, not, true, List, [], ◌∷◌, length}
-use Rattle.octets.specs.Lists.{if◌then◌else◌}
+use Rattle.octets.specs.Lists.{if◌then◌otherwise◌}
 use Rattle.entries.specs.Entries.{Entry, at}
 use Rattle.entries.specs.Names.{longest_name}
 use Rattle.book.specs.Records.{head_at}
@@ -16,7 +16,7 @@ use Rattle.convert_write.specs.declared.Source.{Source}
 
 -- is the record at position i a bucket's head with both flags, or with neither?
 abbrev pub headed_alike : Bool → Bool → ℕ → Bool
-headed_alike a b i = if head_at a i then head_at b i else not (head_at b i)
+headed_alike a b i = if head_at a i then head_at b i otherwise not (head_at b i)
 
 -- the entries of the book
 abbrev pub entries_at : List ℕ → Source → List Entry

@@ -7,7 +7,7 @@ use lib.ListN.{drop, get_or, length, length-append, length-drop, take}
 use lib.Seq.{length-take-le, sets}
 use native.Mathlib.Omega.{arith}
 use borrow.Author.Tests.{le-leb, lt-leb}
-use Rattle.octets.specs.Lists.{if◌then◌else◌}
+use Rattle.octets.specs.Lists.{if◌then◌otherwise◌}
 use Rattle.octets.specs.Octets.{be}
 use Rattle.octets.proofs.Coding.{length-be}
 use Rattle.octets.proofs.Stores.{sets-append}
@@ -20,10 +20,10 @@ use Rattle.edit_copy.specs.declared.Behind.{Behind}
 
 module _ (b : Behind) where
   pub no_header : b.some ≡ false → header_of b ≡ []
-  no_header e = ap (λ t. if t then (b.kept ∷ b.own ∷ []) else []) e
+  no_header e = ap (λ t. if t then (b.kept ∷ b.own ∷ []) otherwise []) e
 
   pub has_header : b.some ≡ true → header_of b ≡ b.kept ∷ b.own ∷ []
-  has_header e = ap (λ t. if t then (b.kept ∷ b.own ∷ []) else []) e
+  has_header e = ap (λ t. if t then (b.kept ∷ b.own ∷ []) otherwise []) e
 
   -- the size
   pub size_without : (end : ℕ) {r : ℕ} → b.some ≡ false → r ≡ b.lent + (end - b.rest) → r ≡ behind_size end b

@@ -1,7 +1,7 @@
 -- The bytes of an edit's result, as copies of the old image's.
 use Rattle.std.specs.Prelude.{◌+◌, ◌-◌, ◌<◌, ◌≤◌, min, suc, ℕ, ◌≡◌, false, true, List, [], ◌++◌, ◌∷◌, leb, drop, get_or, length, take}
 use Rattle.std.proofs.lemmas.List.Edits.{sets}
-use Rattle.octets.specs.Lists.{if◌then◌else◌}
+use Rattle.octets.specs.Lists.{if◌then◌otherwise◌}
 use Rattle.octets.specs.Octets.{be}
 use Rattle.entries.specs.Entries.{max_entries, names}
 use Rattle.entries.specs.Names.{longest_name}
@@ -20,7 +20,7 @@ part a b s = take (b - a) (drop a s)
 
 -- the header, if there is one; and all bytes behind the place, where the old image ends at index `end`
 abbrev pub header_of : Behind → List ℕ
-header_of b = if b.some then (b.kept ∷ b.own ∷ []) else []
+header_of b = if b.some then (b.kept ∷ b.own ∷ []) otherwise []
 
 abbrev pub behind_bytes : List ℕ → ℕ → Behind → List ℕ
 behind_bytes book end b = header_of b ++ (part b.from (b.from + b.lent) book ++ part b.rest end book)
@@ -42,7 +42,7 @@ behind_new book end n s =
     let more = s.above - get_or book s.at 0 in
     if leb n s.place
     then nothing end
-    else (record {
+    otherwise (record {
       some = true;
       kept = s.above;
       own = get_or book (s.at + 1) 0 - more;
@@ -66,7 +66,7 @@ behind_gone book end at kept own =
     let old = get_or book next 0 in
     if leb end next
     then nothing end
-    else (record {
+    otherwise (record {
       some = true;
       kept = min kept old;
       own = old - min kept old + get_or book (next + 1) 0;

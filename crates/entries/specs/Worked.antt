@@ -1,13 +1,13 @@
 -- Worked cases of names and prefixes: which texts are allowed. One table, one proposition.
 use Rattle.std.specs.Prelude.{ℕ, ◌≡◌, refl, List, [], ◌++◌, ◌∷◌, replicate}
-use Rattle.octets.specs.Lists.{if◌then◌else◌}
+use Rattle.octets.specs.Lists.{if◌then◌otherwise◌}
 use Rattle.octets.specs.Table.{Row, ◌gives◌, failing}
 use Rattle.octets.specs.Text.{text}
 use Rattle.entries.specs.Names.{allowed_bytes, is_name, is_prefix, is_sign, last_sign, micro, ohm}
 
 -- whether a text is a name, and whether it is a prefix
 abbrev kinds : List ℕ → List ℕ
-kinds w = (if is_name w then 1 else 0) ∷ (if is_prefix w then 1 else 0) ∷ []
+kinds w = (if is_name w then 1 otherwise 0) ∷ (if is_prefix w then 1 otherwise 0) ∷ []
 
 abbrev allowed : List ℕ → Row
 allowed w = kinds w gives (1 ∷ 1 ∷ [])
@@ -77,7 +77,7 @@ lasts =
 
 -- one sign: of no bytes, of one, of two, of three
 abbrev single : List ℕ → ℕ
-single w = if is_sign w then 1 else 0
+single w = if is_sign w then 1 otherwise 0
 
 abbrev ones : List Row
 ones =

@@ -8,7 +8,7 @@ use lib.Seq.{drop-drop}
 use native.Mathlib.Omega.{arith}
 use borrow.Author.Tests.{eqb-true}
 use lib.Dec.{eqb}
-use Rattle.octets.specs.Lists.{if◌then◌else◌}
+use Rattle.octets.specs.Lists.{if◌then◌otherwise◌}
 use Rattle.octets.proofs.Tests.{by_test}
 use Rattle.octets_code.proofs.Loops.{drop_next}
 use Rattle.entries.specs.Names.{is_pair, is_plain, last_sign}
@@ -27,7 +27,7 @@ module _ (w : List ℕ) (i : ℕ) (h : i < length w) where
 
 -- the step over a first half, and over the byte behind it
 lead_step : (a b : ℕ) → is_plain a ≡ false
-    → half_step (half_step no_half a) b ≡ (if is_pair a b then no_half else broken_half)
+    → half_step (half_step no_half a) b ≡ (if is_pair a b then no_half otherwise broken_half)
 lead_step a b t =
     by_test (eqb a 0xC2)
     (λ s. rw (t, micro-pair a b s, s))
@@ -72,8 +72,8 @@ module _ (w : List ℕ) (i : ℕ) (h : i < length w) where
     pub cut_broken : 1 < length w - i → half_after no_half (drop i w) ≡ broken_half
     cut_broken l = pair_off (drop i w) n (omega (arith, length-drop i w))
 
-    pub cut_lead : length w - i ≤ 1 → half_after no_half (drop i w) ≡ (if eqb (get_or w i 0) 0xC2 then micro_half else
-        if eqb (get_or w i 0) 0xCE then ohm_half else broken_half)
+    pub cut_lead : length w - i ≤ 1 → half_after no_half (drop i w) ≡ (if eqb (get_or w i 0) 0xC2 then micro_half otherwise
+        if eqb (get_or w i 0) 0xCE then ohm_half otherwise broken_half)
     cut_lead l =
         let z : drop (i + 1) w ≡ [] = drop_of_length-le w {i = i + 1} (omega arith) in
         rw (drop_next w i h, z, sym (ap is_plain here) ∙ n.0)
@@ -94,7 +94,7 @@ closes_none (suc zero) b x y z = absurd (y refl)
 closes_none (suc (suc zero)) b x y z = absurd (z refl)
 closes_none (suc (suc (suc h))) b x y z = refl
 
-pub closes_one : (c b : ℕ) → eqb b c ≡ eqb (if eqb b c then no_half else broken_half) no_half
+pub closes_one : (c b : ℕ) → eqb b c ≡ eqb (if eqb b c then no_half otherwise broken_half) no_half
 closes_one c b = by_test (eqb b c) (λ t. rw t) (λ t. rw t)
 
 -- a part of a text behind a half that is open

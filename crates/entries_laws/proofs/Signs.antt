@@ -8,13 +8,13 @@ use lib.ListN.{drop, take, take-append-drop}
 use native.Mathlib.Omega.{arith}
 use borrow.Author.Tests.{eqb-true, leb-true, ne_eqb}
 use Rattle.octets.proofs.Tests.{and_true_both as and_parts, by_test}
-use Rattle.octets.specs.Lists.{all, if◌then◌else◌}
+use Rattle.octets.specs.Lists.{all, if◌then◌otherwise◌}
 use Rattle.entries.specs.Names.{allowed_bytes, is_pair, is_plain}
 use Rattle.entries_laws.specs.Signs.{broken_half, half_after, half_step, is_tail, micro_half, no_half, ohm_half}
 
 -- the definition's step, by its cases
 pub first_sign : (a b : ℕ) (w : List ℕ) (t : Bool) → is_plain a ≡ t
-    → allowed_bytes (a ∷ b ∷ w) ≡ (if t then allowed_bytes (b ∷ w) else (is_pair a b && allowed_bytes w))
+    → allowed_bytes (a ∷ b ∷ w) ≡ (if t then allowed_bytes (b ∷ w) otherwise (is_pair a b && allowed_bytes w))
 unfolding allowed_bytes
 first_sign a b w true t = ap (λ x. elim x [ true ↦ allowed_bytes (b ∷ w) | false ↦ is_pair a b && allowed_bytes w ]) t
 first_sign a b w false t = ap (λ x. elim x [ true ↦ allowed_bytes (b ∷ w) | false ↦ is_pair a b && allowed_bytes w ]) t
@@ -42,7 +42,7 @@ ohm-pair a b s t = rw (s, t) (and-true (eqb b 0xA9))
 
 -- what follows the first half of a pair
 after_lead : (c x : ℕ) (w : List ℕ) (v : Bool) → v ≡ eqb (half_after no_half w) no_half
-    → (eqb x c && v) ≡ eqb (half_after (if eqb x c then no_half else broken_half) w) no_half
+    → (eqb x c && v) ≡ eqb (half_after (if eqb x c then no_half otherwise broken_half) w) no_half
 after_lead c x w v ih = by_test (eqb x c) (λ t. rw t ih) (λ t. rw (t, half_broken w))
 
 -- a text is allowed exactly if it ends between signs

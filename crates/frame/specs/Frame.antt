@@ -1,7 +1,7 @@
 -- What books, sheets and tries have in common: the first seven bytes, and when an image is read.
 use Rattle.std.specs.Prelude.{◌+◌, ℕ, ◌≡◌, Bool, ◌&&◌, false, true, List, [], ◌++◌, ◌∷◌, drop, length, take}
 use Rattle.std.proofs.Math.Option.{Option, none, some}
-use Rattle.octets.specs.Lists.{if◌then◌else◌}
+use Rattle.octets.specs.Lists.{if◌then◌otherwise◌}
 use Rattle.octets.specs.Octets.{be, begins, from_be}
 use Rattle.entries.specs.Entries.{Entry, valid}
 
@@ -18,7 +18,7 @@ count_of buf = from_be (take 2 (drop 5 buf))
 -- bytes are not read.
 unfoldable pub read_as : (List ℕ → List Entry) → (List Entry → List ℕ) → List ℕ → Option (List Entry)
 read_as decode encode buf =
-    if valid (decode buf) && begins (encode (decode buf)) buf then some (decode buf) else none
+    if valid (decode buf) && begins (encode (decode buf)) buf then some (decode buf) otherwise none
 
 -- What a format promises of its reading and its images, whatever bytes stand behind them.
 pub record Exact (read : List ℕ → Option (List Entry)) (image : List Entry → List ℕ) : Type 0 where

@@ -1,7 +1,7 @@
 -- What a check of a book, a sheet or a trie answers, and what the test of its first seven bytes does.
 use Rattle.std.specs.Prelude.{ℕ, List, length}
 use Rattle.std.proofs.Math.Option.{Option, none, some}
-use Rattle.octets.specs.Lists.{if◌then◌else◌}
+use Rattle.octets.specs.Lists.{if◌then◌otherwise◌}
 use Rattle.octets.specs.Octets.{number_at}
 use Rattle.entries.specs.Entries.{Entry}
 use Rattle.frame_laws.specs.Test.{frame_is}
@@ -25,4 +25,4 @@ ended_as (some end) = ended.At end
 -- the first seven bytes: the numbers that they say, where they pass their tests
 abbrev pub frame_as : ℕ → List ℕ → Frame
 frame_as version buf =
-    if frame_is version buf then frame.Holds (number_at 2 buf 5) (number_at 4 buf 1) else frame.Damaged
+    if frame_is version buf then frame.Holds (number_at 2 buf 5) (number_at 4 buf 1) otherwise frame.Damaged

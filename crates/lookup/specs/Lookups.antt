@@ -3,7 +3,7 @@
 use Rattle.std.specs.Prelude.{ℕ, ◌≡◌, Bool, ◌&&◌, not, List, [], ◌++◌, ◌∷◌, eqb, leb, ltb, length}
 use Rattle.std.proofs.Math.Option.{Option, none, some}
 use types.Run.{first}
-use Rattle.octets.specs.Lists.{if◌then◌else◌}
+use Rattle.octets.specs.Lists.{if◌then◌otherwise◌}
 use Rattle.entries.specs.Completion.{matches, range_start}
 use Rattle.entries.specs.Entries.{Entry, at, holds, position}
 use Rattle.entries.specs.Names.{is_name, is_prefix}
@@ -14,7 +14,7 @@ use Rattle.book.specs.Checks.{book_checks}
 
 -- finding: position and score, or none
 unfoldable pub found_in : List ℕ → List Entry → Option FoundCounts
-found_in w es = if holds w es then some (record { position = position w es; score = (at es (position w es)).score }) else
+found_in w es = if holds w es then some (record { position = position w es; score = (at es (position w es)).score }) otherwise
     none
 
 unfoldable pub find : List ℕ → List ℕ → Answer (Option FoundCounts)

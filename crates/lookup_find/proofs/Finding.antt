@@ -12,7 +12,7 @@ use denote.Enum.Declared.{tag_of}
 use types.Run.{OneOf}
 use borrow.Author.Tests.{lt-ltb, ltb-true}
 use Rattle.answer.specs.contracts.Found.{the_type}
-use Rattle.octets.specs.Lists.{if◌then◌else◌}
+use Rattle.octets.specs.Lists.{if◌then◌otherwise◌}
 use Rattle.octets.specs.Octets.{same}
 use Rattle.octets.proofs.Order.{same_eq}
 use Rattle.octets.proofs.Tests.{and_true_both, by_test}
@@ -71,7 +71,7 @@ module _ (b w : List ℕ) {n start : ℕ} {s : Seek} (h : Held b n) (k : Seeking
 -- the answers of finding, by what the search told
 module _ (b : List ℕ) (s : Seek) where
   abbrev when : Bool → Answer (Option FoundCounts)
-  when t = given (if t then some (record { position = s.place; score = score_at b s.place }) else none)
+  when t = given (if t then some (record { position = s.place; score = score_at b s.place }) otherwise none)
 
   pub found_gap : s.same ≡ false → ◌≡◌ {A = Answer (Option FoundCounts)} (given none) (given (found_at b s))
   found_gap t = ap when (sym t)

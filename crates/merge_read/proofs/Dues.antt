@@ -8,7 +8,7 @@ use lib.Dec.{eqb, ltb}
 use lib.ListN.{drop, length}
 use native.Mathlib.Omega.{arith}
 use borrow.Author.Tests.{eqb-false, eqb-true, le-ltb, lt-ltb, ne_eqb, not-false, not-true}
-use Rattle.octets.specs.Lists.{all, if◌then◌else◌}
+use Rattle.octets.specs.Lists.{all, if◌then◌otherwise◌}
 use Rattle.octets.specs.Octets.{below, same}
 use Rattle.octets.proofs.Order.{below_asym, below_irrefl, below_total, same_eq, same_refl}
 use Rattle.octets.proofs.Tests.{and_true_both, by_test}
@@ -87,7 +87,7 @@ module _ (e : Entry) (es : List Entry) (f : Entry) (fs : List Entry) (a : all_na
   both_turn :
       rising (e ∷ es) ≡ true → rising (f ∷ fs) ≡ true
       → joined (e ∷ es) (f ∷ fs)
-      ≡ (if due_of (e ∷ es) (f ∷ fs) then e else f)
+      ≡ (if due_of (e ∷ es) (f ∷ fs) then e otherwise f)
       ∷ joined (drop (steps (due_of (e ∷ es) (f ∷ fs))) (e ∷ es)) (drop (steps (due_of (f ∷ fs) (e ∷ es))) (f ∷ fs))
   both_turn r s =
       rw (some_first, some_second)
@@ -111,7 +111,7 @@ none_due (e ∷ es) (f ∷ fs) a b h = absurd (false≢true (sym h ∙ one_due e
 pub due_turn :
     (es fs : List Entry) → all_names es ≡ true → all_names fs ≡ true → rising es ≡ true → rising fs ≡ true
     → (due_of es fs || due_of fs es) ≡ true
-    → joined es fs ≡ (if due_of es fs then at es 0 else at fs 0)
+    → joined es fs ≡ (if due_of es fs then at es 0 otherwise at fs 0)
     ∷ joined (drop (steps (due_of es fs)) es) (drop (steps (due_of fs es)) fs)
 due_turn [] [] a b r s h = absurd (false≢true h)
 due_turn [] (f ∷ fs) a b r s h = rw (not_empty f.name (and_true_both (is_name f.name) (all_names fs) b).0)

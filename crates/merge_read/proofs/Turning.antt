@@ -8,7 +8,7 @@ use lib.ListN.{drop, length, take}
 use lib.Seq.{drop-drop, length-take-le}
 use native.Mathlib.Omega.{arith}
 use borrow.Author.Tests.{leb-false, leb-true}
-use Rattle.octets.specs.Lists.{all, if◌then◌else◌}
+use Rattle.octets.specs.Lists.{all, if◌then◌otherwise◌}
 use Rattle.octets.proofs.Lists.{all_drop}
 use Rattle.octets.proofs.Tests.{by_test}
 use Rattle.entries.specs.Entries.{at, entry, max_entries, rising}
@@ -107,7 +107,7 @@ module _
     due_next :
         (f || s) ≡ true
         → joined (entries_left first x) (entries_left second y)
-        ≡ (if f then at (entries_left first x) 0 else at (entries_left second y) 0)
+        ≡ (if f then at (entries_left first x) 0 otherwise at (entries_left second y) 0)
         ∷ joined (drop (steps f) (entries_left first x)) (drop (steps s) (entries_left second y))
     due_next h =
         let u = due_left l k p in
@@ -156,7 +156,7 @@ module _
         (λ t. rw (rw t at d) (due_some (take x.len a) (take y.len b) (sym p ∙ t)))
         (λ t. rw (rw t at d) (due_some (take y.len b) (take x.len a) (sym q ∙ (rw t at h))))
 
-    chosen : (f || s) ≡ true → (if f then at (entries_left first x) 0 else at (entries_left second y) 0) ≡ entry
+    chosen : (f || s) ≡ true → (if f then at (entries_left first x) 0 otherwise at (entries_left second y) 0) ≡ entry
         (take r.len name)
         r.score
     chosen h =

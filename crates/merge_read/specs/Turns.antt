@@ -1,6 +1,6 @@
 -- Two books read side by side: the next entry of each, which of them comes next of both, and what is left behind it.
 use Rattle.std.specs.Prelude.{◌+◌, ◌<◌, ◌≤◌, ℕ, ◌≡◌, Bool, false, not, true, List, [], ◌∷◌, eqb, drop, length, take}
-use Rattle.octets.specs.Lists.{if◌then◌else◌}
+use Rattle.octets.specs.Lists.{if◌then◌otherwise◌}
 use Rattle.octets.specs.Octets.{below}
 use Rattle.entries.specs.Entries.{Entry, at, entry}
 use Rattle.entries.specs.Names.{longest_name}
@@ -32,18 +32,18 @@ pub record Loaded (book : List ℕ) (c : NextInBook) (name : List ℕ) : Type 0 
 -- the entry of the name w comes next, where the other book's next one has the name v: there is one, and v is none or
 -- not below w
 abbrev pub is_due : List ℕ → List ℕ → Bool
-is_due w v = if eqb (length w) 0 then false else if eqb (length v) 0 then true else not (below v w)
+is_due w v = if eqb (length w) 0 then false otherwise if eqb (length v) 0 then true otherwise not (below v w)
 
 -- how far a book goes on
 abbrev pub steps : Bool → ℕ
-steps due = if due then 1 else 0
+steps due = if due then 1 otherwise 0
 
 -- r is the first book's next entry, of the name w, or the second's, of the name v; its name stands at the front of name
 pub record Chosen (first : List ℕ) (i : ℕ) (w second : List ℕ) (j : ℕ) (v : List ℕ) (due : Bool) (name : List ℕ)
     (r : Choice) : Type 0 where
-  pub word : take r.len name ≡ (if due then w else v)
-  pub long : r.len ≡ length (if due then w else v)
-  pub score : r.score ≡ (if due then score_at first i else score_at second j)
+  pub word : take r.len name ≡ (if due then w otherwise v)
+  pub long : r.len ≡ length (if due then w otherwise v)
+  pub score : r.score ≡ (if due then score_at first i otherwise score_at second j)
 
 -- the entries of a book from its next one on
 abbrev pub entries_left : List ℕ → NextInBook → List Entry

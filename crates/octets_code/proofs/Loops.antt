@@ -10,7 +10,7 @@ use native.Mathlib.Numerals.{add-one}
 use native.Mathlib.Nat.{add_assoc}
 use native.Mathlib.Omega.{arith}
 use borrow.Author.Tests.{eq-eqb, le-leb, leb-false, leb-true, lt-leb, ne_eqb}
-use Rattle.octets.specs.Lists.{if◌then◌else◌}
+use Rattle.octets.specs.Lists.{if◌then◌otherwise◌}
 use Rattle.octets.specs.Octets.{begins, below, common, from_be, number_at, same}
 use Rattle.octets.proofs.Coding.{common_nil}
 use Rattle.octets.proofs.Tests.{by_test}
@@ -59,7 +59,7 @@ same_apart (x ∷ a) (y ∷ b) n = by_test (eqb x y) (λ t. rw t (same_apart a b
 
 -- whether a comes before b, where their first n bytes agree and no more
 abbrev pub below_at : List ℕ → List ℕ → ℕ → Bool
-below_at a b n = if leb (length b) n then false else if leb (length a) n then true else ltb (get_or a n 0) (get_or b n 0)
+below_at a b n = if leb (length b) n then false otherwise if leb (length a) n then true otherwise ltb (get_or a n 0) (get_or b n 0)
 
 below-common : (a b : List ℕ) → below_at a b (common a b) ≡ below a b
 below-common [] [] = refl

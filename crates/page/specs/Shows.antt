@@ -2,7 +2,7 @@
 use Rattle.std.specs.Prelude.{◌*◌, ◌-◌, ◌≤◌, ℕ, ◌≡◌, true, List, [], ◌∷◌, eqb, drop, get_or, length, take}
 use Rattle.std.proofs.Math.Option.{some}
 use Rattle.octets.specs.Decimal.{value_on}
-use Rattle.octets.specs.Lists.{◌∈◌, all, ceil, concat_map, if◌then◌else◌}
+use Rattle.octets.specs.Lists.{◌∈◌, all, ceil, concat_map, if◌then◌otherwise◌}
 use Rattle.octets.specs.Octets.{overwrite, same}
 use Rattle.entries.specs.Completion.{in_rank}
 use Rattle.entries.specs.Entries.{Entry}
@@ -14,7 +14,7 @@ use Rattle.page.specs.Page.{score_columns, spaces, write_page}
 -- a right-aligned field read as a number: its digits, behind the spaces
 abbrev pub behind_spaces : List ℕ → List ℕ
 behind_spaces [] = []
-behind_spaces (b ∷ bs) = if eqb b 0x20 then behind_spaces bs else (b ∷ bs)
+behind_spaces (b ∷ bs) = if eqb b 0x20 then behind_spaces bs otherwise (b ∷ bs)
 
 abbrev pub number_in : List ℕ → ℕ
 number_in field = value_on 0 (behind_spaces field)

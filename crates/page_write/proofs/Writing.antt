@@ -10,7 +10,7 @@ use native.Mathlib.Numerals.{add-one}
 use native.Mathlib.Omega.{arith}
 use borrow.Author.Tests.{leb-false, leb-true, ltb-false, ltb-true}
 use Rattle.octets.specs.Decimal.{decimal}
-use Rattle.octets.specs.Lists.{concat_map, if◌then◌else◌}
+use Rattle.octets.specs.Lists.{concat_map, if◌then◌otherwise◌}
 use Rattle.octets.specs.Text.{line_feed}
 use Rattle.octets.proofs.Decimal.{decimal_most}
 use Rattle.octets.proofs.Lists.{drop-take, take_snoc}
@@ -74,7 +74,7 @@ blank_end d at {j} h k = let z : page_columns - j ≡ 0 = omega arith in rw z
 -- the columns of a row's first n bytes, and spaces behind them: a byte of them, a turn that puts it in, the end
 column_at :
     (row : List ℕ) (c n j : ℕ) → j < c → n ≤ length row
-    → get_or (padded c (take n row)) j 0 ≡ (if ltb j n then get_or row j 0 else 0x20)
+    → get_or (padded c (take n row)) j 0 ≡ (if ltb j n then get_or row j 0 otherwise 0x20)
 column_at row c n j h l =
     let w = take n row in
     let e = length-take-le n row l in
@@ -100,7 +100,7 @@ module _ (row : List ℕ) {n : ℕ} (l : n ≤ page_columns) (h : page_columns �
 
   pub columns_on :
       (line : List ℕ) (j : ℕ) {b : ℕ} → j < page_columns → length line ≡ page_columns
-      → b ≡ (if ltb j n then get_or row j 0 else 0x20) → take j line ++ drop j columns ≡ columns
+      → b ≡ (if ltb j n then get_or row j 0 otherwise 0x20) → take j line ++ drop j columns ≡ columns
       → take (j + 1) (set line j b) ++ drop (j + 1) columns ≡ columns
   columns_on line j {b} k m e v =
       rw (add-one j) (take_snoc line j b (drop (suc j) columns) (omega arith))

@@ -3,7 +3,7 @@
 
 ghost use Rattle.std.specs.Prelude.{◌≡◌, ◌+◌, ◌≤◌, ltb, length, take};
 ghost use Rattle.std.proofs.lemmas.List.Edits.{sets};
-ghost use Rattle.octets.specs.Lists.{if◌then◌else◌};
+ghost use Rattle.octets.specs.Lists.{if◌then◌otherwise◌};
 ghost use Rattle.octets.specs.Octets.{overwrite};
 ghost use Rattle.octets_laws.specs.Printed.{Printed};
 ghost use Rattle.entries.specs.Entries.{entry, max_entries};
@@ -69,7 +69,7 @@ fn put_further(dst: &mut [u8], at: usize, rest: &[u8]) -> usize
 
 // The byte in column j of a line with n bytes of a name, where b is the row's.
 fn column(b: u8, j: u8, n: u8) -> u8
-    ensures { result ≡ (if ltb j n then b else 0x20) }
+    ensures { result ≡ (if ltb j n then b otherwise 0x20) }
 {
     if j < n { b } else { b' ' }
 }

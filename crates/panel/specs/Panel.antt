@@ -1,7 +1,7 @@
 -- The panel's typing state and its keys (document 01, "Sheet, finding, panel, program"; document 02, requests b
 -- and c).
 use Rattle.std.specs.Prelude.{◌+◌, ◌-◌, min, ℕ, Bool, ◌&&◌, ◌||◌, not, List, [], ◌++◌, ◌∷◌, eqb, leb, ltb, length, replicate, take, ◌≡◌}
-use Rattle.octets.specs.Lists.{any, if◌then◌else◌}
+use Rattle.octets.specs.Lists.{any, if◌then◌otherwise◌}
 use Rattle.entries.specs.Completion.{completion}
 use Rattle.entries.specs.Entries.{Entry, at, holds, position}
 use Rattle.entries.specs.Names.{is_name, is_plain, is_prefix, last_sign, longest_name, micro, ohm}
@@ -40,7 +40,7 @@ lowered es t = typing t.typed (lower_to (offered_for es t.typed) t.row)
 
 -- the row that has a name; another row if the name is not offered
 abbrev pub row_with : List ℕ → List Entry → ℕ → ℕ
-row_with w offered other = if holds w offered then position w offered else other
+row_with w offered other = if holds w offered then position w offered otherwise other
 
 -- the highlight goes to the row that has the held name; if it is not offered, as one of length 0 never is, the row
 -- number is lowered
@@ -56,8 +56,8 @@ appends key = is_plain key || eqb key 0x80 || eqb key 0x81
 abbrev pub key_bytes : ℕ → List ℕ
 key_bytes key =
     if eqb key 0x80 then micro
-    else if eqb key 0x81 then ohm
-    else key ∷ []
+    otherwise if eqb key 0x81 then ohm
+    otherwise key ∷ []
 
 abbrev pub is_listed : ℕ → Bool
 is_listed key = appends key || any (eqb key) (0x08 ∷ 0x01 ∷ 0x02 ∷ 0x0D ∷ 0x00 ∷ [])
@@ -72,7 +72,7 @@ without_last w = take (length w - last_sign w) w
 
 -- erase the last sign, if there is one
 abbrev pub erased : Typing → Typing
-erased t = if eqb (length t.typed) 0 then t else typing (without_last t.typed) 0
+erased t = if eqb (length t.typed) 0 then t otherwise typing (without_last t.typed) 0
 
 -- up and down, stopping at the ends
 abbrev pub raised : Typing → Typing
@@ -83,17 +83,17 @@ moved_down es t = typing t.typed (lower_to (offered_for es t.typed) (t.row + 1))
 
 -- take the highlighted name, if there are rows
 abbrev pub name_taken : List Entry → Typing → Typing
-name_taken es t = if eqb (length (offered_for es t.typed)) 0 then t else typing (highlighted es t) 0
+name_taken es t = if eqb (length (offered_for es t.typed)) 0 then t otherwise typing (highlighted es t) 0
 
 -- what a listed key does to the text and the row, once the highlight is on the held name or lowered; 00 only recounts
 unfoldable pub acts : List Entry → ℕ → Typing → Typing
 acts es key t =
     if appends key then appended key t
-    else if eqb key 0x08 then erased t
-    else if eqb key 0x01 then raised t
-    else if eqb key 0x02 then moved_down es t
-    else if eqb key 0x0D then name_taken es t
-    else t
+    otherwise if eqb key 0x08 then erased t
+    otherwise if eqb key 0x01 then raised t
+    otherwise if eqb key 0x02 then moved_down es t
+    otherwise if eqb key 0x0D then name_taken es t
+    otherwise t
 
 -- 48 bytes: a text, zeros behind it
 abbrev pub padded : List ℕ → List ℕ

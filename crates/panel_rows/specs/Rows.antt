@@ -1,6 +1,6 @@
 -- The rows of a panel as positions in the book.
 use Rattle.std.specs.Prelude.{◌<◌, ◌≤◌, suc, ℕ, ◌≡◌, List, [], ◌∷◌, eqb, get_or, length}
-use Rattle.octets.specs.Lists.{◌∈◌, if◌then◌else◌}
+use Rattle.octets.specs.Lists.{◌∈◌, if◌then◌otherwise◌}
 use Rattle.entries.specs.Completion.{max_count}
 use Rattle.entries.specs.Entries.{Entry, at, names}
 use Rattle.book.specs.Book.{in_book, records_at, today}
@@ -30,7 +30,7 @@ row_at s i = record { number = i; rows = s.count; position = get_or s.offered i 
 
 -- its name, the empty one without rows
 abbrev pub row_name : List Entry → Row → List ℕ
-row_name es r = if eqb r.rows 0 then [] else (at es r.position).name
+row_name es r = if eqb r.rows 0 then [] otherwise (at es r.position).name
 
 -- a row of those offered for a text
 pub record OnRow (es : List Entry) (w : List ℕ) (r : Row) : Type 0 where
@@ -41,4 +41,4 @@ pub record OnRow (es : List Entry) (w : List ℕ) (r : Row) : Type 0 where
 -- the row of a position; the number of rows if it is in none of them
 abbrev pub row_of : ℕ → List ℕ → ℕ
 row_of i [] = 0
-row_of i (j ∷ js) = if eqb j i then 0 else suc (row_of i js)
+row_of i (j ∷ js) = if eqb j i then 0 otherwise suc (row_of i js)

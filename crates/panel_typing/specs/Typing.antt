@@ -1,6 +1,6 @@
 -- What the steps of a key say of the typed text and of a row number.
 use Rattle.std.specs.Prelude.{◌+◌, ◌-◌, ◌≤◌, min, ℕ, ◌≡◌, Bool, ◌&&◌, ◌||◌, not, List, ◌++◌, eqb, ltb, length}
-use Rattle.octets.specs.Lists.{if◌then◌else◌}
+use Rattle.octets.specs.Lists.{if◌then◌otherwise◌}
 use Rattle.entries.specs.Names.{longest_name}
 use Rattle.panel.specs.declared.Panel.{Panel}
 use Rattle.panel.specs.Panel.{appends, key_bytes, typed_in, without_last}
@@ -15,7 +15,7 @@ changes_text len key = appends key || (eqb key 0x08 && not (eqb len 0))
 
 -- the text then
 abbrev pub changed_text : ℕ → List ℕ → List ℕ
-changed_text key w = if appends key then w ++ key_bytes key else without_last w
+changed_text key w = if appends key then w ++ key_bytes key otherwise without_last w
 
 -- take a name, where there is one
 abbrev pub takes : ℕ → ℕ → Bool
@@ -25,8 +25,8 @@ takes key rows = eqb key 0x0D && not (eqb rows 0)
 abbrev pub moved_row : ℕ → ℕ → ℕ → ℕ
 moved_row key row rows =
     if eqb key 0x01 then row - 1
-    else if eqb key 0x02 then min (row + 1) (rows - 1)
-    else row
+    otherwise if eqb key 0x02 then min (row + 1) (rows - 1)
+    otherwise row
 
 -- a panel on which this text is typed, with any bytes behind it
 pub record Typed (w : List ℕ) (p : Panel) : Type 0 where

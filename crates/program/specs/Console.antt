@@ -1,7 +1,7 @@
 -- The program as it runs: what one command prints and leaves on two buffers, and input fed byte by byte, of whose lines
 -- 64 bytes are kept.
 use Rattle.std.specs.Prelude.{◌+◌, ◌≤◌, ℕ, ◌≡◌, Bool, not, List, [], ◌++◌, ◌∷◌, eqb, length, take}
-use Rattle.octets.specs.Lists.{if◌then◌else◌}
+use Rattle.octets.specs.Lists.{if◌then◌otherwise◌}
 use Rattle.script.specs.Run.{Bench, bench, bench_call, bench_step, book_of}
 use Rattle.program.specs.Program.{bad, bad_line, command_of, edit, edit_line, offer_lines, top, top_lines}
 use Rattle.program.specs.Program as program
@@ -49,10 +49,10 @@ console l b = record { line = l; bench = b }
 abbrev pub fed_by : ℕ → Console → Console
 fed_by x s =
     if eqb x 10 then console [] (left_by (command_of s.line) s.bench)
-    else console (take kept_bytes (s.line ++ (x ∷ []))) s.bench
+    otherwise console (take kept_bytes (s.line ++ (x ∷ []))) s.bench
 
 abbrev pub said_at : ℕ → Console → List ℕ
-said_at x s = if eqb x 10 then shown_by (command_of s.line) s.bench else []
+said_at x s = if eqb x 10 then shown_by (command_of s.line) s.bench otherwise []
 
 -- bytes in order: the console after them, and what is printed
 abbrev pub console_after : List ℕ → Console → Console
@@ -80,10 +80,10 @@ pub record SomeFed (s : Console) (kept : ℕ) (turned : Bool) (line one two : Li
 
 -- the end of the input: a line begun is carried out
 abbrev pub said_last : Console → List ℕ
-said_last s = if eqb (length s.line) 0 then [] else shown_by (command_of s.line) s.bench
+said_last s = if eqb (length s.line) 0 then [] otherwise shown_by (command_of s.line) s.bench
 
 abbrev pub bench_last : Console → Bench
-bench_last s = if eqb (length s.line) 0 then s.bench else left_by (command_of s.line) s.bench
+bench_last s = if eqb (length s.line) 0 then s.bench otherwise left_by (command_of s.line) s.bench
 
 -- the bytes in front of the first line feed
 abbrev pub in_line : ℕ → Bool

@@ -2,7 +2,7 @@
 -- and what it does to the entries held.
 use Rattle.std.specs.Prelude.{◌^◌, suc, ℕ, Bool, ◌&&◌, not, List, [], ◌++◌, ◌∷◌, eqb, leb, ltb, drop, length}
 use Rattle.octets.specs.Decimal.{decimal, value_on}
-use Rattle.octets.specs.Lists.{concat_map, if◌then◌else◌}
+use Rattle.octets.specs.Lists.{concat_map, if◌then◌otherwise◌}
 use Rattle.octets.specs.Octets.{begins}
 use Rattle.octets.specs.Text.{line_feed, text}
 use Rattle.entries.specs.Completion.{completion, max_count}
@@ -23,7 +23,7 @@ is_digit b = leb 48 b && leb b 57
 -- the bytes at the front that pass a test
 abbrev pub front : (ℕ → Bool) → List ℕ → List ℕ
 front p [] = []
-front p (b ∷ bs) = if p b then (b ∷ front p bs) else []
+front p (b ∷ bs) = if p b then (b ∷ front p bs) otherwise []
 
 -- the digits at the front; `value_on` gives their number
 abbrev pub digits : List ℕ → List ℕ
@@ -45,15 +45,15 @@ has_number bs =
 -- these, then the name or prefix
 abbrev pub numbered : (ℕ → List ℕ → Command) → List ℕ → Command
 numbered make bs =
-    let ds = digits bs in if has_number bs then make (value_on 0 ds) (drop (suc (length ds)) bs) else bad
+    let ds = digits bs in if has_number bs then make (value_on 0 ds) (drop (suc (length ds)) bs) otherwise bad
 
 -- one of the words and a space; any other line is bad
 unfoldable pub command_of : List ℕ → Command
 command_of bs =
     if begins (text "set ") bs then numbered (λ n w. edit (set_name w n)) (drop 4 bs)
-    else if begins (text "top ") bs then numbered top (drop 4 bs)
-    else if begins (text "del ") bs then edit (withdraw_name (drop 4 bs))
-    else bad
+    otherwise if begins (text "top ") bs then numbered top (drop 4 bs)
+    otherwise if begins (text "del ") bs then edit (withdraw_name (drop 4 bs))
+    otherwise bad
 
 -- `no` and the refusal
 unfoldable pub refused_line : ℕ → List ℕ
@@ -100,7 +100,7 @@ start_line b (l ∷ ls) = (b ∷ l) ∷ ls
 
 abbrev pub lines : List ℕ → List (List ℕ)
 lines [] = []
-lines (b ∷ bs) = if eqb b 10 then ([] ∷ lines bs) else start_line b (lines bs)
+lines (b ∷ bs) = if eqb b 10 then ([] ∷ lines bs) otherwise start_line b (lines bs)
 
 -- what the program prints for lines, from the entries es on
 abbrev pub output_of : List Entry → List (List ℕ) → List ℕ

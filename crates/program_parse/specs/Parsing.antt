@@ -2,7 +2,7 @@
 use Rattle.std.specs.Prelude.{◌≤◌, ℕ, ◌≡◌, Bool, false, true, List, drop, length}
 use Rattle.program.specs.Program as program
 use Rattle.octets.specs.Decimal.{value_on}
-use Rattle.octets.specs.Lists.{if◌then◌else◌}
+use Rattle.octets.specs.Lists.{if◌then◌otherwise◌}
 use Rattle.ledger.specs.Ledger.{set_name, withdraw_name}
 use Rattle.program.specs.Program.{bad, digits, edit, has_number, top}
 use Rattle.program_parse.specs.declared.Number.{Number}
@@ -12,7 +12,7 @@ use Rattle.program_parse.specs.declared.ParsedLine.TheVariants as command
 
 -- the number at the front of bytes
 abbrev pub number_as : List ℕ → Number
-number_as bs = if has_number bs then number.Value (value_on 0 (digits bs)) (length (digits bs)) else number.Missing
+number_as bs = if has_number bs then number.Value (value_on 0 (digits bs)) (length (digits bs)) otherwise number.Missing
 
 -- what a line asks for, with the name or prefix as the rest of it
 abbrev pub command_as : List ℕ → ParsedLine → program.Command

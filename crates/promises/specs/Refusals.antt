@@ -1,7 +1,7 @@
 -- Document 01's table, "When a call declines", and what document 02 adds to it: the causes, each with its number, the
 -- order in which they are checked, and what it means that a call declines by them.
 use Rattle.std.specs.Prelude.{◌≤◌, suc, ℕ, ◌≡◌, ◌&&◌, ◌||◌, not, List, [], ◌∷◌, eqb, leb, drop, length}
-use Rattle.octets.specs.Lists.{◌∈◌, if◌then◌else◌}
+use Rattle.octets.specs.Lists.{◌∈◌, if◌then◌otherwise◌}
 use Rattle.entries.specs.Completion.{max_count}
 use Rattle.entries.specs.Entries.{Entry, holds, max_entries}
 use Rattle.entries.specs.Names.{is_name, is_prefix}
@@ -64,7 +64,7 @@ order = 10 ∷ 1 ∷ 2 ∷ 3 ∷ 4 ∷ 5 ∷ 6 ∷ 7 ∷ 8 ∷ 9 ∷ []
 -- the place of a number in a list, from 0, its length if it is not there; in that order it is the number's turn
 abbrev pub place_of : List ℕ → ℕ → ℕ
 place_of [] n = 0
-place_of (m ∷ ms) n = if eqb n m then 0 else suc (place_of ms n)
+place_of (m ∷ ms) n = if eqb n m then 0 otherwise suc (place_of ms n)
 
 abbrev pub turn : ℕ → ℕ
 turn n = place_of order n

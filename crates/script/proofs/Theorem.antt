@@ -11,7 +11,7 @@ use lib.Seq.{take-append_seam}
 use native.Mathlib.Omega.{arith}
 use borrow.Author.Tests.{eqb-true, ltb-false, not-false}
 use Rattle.ledger.specs.History as history
-use Rattle.octets.specs.Lists.{all, concat_map, if◌then◌else◌}
+use Rattle.octets.specs.Lists.{all, concat_map, if◌then◌otherwise◌}
 use Rattle.octets.specs.Octets.{number_at, overwrite}
 use Rattle.octets.proofs.Numbers.{Bytes, bytes_drop, number-below}
 use Rattle.octets.proofs.Tests.{and_intro, by_test, or_false}
@@ -55,11 +55,11 @@ refused_dest : (c : Edit) (b : Buffers) (n : ℕ) → (call c b).answer ≡ refu
 unfolding call_step
 refused_dest c b n h = rw h at (ap (λ x. x.other) (refused_unchanged c b n h))
 
-first_stays : (t : Bool) (x y : List ℕ) → (if t then (if t then x else y) else x) ≡ x
+first_stays : (t : Bool) (x y : List ℕ) → (if t then (if t then x otherwise y) otherwise x) ≡ x
 first_stays true x y = refl
 first_stays false x y = refl
 
-second_stays : (t : Bool) (x y : List ℕ) → (if t then y else (if t then x else y)) ≡ y
+second_stays : (t : Bool) (x y : List ℕ) → (if t then y otherwise (if t then x otherwise y)) ≡ y
 second_stays true x y = refl
 second_stays false x y = refl
 

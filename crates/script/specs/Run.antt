@@ -1,7 +1,7 @@
 -- A history run on two lent buffers (document 01, "The ledger"): "empty" into the first, then every call of a script,
 -- its answers kept.
 use Rattle.std.specs.Prelude.{◌*◌, ℕ, Bool, ◌||◌, false, not, List, [], ◌∷◌, eqb, ltb, length}
-use Rattle.octets.specs.Lists.{concat_map, if◌then◌else◌}
+use Rattle.octets.specs.Lists.{concat_map, if◌then◌otherwise◌}
 use Rattle.octets.specs.Octets.{overwrite}
 use Rattle.answer.specs.Answers.{Answer, Check, Outcome, PlayedCounts, WrittenCounts, ◌when◌, on_answer, unless}
 use Rattle.answer.specs.Reports.{played_of}
@@ -25,10 +25,10 @@ buffers book other = record { book = book; other = other }
 
 -- the buffer that holds the book, and the other
 abbrev pub book_of : Bench → List ℕ
-book_of b = if b.turned then b.second else b.first
+book_of b = if b.turned then b.second otherwise b.first
 
 abbrev pub buffers_of : Bench → Buffers
-buffers_of b = buffers (book_of b) (if b.turned then b.first else b.second)
+buffers_of b = buffers (book_of b) (if b.turned then b.first otherwise b.second)
 
 -- what a call answers and leaves in the other buffer
 abbrev pub bench_call : Edit → Bench → Outcome WrittenCounts
@@ -38,8 +38,8 @@ bench_call c b = call c (buffers_of b)
 unfoldable pub bench_step : Edit → Bench → Bench
 bench_step c b =
     record {
-      first = if b.turned then (bench_call c b).dest else b.first;
-      second = if b.turned then b.second else (bench_call c b).dest;
+      first = if b.turned then (bench_call c b).dest otherwise b.first;
+      second = if b.turned then b.second otherwise (bench_call c b).dest;
       turned = on_answer (bench_call c b).answer b.turned (not b.turned);
     }
 

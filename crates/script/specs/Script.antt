@@ -3,7 +3,7 @@
 -- score, length and name bytes are allowed.
 use Rattle.std.specs.Prelude.{◌+◌, suc, zero, ℕ, Bool, ◌&&◌, false, true, List, [], ◌++◌, ◌∷◌, eqb, leb, ltb, drop, get_or, length, take}
 use Rattle.std.proofs.Math.Option.{Option, none, some}
-use Rattle.octets.specs.Lists.{if◌then◌else◌}
+use Rattle.octets.specs.Lists.{if◌then◌otherwise◌}
 use Rattle.octets.specs.Octets.{be, number_at}
 use Rattle.answer.specs.Answers.{Answer, WrittenCounts, counts, none_written, number}
 use Rattle.ledger.specs.Ledger.{Edit, set_name, withdraw_name}
@@ -16,7 +16,7 @@ abbrev pub call_name : List ℕ → List ℕ
 call_name bs = take (number_at 2 bs 5) (drop 7 bs)
 
 unfoldable pub call_at : List ℕ → Edit
-call_at bs = if eqb (get_or bs 0 0) 0 then set_name (call_name bs) (number_at 4 bs 1) else withdraw_name (call_name bs)
+call_at bs = if eqb (get_or bs 0 0) 0 then set_name (call_name bs) (number_at 4 bs 1) otherwise withdraw_name (call_name bs)
 
 -- whether one stands there
 unfoldable pub is_call : List ℕ → Bool
@@ -33,7 +33,7 @@ calls_from zero [] = some []
 calls_from zero (b ∷ bs) = none
 calls_from (suc n) [] = some []
 calls_from (suc n) (b ∷ bs) = if is_call (b
-    ∷ bs) then with_call (call_at (b ∷ bs)) (calls_from n (drop (call_length (b ∷ bs)) (b ∷ bs))) else none
+    ∷ bs) then with_call (call_at (b ∷ bs)) (calls_from n (drop (call_length (b ∷ bs)) (b ∷ bs))) otherwise none
 
 -- of a whole script; its length is fuel enough, as every call takes a byte at least
 unfoldable pub calls : List ℕ → Option (List Edit)

@@ -1,6 +1,6 @@
 -- A run that is not refused is the ledger's history (document 01, "The ledger").
 use Rattle.std.specs.Prelude.{◌<◌, ℕ, ◌≡◌, List, [], get_or, length, take}
-use Rattle.octets.specs.Lists.{concat_map, if◌then◌else◌}
+use Rattle.octets.specs.Lists.{concat_map, if◌then◌otherwise◌}
 use Rattle.octets.specs.Octets.{overwrite}
 use Rattle.answer.specs.Answers.{PlayedCounts, given, refused}
 use Rattle.book.specs.Book.{book_image}
@@ -11,7 +11,7 @@ use Rattle.script.specs.Script.{answer_bytes, calls, calls_of}
 
 -- the buffer that a run says to hold the book
 abbrev pub book_left : PlayedCounts → Finish → List ℕ
-book_left p f = if p.turned then f.second else f.first
+book_left p f = if p.turned then f.second otherwise f.first
 
 -- For buffers of L bytes and the calls cs:
 pub record Ledgers (L : ℕ) (cs : List Edit) (out : List ℕ) (p : PlayedCounts) (f : Finish) : Type 0 where

@@ -1,6 +1,6 @@
 -- Worked cases of a script and of its run: one table, one proposition.
 use Rattle.std.specs.Prelude.{ℕ, ◌≡◌, refl, List, [], ◌++◌, ◌∷◌, replicate, take}
-use Rattle.octets.specs.Lists.{if◌then◌else◌}
+use Rattle.octets.specs.Lists.{if◌then◌otherwise◌}
 use Rattle.octets.specs.Octets.{be, from_be, number_at}
 use Rattle.octets.specs.Table.{Row, ◌gives◌, failing}
 use Rattle.octets.specs.Text.{text}
@@ -21,7 +21,7 @@ abbrev shown_run : Finish → List ℕ
 shown_run f =
     number f.answer
     ∷ (counts none_played f.answer).calls
-    ∷ (if (counts none_played f.answer).turned then 1 else 0)
+    ∷ (if (counts none_played f.answer).turned then 1 otherwise 0)
     ∷ f.first ++ (f.second ++ f.out)
 
 abbrev set_ac : List ℕ

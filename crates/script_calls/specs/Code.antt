@@ -1,7 +1,7 @@
 -- What counting and playing a script ask and ensure, through the definitions of a run.
 use Rattle.std.specs.Prelude.{◌*◌, ◌+◌, ◌≤◌, ℕ, ◌≡◌, true, List, length}
 use Rattle.std.proofs.Math.Option.{Option, none, some}
-use Rattle.octets.specs.Lists.{if◌then◌else◌}
+use Rattle.octets.specs.Lists.{if◌then◌otherwise◌}
 use Rattle.octets.specs.Octets.{overwrite}
 use Rattle.ledger.specs.Ledger.{Edit}
 use Rattle.script.specs.Run.{Bench, bench_after, told}
@@ -11,7 +11,7 @@ use Rattle.script_calls.specs.declared.CallCount.TheVariants as counted
 
 -- the length of the call at the front of bytes, 0 where there is none
 abbrev pub found_length : List ℕ → ℕ
-found_length bs = if is_call bs then call_length bs else 0
+found_length bs = if is_call bs then call_length bs otherwise 0
 
 -- n calls and those that are left
 abbrev pub counted_as : ℕ → Option (List Edit) → CallCount

@@ -11,7 +11,7 @@ use lib.Seq.{sets}
 use native.Mathlib.Numerals.{add-one}
 use native.Mathlib.Omega.{arith}
 use borrow.Author.Tests.{not-false}
-use Rattle.octets.specs.Lists.{if◌then◌else◌}
+use Rattle.octets.specs.Lists.{if◌then◌otherwise◌}
 use Rattle.octets.specs.Octets.{be, number_at}
 use Rattle.octets.proofs.Coding.{length-be}
 use Rattle.octets.proofs.Stores.{sets-append}
@@ -102,7 +102,7 @@ unfolding call_at
 call-parts bs e n q = rw (e, n, q) (by_kind (eqb (get_or bs 0 0) 0))
   where
     by_kind : (b : Bool) → edit_of b (call_name bs) (number_at 4 bs 1) ≡
-        (if b then set_name (call_name bs) (number_at 4 bs 1) else withdraw_name (call_name bs))
+        (if b then set_name (call_name bs) (number_at 4 bs 1) otherwise withdraw_name (call_name bs))
     by_kind true = refl
     by_kind false = refl
 

@@ -1,7 +1,7 @@
 -- The check of a sheet in one pass, in the order of the code. It is shown to accept exactly what `read_sheet` reads.
 use Rattle.std.specs.Prelude.{◌+◌, suc, zero, ℕ, Bool, ◌&&◌, List, [], leb, drop, get_or, length, take}
 use Rattle.std.proofs.Math.Option.{Option, none, some}
-use Rattle.octets.specs.Lists.{if◌then◌else◌}
+use Rattle.octets.specs.Lists.{if◌then◌otherwise◌}
 use Rattle.octets.specs.Octets.{below, number_at}
 use Rattle.entries.specs.Names.{is_name}
 use Rattle.frame_laws.specs.Test.{ends_at, frame_is}
@@ -22,7 +22,7 @@ row_is prev bs = leb (row_length bs) (length bs) && (is_name (row_name bs) && be
 abbrev pub rows_end : ℕ → List ℕ → ℕ → List ℕ → Option ℕ
 rows_end zero prev at buf = some at
 rows_end (suc m) prev at buf =
-    if row_is prev (drop at buf) then rows_end m (row_name (drop at buf)) (at + row_length (drop at buf)) buf else none
+    if row_is prev (drop at buf) then rows_end m (row_name (drop at buf)) (at + row_length (drop at buf)) buf otherwise none
 
 -- behind the frame: the entries up to the total length
 abbrev pub sheet_body_is : List ℕ → Bool

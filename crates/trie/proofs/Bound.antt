@@ -7,7 +7,7 @@ use mathlib.Core.List.{List, [], ◌++◌, ◌∷◌, map}
 use lib.ListN.{length, length-append, length-map}
 use native.Mathlib.Nat.{add-mul, mul-add, mul-suc}
 use native.Mathlib.Omega.{arith}
-use Rattle.octets.specs.Lists.{◌∈◌, concat_map, if◌then◌else◌, sort_by}
+use Rattle.octets.specs.Lists.{◌∈◌, concat_map, if◌then◌otherwise◌, sort_by}
 use Rattle.octets.proofs.Count.{count, count-all, count-concat-sort}
 use Rattle.octets.proofs.Lists.{map_in, sort_in, sort-length}
 use Rattle.octets.proofs.Tests.{by_test}
@@ -39,9 +39,9 @@ siblings_bound s b z (x ∷ xs) h k = go (λ s' b' z' q. siblings_bound s' b' z'
         omega (arith, e, f, g)
 
     go : ((s' b' z' : ℕ) → z' ≤ 4 → length (siblings s' b' z' xs) ≤ 16 * length xs) → (t : Bool)
-        → length (node_bytes x s (if t then 0 else b) (if t then 0 else z) (is_last xs)
-        ++ siblings (x.score - first_score xs) (if t then b else length x.under)
-        (if t then z else size_of (length x.under)) xs) ≤ 16 * suc (length xs)
+        → length (node_bytes x s (if t then 0 otherwise b) (if t then 0 otherwise z) (is_last xs)
+        ++ siblings (x.score - first_score xs) (if t then b otherwise length x.under)
+        (if t then z otherwise size_of (length x.under)) xs) ≤ 16 * suc (length xs)
     go ih true = one ih 0 0 (x.score - first_score xs) b z (omega arith) k
     go ih false = one ih b z (x.score - first_score xs) (length x.under) (size_of (length x.under)) k
         (size_of_most (length x.under))

@@ -5,7 +5,7 @@ use mathlib.Core.Bool.{Bool, false}
 use lib.Dec.{eqb, ltb}
 use native.Mathlib.Omega.{arith}
 use borrow.Author.Tests.{eq-eqb, eqb-true, ltb-true, ne_eqb}
-use Rattle.octets.specs.Lists.{if◌then◌else◌}
+use Rattle.octets.specs.Lists.{if◌then◌otherwise◌}
 use Rattle.octets.proofs.Tests.{by_test}
 use Rattle.trie.specs.Reading.{child_size, label_length, last_mark, score_size, size_at}
 use Rattle.trie.specs.Trie.{code_of, header_byte, own_size, size_of}
@@ -47,7 +47,7 @@ module _ (ss cs : ℕ) (last : Bool) (len : ℕ) (s : Size ss) (c : Size cs) (l 
   pub header_score : score_size (header_byte ss cs last len) ≡ ss
   unfolding header_byte score_size
   header_score =
-      let q : (code_of ss * 64 + code_of cs * 16 + (if last then 8 else 0) + len) / 64 ≡ code_of ss =
+      let q : (code_of ss * 64 + code_of cs * 16 + (if last then 8 otherwise 0) + len) / 64 ≡ code_of ss =
       by_test last (λ t. rw t (omega arith)) (λ t. rw t (omega arith))
       in
       ap size_at q ∙ s.back
@@ -55,7 +55,7 @@ module _ (ss cs : ℕ) (last : Bool) (len : ℕ) (s : Size ss) (c : Size cs) (l 
   pub header_child : child_size (header_byte ss cs last len) ≡ cs
   unfolding header_byte child_size
   header_child =
-      let q : (code_of ss * 64 + code_of cs * 16 + (if last then 8 else 0) + len) / 16 % 4 ≡ code_of cs =
+      let q : (code_of ss * 64 + code_of cs * 16 + (if last then 8 otherwise 0) + len) / 16 % 4 ≡ code_of cs =
       by_test last (λ t. rw t (omega arith)) (λ t. rw t (omega arith))
       in
       ap size_at q ∙ c.back

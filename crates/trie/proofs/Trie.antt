@@ -9,7 +9,7 @@ use lib.ListN.{drop, length, length-append, length-map}
 use lib.Seq.{drop-append_seam, drop_at, take-append_seam, take_at}
 use native.Mathlib.Omega.{arith}
 use borrow.Author.Tests.{ltb-true, ne_eqb}
-use Rattle.octets.specs.Lists.{◌∈◌, concat_map, if◌then◌else◌, insert_by, sort_by}
+use Rattle.octets.specs.Lists.{◌∈◌, concat_map, if◌then◌otherwise◌, insert_by, sort_by}
 use Rattle.octets.specs.Octets.{be}
 use Rattle.octets.proofs.Coding.{from_be-be, length-be}
 use Rattle.octets.proofs.Count.{count, count-concat_ext, count-concat-sort, count_ext, count_map}
@@ -221,7 +221,7 @@ sorted_sets d es = sort_by (λ a b. stands_before (node_of (group_of d 0) a) (no
 unfoldable found_of : (List Entry → List Entry) → List Entry → List Entry
 found_of found s =
     if used_up (length (label_of s)) s then (entry (label_of s) (highest s)
-    ∷ []) else prefixed (label_of s) (found (remains (length (label_of s)) s))
+    ∷ []) otherwise prefixed (label_of s) (found (remains (length (label_of s)) s))
 
 abbrev found : ℕ → List Entry → List Entry
 found zero es = []
@@ -331,7 +331,7 @@ siblings_inner s b z x xs t = rw t
 -- does a node have children?
 abbrev pub any_inner : List Node → Bool
 any_inner [] = false
-any_inner (x ∷ xs) = if is_leaf x then any_inner xs else true
+any_inner (x ∷ xs) = if is_leaf x then any_inner xs otherwise true
 
 -- the first child field of a group is of `z` bytes, and the others do not depend on it
 pub siblings_own : (f b z : ℕ) (xs : List Node) → any_inner xs ≡ true
@@ -647,7 +647,7 @@ trie_entries_of es rest v = rw (framed-count 0x31 (length es) (group_of levels (
   where
     go :
         (fs : List Entry) → es ≡ fs
-        → (if eqb (length es) 0 then [] else sort_by name_below
+        → (if eqb (length es) 0 then [] otherwise sort_by name_below
         (group_from levels 0 (drop 7 (framed 0x31 (length es) (group_of levels (highest es) es) ++ rest))).entries)
         ≡ es
     go [] q = rw q

@@ -2,7 +2,7 @@
 use Rattle.std.specs.Prelude.{◌%◌, ◌+◌, ◌-◌, ◌/◌, suc, zero, ℕ, Bool, false, not, true, List, [], ◌++◌, ◌∷◌, map, eqb, drop, length, take}
 use Prim.Native.Char.{code}
 use Rattle.std.proofs.Math.Option.{Option}
-use Rattle.octets.specs.Lists.{if◌then◌else◌, sort_by}
+use Rattle.octets.specs.Lists.{if◌then◌otherwise◌, sort_by}
 use Rattle.octets.specs.Octets.{from_be}
 use Rattle.entries.specs.Entries.{Entry, entry, name_below}
 use Rattle.frame.specs.Frame.{count_of, read_as}
@@ -10,7 +10,7 @@ use Rattle.trie.specs.Trie.{levels, trie_image}
 
 -- Reading. The four fields of a header byte.
 abbrev pub size_at : ℕ → ℕ
-size_at code = if eqb code 3 then 4 else code
+size_at code = if eqb code 3 then 4 otherwise code
 
 unfoldable pub score_size : ℕ → ℕ
 score_size h = size_at (h / 64)
@@ -32,7 +32,7 @@ pub record Sibling : Type 0 where
 
 -- a first sibling's score field counts up from the score above it, another's down from the score before it
 abbrev pub score_from : Bool → ℕ → ℕ → ℕ
-score_from is_first prev field = if is_first then prev + field else prev - field
+score_from is_first prev field = if is_first then prev + field otherwise prev - field
 
 -- the node of header h at the front of bs, which begin behind the header; and what follows it
 unfoldable pub sibling_of : Bool → ℕ → ℕ → List ℕ → Sibling
@@ -95,7 +95,7 @@ group_from (suc d) prev bs =
 -- a trie of no entries has no group
 unfoldable pub trie_entries : List ℕ → List Entry
 trie_entries buf =
-    if eqb (count_of buf) 0 then [] else sort_by (name_below) (group_from levels 0 (drop 7 buf)).entries
+    if eqb (count_of buf) 0 then [] otherwise sort_by (name_below) (group_from levels 0 (drop 7 buf)).entries
 
 unfoldable pub read_trie : List ℕ → Option (List Entry)
 read_trie buf = read_as trie_entries trie_image buf

@@ -1,6 +1,6 @@
 -- The trie image (document 01, "Trie image"; source document 001, section 4).
 use Rattle.std.specs.Prelude.{◌*◌, ◌+◌, ◌-◌, max, suc, zero, ℕ, Bool, false, true, List, [], ◌++◌, ◌∷◌, map, eqb, ltb, drop, length, take}
-use Rattle.octets.specs.Lists.{concat_map, if◌then◌else◌, sort_by}
+use Rattle.octets.specs.Lists.{concat_map, if◌then◌otherwise◌, sort_by}
 use Rattle.octets.specs.Octets.{be, common}
 use Rattle.entries.specs.Entries.{Entry, entry, outranks}
 use Rattle.entries.specs.Names.{longest_name}
@@ -19,7 +19,7 @@ abbrev pub join_first : Entry → List (List Entry) → List (List Entry)
 join_first e [] = (e ∷ []) ∷ []
 join_first e ([] ∷ rs) = (e ∷ []) ∷ rs
 join_first e ((f ∷ fs) ∷ rs) =
-    if same_first e.name f.name then ((e ∷ f ∷ fs) ∷ rs) else ((e ∷ []) ∷ (f ∷ fs) ∷ rs)
+    if same_first e.name f.name then ((e ∷ f ∷ fs) ∷ rs) otherwise ((e ∷ []) ∷ (f ∷ fs) ∷ rs)
 
 -- the sets of suffixes by first byte; the empty suffix is a set of its own
 abbrev pub by_first : List Entry → List (List Entry)
@@ -46,14 +46,14 @@ pub record Node : Type 0 where
 
 -- the size of a field, 0, 1, 2 or 4 bytes, the smallest that holds the value; and its code
 abbrev pub size_of : ℕ → ℕ
-size_of v = if eqb v 0 then 0 else if ltb v 256 then 1 else if ltb v 65536 then 2 else 4
+size_of v = if eqb v 0 then 0 otherwise if ltb v 256 then 1 otherwise if ltb v 65536 then 2 otherwise 4
 
 abbrev pub code_of : ℕ → ℕ
-code_of size = if eqb size 4 then 3 else size
+code_of size = if eqb size 4 then 3 otherwise size
 
 -- header byte: score size in bits 7 and 6, child size in 5 and 4, last-sibling mark in 3, label length in 2 to 0
 unfoldable pub header_byte : ℕ → ℕ → Bool → ℕ → ℕ
-header_byte ssize csize last len = code_of ssize * 64 + code_of csize * 16 + (if last then 8 else 0) + len
+header_byte ssize csize last len = code_of ssize * 64 + code_of csize * 16 + (if last then 8 otherwise 0) + len
 
 -- a node with its score field's value, its child field's value and size, and the last-sibling mark
 unfoldable pub node_bytes : Node → ℕ → ℕ → ℕ → Bool → List ℕ
@@ -78,14 +78,14 @@ is_last (x ∷ xs) = false
 abbrev pub siblings : ℕ → ℕ → ℕ → List Node → List ℕ
 siblings s back size [] = []
 siblings s back size (x ∷ xs) =
-    node_bytes x s (if is_leaf x then 0 else back) (if is_leaf x then 0 else size) (is_last xs)
-    ++ siblings (x.score - first_score xs) (if is_leaf x then back else length x.under)
-    (if is_leaf x then size else size_of (length x.under)) xs
+    node_bytes x s (if is_leaf x then 0 otherwise back) (if is_leaf x then 0 otherwise size) (is_last xs)
+    ++ siblings (x.score - first_score xs) (if is_leaf x then back otherwise length x.under)
+    (if is_leaf x then size otherwise size_of (length x.under)) xs
 
 -- The child field that counts from where the group begins counts its own bytes: with `rest` other bytes in the group,
 -- the smallest size that holds the sum.
 abbrev pub own_size : ℕ → ℕ
-own_size rest = if ltb (rest + 1) 256 then 1 else if ltb (rest + 2) 65536 then 2 else 4
+own_size rest = if ltb (rest + 1) 256 then 1 otherwise if ltb (rest + 2) 65536 then 2 otherwise 4
 
 -- the bytes of a group without that field
 unfoldable pub other_bytes : ℕ → List Node → ℕ

@@ -11,7 +11,7 @@ use lib.Seq.{drop_at, drop-drop, get_or-set_other}
 use native.Mathlib.Omega.{arith}
 use borrow.Author.Tests.{eq-eqb, eqb-false, eqb-true, lt-ltb, ltb-true, ne_eqb}
 use Rattle.octets.proofs.Tests.{by_test}
-use Rattle.octets.specs.Lists.{◌∈◌, if◌then◌else◌}
+use Rattle.octets.specs.Lists.{◌∈◌, if◌then◌otherwise◌}
 use Rattle.octets.proofs.Lists.{some_in}
 use Rattle.entries.proofs.BestList.{different-rising}
 use Rattle.entries.specs.Entries.{Entry}
@@ -142,7 +142,7 @@ highest_fits path half t m = highest-below (2 ^ 32) t (omega arith) (made_facts 
 
 -- Keys that can follow a half have different places for their marks: from a place the key is known again.
 abbrev key_at : ℕ → ℕ
-key_at q = if eqb q 3 then suc 0xC2 else if eqb q 15 then suc 0xCE else q
+key_at q = if eqb q 3 then suc 0xC2 otherwise if eqb q 15 then suc 0xCE otherwise q
 
 key_again : (k : ℕ) → KeyIn k (keys_behind no_half) → key_at (mark_place k) ≡ k
 key_again k (inl m) = let q : k ≡ 0 = omega (arith, m.1) in rw q
@@ -397,7 +397,7 @@ module _ (s : List ℕ) (d : ℕ) (kids : KidsT s d) (t : List Entry) (ss : List
   module _ (c cs e : ℕ) (lab : length x.label ≡ length (label_of t)) (within : p.path + length (label_of t) ≤ 48)
       (empty : length (label_of t) ≡ 0 → (p.path ≡ 0 → ⊥) × (cs ≡ 0)) (lf : cs ≡ 0 → p.left ≡ 0
       → ⊥) (ch : (cs ≡ 0 → ⊥) → c ≡ p.back)
-      (sz : (cs ≡ 0 → ⊥) → cs ≡ (if p.own then own_size (c - cs) else size_of c)) where
+      (sz : (cs ≡ 0 → ⊥) → cs ≡ (if p.own then own_size (c - cs) otherwise size_of c)) where
     abbrev n : Fields
     n = fields_for x p.at f c cs (is_last xs)
 
@@ -466,7 +466,7 @@ module _ (s : List ℕ) (d : ℕ) (kids : KidsT s d) (t : List Entry) (ss : List
         order : set_before t u ≡ true
         order = (subst (λ (w : List (List Entry)). chain set_before (t ∷ w)) z run.order).0
 
-        order' : (if eqb (highest t) (highest u) then ltb (key (label_of t)) (key (label_of u)) else ltb (highest u)
+        order' : (if eqb (highest t) (highest u) then ltb (key (label_of t)) (key (label_of u)) otherwise ltb (highest u)
             (highest t)) ≡ true
         order' = sym (set_before_lem t u (λ y. run.differ.0 u um (sym kt ∙ y ∙ ku))) ∙ order
 
@@ -510,7 +510,7 @@ module _ (s : List ℕ) (d : ℕ) (kids : KidsT s d) (t : List Entry) (ss : List
     lf_child : (◌≡◌ {A = ℕ} 0 0 → ⊥) → 0 ≡ p.back
     lf_child z = absurd (z refl)
 
-    lf_size : (◌≡◌ {A = ℕ} 0 0 → ⊥) → 0 ≡ (if p.own then own_size (0 - 0) else size_of 0)
+    lf_size : (◌≡◌ {A = ℕ} 0 0 → ⊥) → 0 ≡ (if p.own then own_size (0 - 0) otherwise size_of 0)
     lf_size z = absurd (z refl)
 
     lf_stands : FieldsStand p lf_n
@@ -618,7 +618,7 @@ module _ (s : List ℕ) (d : ℕ) (kids : KidsT s d) (t : List Entry) (ss : List
     in_child : (size ≡ 0 → ⊥) → p.back ≡ p.back
     in_child z = refl
 
-    in_size : (size ≡ 0 → ⊥) → size ≡ (if p.own then own_size (p.back - size) else size_of p.back)
+    in_size : (size ≡ 0 → ⊥) → size ≡ (if p.own then own_size (p.back - size) otherwise size_of p.back)
     in_size z = by_test p.own (λ y. in_field.is_own y ∙ rw y) (λ y. in_field.is_next y ∙ rw y)
 
     in_stands : FieldsStand p in_n

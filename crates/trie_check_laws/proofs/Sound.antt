@@ -12,7 +12,7 @@ use native.Mathlib.Omega.{arith}
 use borrow.Author.Tests.{eqb-false, eqb-true, lt-ltb, ltb-true}
 use Rattle.octets.proofs.Numbers.{Bytes}
 use Rattle.octets.proofs.Tests.{and_true_both, by_test}
-use Rattle.octets.specs.Lists.{◌∈◌, if◌then◌else◌}
+use Rattle.octets.specs.Lists.{◌∈◌, if◌then◌otherwise◌}
 use Rattle.octets.proofs.Lists.{some_in}
 use Rattle.entries.specs.Entries.{Entry, entry}
 use Rattle.entries_laws.specs.Signs.{half_after, no_half}
@@ -549,7 +549,7 @@ module _ (s : List ℕ) (small : Bytes s) (k : ℕ) (ih : (t : Task) (q l : ℕ)
       (record { array = length-replicate {A = ℕ} mark_count 0; next = g.1; score = b; root = λ t. c }))
 
   sound_rest : (p : Among) (seen : List ℕ) (last : Bool) (q l : ℕ)
-      → (if last then Next p.next p.left else walk_of s k (in_node p seen)) ≡ Next q l
+      → (if last then Next p.next p.left otherwise walk_of s k (in_node p seen)) ≡ Next q l
       → SoundT s (in_rest p seen last) q l
   sound_rest p seen last q l h rd fi at =
       by_test last

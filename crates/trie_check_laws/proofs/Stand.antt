@@ -5,7 +5,7 @@ use mathlib.Core.Bool.{Bool, ◌&&◌, ◌||◌, false, false≢true, not, true}
 use lib.Dec.{eqb, leb, ltb}
 use borrow.Author.Tests.{eq-eqb, eqb-false, eqb-true, le-leb, leb-true, lt-ltb, ltb-true, ne_eqb, not-true}
 use Rattle.octets.proofs.Tests.{and_intro, and_true_both, by_test}
-use Rattle.octets.specs.Lists.{if◌then◌else◌}
+use Rattle.octets.specs.Lists.{if◌then◌otherwise◌}
 use Rattle.trie.specs.Trie.{own_size, size_of}
 use Rattle.trie_check_laws.specs.Walk.{child_stands, label_stands, score_stands, stands}
 use Rattle.trie_check_laws.specs.declared.Fields.{Fields}
@@ -28,7 +28,7 @@ pub record FieldsStand (p : Among) (n : Fields) : Type 0 where
   pub empty : n.len ≡ 0 → (p.path ≡ 0 → ⊥) × (n.size ≡ 0)
   pub leaf : n.size ≡ 0 → p.left ≡ 0 → ⊥
   pub child : (n.size ≡ 0 → ⊥) → n.child ≡ p.back
-  pub size : (n.size ≡ 0 → ⊥) → n.size ≡ (if p.own then own_size (n.child - n.size) else size_of n.child)
+  pub size : (n.size ≡ 0 → ⊥) → n.size ≡ (if p.own then own_size (n.child - n.size) otherwise size_of n.child)
 
 one : (p : Among) (n : Fields) → score_stands p n ≡ true → p.first ≡ true
     → ((eqb p.path 0 || eqb n.field 0) ≡ true) × ((not n.last || (p.full && not (eqb n.len 0))) ≡ true)
@@ -42,9 +42,9 @@ more p n h t = and_true_both (leb n.field p.score) (not (eqb n.field 0) || ltb p
 kid :
     (p : Among) (n : Fields) → child_stands p n ≡ true → (n.size ≡ 0 → ⊥)
     → (eqb n.child p.back ≡ true)
-    × (eqb n.size (if p.own then own_size (n.child - n.size) else size_of n.child) ≡ true)
+    × (eqb n.size (if p.own then own_size (n.child - n.size) otherwise size_of n.child) ≡ true)
 kid p n h t = and_true_both (eqb n.child p.back)
-    (eqb n.size (if p.own then own_size (n.child - n.size) else size_of n.child))
+    (eqb n.size (if p.own then own_size (n.child - n.size) otherwise size_of n.child))
     (rw (ne_eqb n.size 0 t) at h)
 
 pub stands_true : (p : Among) (n : Fields) → stands p n ≡ true → FieldsStand p n
@@ -75,7 +75,7 @@ stands_true p n h =
           (eqb-false p.path 0 (not-true (eqb p.path 0) d.0), eqb-true n.size 0 d.1);
       leaf = λ z. eqb-false p.left 0 (not-true (eqb p.left 0) (rw (eq-eqb n.size 0 z) at b.1));
       child = λ z. eqb-true n.child p.back (kid p n b.1 z).0;
-      size = λ z. eqb-true n.size (if p.own then own_size (n.child - n.size) else size_of n.child)
+      size = λ z. eqb-true n.size (if p.own then own_size (n.child - n.size) otherwise size_of n.child)
           (kid p n b.1 z).1;
     }
 
@@ -109,7 +109,7 @@ true_stands p n h =
     (λ z.
     rw z
     (and_intro (eqb n.child p.back)
-    (eqb n.size (if p.own then own_size (n.child - n.size) else size_of n.child))
+    (eqb n.size (if p.own then own_size (n.child - n.size) otherwise size_of n.child))
     (eq-eqb n.child p.back (h.child (eqb-false n.size 0 z)))
-    (eq-eqb n.size (if p.own then own_size (n.child - n.size) else size_of n.child)
+    (eq-eqb n.size (if p.own then own_size (n.child - n.size) otherwise size_of n.child)
     (h.size (eqb-false n.size 0 z)))))))

@@ -2,7 +2,7 @@
 -- image").
 use Rattle.std.specs.Prelude.{◌%◌, ◌*◌, ◌+◌, ◌-◌, suc, zero, ℕ, Bool, ◌&&◌, ◌||◌, false, not, true, List, eqb, leb, ltb, drop, get_or, length, replicate, set, take}
 use Rattle.std.proofs.Math.Option.{Option, none, some}
-use Rattle.octets.specs.Lists.{if◌then◌else◌}
+use Rattle.octets.specs.Lists.{if◌then◌otherwise◌}
 use Rattle.octets.specs.Octets.{from_be, number_at}
 use Rattle.entries.specs.Names.{longest_name}
 use Rattle.entries_laws.specs.Signs.{half_after, no_half}
@@ -51,16 +51,16 @@ unfoldable pub head_of : List ℕ → ℕ → Head
 head_of s at =
     if leb (length s) at
     then Cut
-    else if ltb (length s - at - 1) (body_of (get_or s at 0))
+    otherwise if ltb (length s - at - 1) (body_of (get_or s at 0))
     then Cut
-    else if eqb (size_of (field_in (get_or s at 0) (drop (suc at) s))) (score_size (get_or s at 0))
+    otherwise if eqb (size_of (field_in (get_or s at 0) (drop (suc at) s))) (score_size (get_or s at 0))
     then Node (head_fields (get_or s at 0) (drop (suc at) s) at)
-    else Cut
+    otherwise Cut
 
 -- where the group at a position ends: past its first node with the last mark
 abbrev pub end_after : Head → (ℕ → Option ℕ) → Option ℕ
 end_after Cut f = none
-end_after (Node n) f = if n.last then some n.end else f n.end
+end_after (Node n) f = if n.last then some n.end otherwise f n.end
 
 unfoldable pub group_end : List ℕ → ℕ → ℕ → Option ℕ
 group_end s zero at = none
@@ -85,7 +85,7 @@ abbrev pub score_stands : Among → Fields → Bool
 score_stands p n =
     if p.first
     then ((eqb p.path 0 || eqb n.field 0) && lonely p n)
-    else (leb n.field p.score && (not (eqb n.field 0) || ltb p.key n.key))
+    otherwise (leb n.field p.score && (not (eqb n.field 0) || ltb p.key n.key))
 
 -- names of at most 48 bytes; an empty label only on a leaf that is not in the first group
 abbrev pub label_stands : Among → Fields → Bool
@@ -97,15 +97,15 @@ abbrev pub child_stands : Among → Fields → Bool
 child_stands p n =
     if eqb n.size 0
     then not (eqb p.left 0)
-    else (eqb n.child p.back && eqb n.size
-    (if p.own then own_size (n.child - n.size) else size_of n.child))
+    otherwise (eqb n.child p.back && eqb n.size
+    (if p.own then own_size (n.child - n.size) otherwise size_of n.child))
 
 unfoldable pub stands : Among → Fields → Bool
 stands p n = score_stands p n && (label_stands p n && child_stands p n)
 
 -- Places. A node's score: the whole field for the first node of all, the score above for another first sibling.
 abbrev pub score_of : Among → Fields → ℕ
-score_of p n = if p.first then (if eqb p.path 0 then n.field else p.score) else p.score - n.field
+score_of p n = if p.first then (if eqb p.path 0 then n.field otherwise p.score) otherwise p.score - n.field
 
 abbrev pub after_node : Among → Fields → ℕ → ℕ → Bool → ℕ → Among
 after_node p n next back own left =
@@ -182,12 +182,12 @@ abbrev pub low_places : ℕ
 low_places = 32
 
 abbrev pub mark_place : ℕ → ℕ
-mark_place k = if ltb k mark_count then k else k % low_places
+mark_place k = if ltb k mark_count then k otherwise k % low_places
 
 -- a leaf ends a name, so no half is open there
 abbrev pub node_on : Bool → List ℕ → Among → List ℕ → Fields → (Task → WalkEnd) → WalkEnd
 node_on true s p seen n f =
-    if eqb (half_of s p n) no_half then f (in_rest (after_leaf p n) (set seen (mark_place n.key) 1) n.last) else Bad
+    if eqb (half_of s p n) no_half then f (in_rest (after_leaf p n) (set seen (mark_place n.key) 1) n.last) otherwise Bad
 node_on false s p seen n f =
     and_then (f (beneath s p n))
     (λ q left. f (in_rest (after_inner p n q left) (set seen (mark_place n.key) 1) n.last))
@@ -195,7 +195,7 @@ node_on false s p seen n f =
 abbrev pub node_then : Head → List ℕ → Among → List ℕ → (Task → WalkEnd) → WalkEnd
 node_then Cut s p seen f = Bad
 node_then (Node n) s p seen f =
-    if stands p n && eqb (get_or seen (mark_place n.key) 0) 0 then node_on (eqb n.size 0) s p seen n f else Bad
+    if stands p n && eqb (get_or seen (mark_place n.key) 0) 0 then node_on (eqb n.size 0) s p seen n f otherwise Bad
 
 abbrev pub none_seen : List ℕ
 none_seen = replicate mark_count 0
@@ -205,7 +205,7 @@ walk_of s zero t = Bad
 walk_of s (suc k) (in_group at a left) =
     into (group_end s (suc k) at) (λ e. walk_of s k (in_node (begin_group at e a left) none_seen))
 walk_of s (suc k) (in_node p seen) = node_then (head_of s p.at) s p seen (λ t. walk_of s k t)
-walk_of s (suc k) (in_rest p seen last) = if last then Next p.next p.left else walk_of s k (in_node p seen)
+walk_of s (suc k) (in_rest p seen last) = if last then Next p.next p.left otherwise walk_of s k (in_node p seen)
 
 -- the place behind a node, where w is the walk over the group below it
 abbrev pub behind_group : WalkEnd → Among → Fields → BehindNode
@@ -217,7 +217,7 @@ behind_leaf true p n = reached.At (after_leaf p n)
 behind_leaf false p n = reached.Bad
 
 abbrev pub reached_by : List ℕ → Among → Fields → WalkEnd → BehindNode
-reached_by s p n w = if eqb n.size 0 then behind_leaf (eqb (half_of s p n) no_half) p n else behind_group w p n
+reached_by s p n w = if eqb n.size 0 then behind_leaf (eqb (half_of s p n) no_half) p n otherwise behind_group w p n
 
 -- The whole image: the walk from byte 7 on ends at the total length, and all n entries were met. A trie of no entries
 -- has no group.
@@ -233,7 +233,7 @@ unfoldable pub trie_body_is : List ℕ → Bool
 trie_body_is s =
     if eqb (number_at 2 s 5) 0
     then eqb (number_at 4 s 1) 7
-    else whole_is (walk_of s (turns s) (in_group 7 (above 0 no_half 0 true) (number_at 2 s 5))) (number_at 4 s 1)
+    otherwise whole_is (walk_of s (turns s) (in_group 7 (above 0 no_half 0 true) (number_at 2 s 5))) (number_at 4 s 1)
 
 -- the whole check of a trie
 unfoldable pub trie_checks : List ℕ → Bool

@@ -1,6 +1,6 @@
 -- Where the nodes of a forest stand in a trie's bytes.
 use Rattle.std.specs.Prelude.{◌+◌, ◌<◌, ◌≤◌, ℕ, ◌≡◌, Bool, false, true, List, ◌++◌, eqb, drop, get_or, length, take}
-use Rattle.octets.specs.Lists.{if◌then◌else◌}
+use Rattle.octets.specs.Lists.{if◌then◌otherwise◌}
 use Rattle.octets.specs.Octets.{number_at}
 use Rattle.entries.specs.Names.{longest_name}
 use Rattle.trie.specs.Reading.{child_size, label_length, last_mark, score_size}
@@ -35,7 +35,7 @@ children_at bs at from = from + child_field_at bs at
 
 -- from where the child field of the next sibling counts
 abbrev pub from_behind : List ℕ → ℕ → ℕ → ℕ
-from_behind bs at from = if is_leaf_at bs at then from else children_at bs at from
+from_behind bs at from = if is_leaf_at bs at then from otherwise children_at bs at from
 
 abbrev pub is_none : Forest → Bool
 is_none none = true

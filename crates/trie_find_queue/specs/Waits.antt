@@ -1,6 +1,6 @@
 -- The nodes that wait in a search: their rank, and a list of at most so many of them.
 use Rattle.std.specs.Prelude.{◌≤◌, suc, ℕ, ◌≡◌, Bool, false, List, [], ◌++◌, ◌∷◌, drop, take}
-use Rattle.octets.specs.Lists.{◌∈◌, if◌then◌else◌, insert_by}
+use Rattle.octets.specs.Lists.{◌∈◌, if◌then◌otherwise◌, insert_by}
 use Rattle.entries.specs.Completion.{max_count}
 use Rattle.entries.specs.Entries.{Entry, entry, outranks}
 use Rattle.entries.specs.Names.{longest_name}
@@ -39,7 +39,7 @@ pub record QueueReady (q : NodeQueue) : Type 0 where
 -- how many, from the front, come before x
 abbrev pub rank_among : WaitingNode → List WaitingNode → ℕ
 rank_among x [] = 0
-rank_among x (y ∷ ys) = if node_outranks y x then suc (rank_among x ys) else 0
+rank_among x (y ∷ ys) = if node_outranks y x then suc (rank_among x ys) otherwise 0
 
 abbrev pub put_at : ℕ → WaitingNode → List WaitingNode → List WaitingNode
 put_at i x ws = take i ws ++ (x ∷ drop i ws)

@@ -1,6 +1,6 @@
 -- What nodes that wait stand for in a forest, and what a turn of the search does with them.
 use Rattle.std.specs.Prelude.{◌+◌, ◌≤◌, ℕ, ◌≡◌, Bool, false, not, true, List, [], ◌++◌, ◌∷◌, length}
-use Rattle.octets.specs.Lists.{if◌then◌else◌}
+use Rattle.octets.specs.Lists.{if◌then◌otherwise◌}
 use Rattle.octets.specs.Octets.{begins}
 use Rattle.entries.specs.Completion.{max_count}
 use Rattle.entries.specs.Names.{longest_name}
@@ -39,7 +39,7 @@ StandAll bs (x ∷ xs) (w ∷ ws) = Stand bs x w × StandAll bs xs ws
 
 -- the nodes that wait, with the next sibling of x if it has one
 abbrev pub with_next : List ℕ → WaitingNode → List WaitingNode → List WaitingNode
-with_next bs x ws = if x.last then ws else put_in_rank (next_sibling bs x) ws
+with_next bs x ws = if x.last then ws otherwise put_in_rank (next_sibling bs x) ws
 
 -- it may be put among them
 pub record NextReady (bs : List ℕ) (q : NodeQueue) (x : WaitingNode) (most : ℕ) : Type 0 where
@@ -83,13 +83,13 @@ with_last x alone = record { path = x.path; len = x.len; score = x.score; at = x
 
 -- the way to a prefix
 abbrev pub goes_down : List ℕ → WaitingNode → List ℕ → Bool
-goes_down bs x p = if is_leaf_at bs x.at then false else begins (path_of x) p
+goes_down bs x p = if is_leaf_at bs x.at then false otherwise begins (path_of x) p
 
 abbrev pub is_stuck : List ℕ → WaitingNode → List ℕ → Bool
-is_stuck bs x p = if x.last then not (goes_down bs x p) else false
+is_stuck bs x p = if x.last then not (goes_down bs x p) otherwise false
 
 abbrev pub next_on_way : List ℕ → WaitingNode → List ℕ → WaitingNode
-next_on_way bs x p = if goes_down bs x p then first_child bs x else next_sibling bs x
+next_on_way bs x p = if goes_down bs x p then first_child bs x otherwise next_sibling bs x
 
 pub record OnWay (bs : List ℕ) (x : WaitingNode) (p : List ℕ) : Type 0 where
   pub here : NodeInside bs x.at

@@ -11,7 +11,7 @@ use borrow.Author.Tests.{eqb-false, eqb-true, ltb-true}
 use Rattle.octets.proofs.Lists.{concat_in, in_sort, sort_in, sort-length, sort-map}
 use Rattle.octets.proofs.Order.{begins_split}
 use Rattle.octets.proofs.Tests.{by_test}
-use Rattle.octets.specs.Lists.{◌∈◌, if◌then◌else◌, insert_by, sort_by}
+use Rattle.octets.specs.Lists.{◌∈◌, if◌then◌otherwise◌, insert_by, sort_by}
 use Rattle.octets.specs.Octets.{begins, below}
 use Rattle.entries.proofs.Rank.{not_outranks_trans, outranks_asym, outranks_total}
 use Rattle.entries.specs.Entries.{Entry, entry, rising}
@@ -44,7 +44,7 @@ set_parted s t h =
 
 -- with different keys: falling scores, at equal scores rising keys
 pub set_before_lem : (s t : List Entry) → (key (label_of s) ≡ key (label_of t) → ⊥)
-    → set_before s t ≡ (if eqb (highest s) (highest t) then ltb (key (label_of s)) (key (label_of t)) else ltb (highest t)
+    → set_before s t ≡ (if eqb (highest s) (highest t) then ltb (key (label_of s)) (key (label_of t)) otherwise ltb (highest t)
     (highest s))
 set_before_lem s t h = rw (below_ltb (label_of s) (label_of t) h)
 

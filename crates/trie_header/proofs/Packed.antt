@@ -6,7 +6,7 @@ use lib.Bits.{and_mask, bit_and, bit_or, or_shifted}
 use lib.Dec.{eqb, lit<}
 use native.Mathlib.Omega.{arith}
 use borrow.Author.Tests.{eqb-false}
-use Rattle.octets.specs.Lists.{if◌then◌else◌}
+use Rattle.octets.specs.Lists.{if◌then◌otherwise◌}
 use Rattle.octets.proofs.Tests.{by_test}
 use Rattle.trie.specs.Trie.{code_of, header_byte}
 
@@ -33,12 +33,12 @@ packed s c m l hs hc hm hl =
 -- the header byte, from codes and mark that were computed
 pub header_packed :
     (score child : ℕ) (last : Bool) (label : ℕ) {s c m : ℕ} → score ≤ 4 → child ≤ 4 → label < 8
-    → s ≡ code_of score → c ≡ code_of child → m ≡ (if last then 1 else 0)
+    → s ≡ code_of score → c ≡ code_of child → m ≡ (if last then 1 otherwise 0)
     → fields s c m label ≡ header_byte score child last label
 unfolding header_byte
 header_packed score child last label {s} {c} {m} hs hc hl es ec em = rw (es, ec, em) (go last)
   where
-    go : (b : Bool) → fields (code_of score) (code_of child) (if b then 1 else 0) label
-        ≡ code_of score * 64 + code_of child * 16 + (if b then 8 else 0) + label
+    go : (b : Bool) → fields (code_of score) (code_of child) (if b then 1 otherwise 0) label
+        ≡ code_of score * 64 + code_of child * 16 + (if b then 8 otherwise 0) + label
     go true = packed _ _ 1 label (code_small score hs) (code_small child hc) (lit< tt) hl ∙ omega arith
     go false = packed _ _ 0 label (code_small score hs) (code_small child hc) (lit< tt) hl ∙ omega arith

@@ -3,7 +3,7 @@
 #![tactic(auto)]
 
 ghost use Rattle.std.specs.Prelude.{◌≡◌, ◌+◌, ◌<◌, ◌≤◌, drop, length, take};
-ghost use Rattle.octets.specs.Lists.{if◌then◌else◌};
+ghost use Rattle.octets.specs.Lists.{if◌then◌otherwise◌};
 ghost use Rattle.octets.specs.Octets.{number_at};
 ghost use Rattle.trie.specs.Reading.{child_size, label_length, last_mark, score_size, size_at};
 ghost use Rattle.trie.specs.Trie.{code_of, header_byte, own_size, size_of};
@@ -62,7 +62,7 @@ fn code_of(size: usize) -> u8
 
 // The last-sibling mark: 1 for the last of a group, else 0.
 fn mark_of(last: bool) -> u8
-    ensures { result ≡ (if last then 1 else 0) }
+    ensures { result ≡ (if last then 1 otherwise 0) }
 {
     if last {
         return 1;

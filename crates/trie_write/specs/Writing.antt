@@ -1,6 +1,6 @@
 -- What stands under a range of rows, and the call that writes a trie.
 use Rattle.std.specs.Prelude.{◌+◌, ◌-◌, ◌<◌, ◌≤◌, ℕ, ◌≡◌, Bool, false, true, List, [], ltb, length}
-use Rattle.octets.specs.Lists.{if◌then◌else◌}
+use Rattle.octets.specs.Lists.{if◌then◌otherwise◌}
 use Rattle.octets.specs.Octets.{overwrite}
 use Rattle.entries.specs.Entries.{Entry}
 use Rattle.trie.specs.Trie.{group_of, levels, trie_image, used_up}
@@ -30,5 +30,5 @@ pub record Grouped (es : List Entry) (lo hi d s : ℕ) (dst out : List ℕ) (tot
 
 -- the answer r and every byte of the destination afterwards, by whether there is room for the trie
 pub record TrieWritten (es : List Entry) (dst : List ℕ) (r : TrieRoom) (out : List ℕ) : Type 0 where
-  pub answer : r ≡ (if ltb (length dst) (length (trie_image es)) then TooShort else Bytes (length (trie_image es)))
-  pub left : out ≡ (if ltb (length dst) (length (trie_image es)) then dst else overwrite dst (trie_image es))
+  pub answer : r ≡ (if ltb (length dst) (length (trie_image es)) then TooShort otherwise Bytes (length (trie_image es)))
+  pub left : out ≡ (if ltb (length dst) (length (trie_image es)) then dst otherwise overwrite dst (trie_image es))

@@ -1,7 +1,7 @@
 -- The bytes that the runs of a sibling group make (document 01, "Trie image").
 use Rattle.std.specs.Prelude.{◌*◌, ◌+◌, ◌-◌, ◌<◌, ◌≤◌, ℕ, ◌≡◌, Bool, true, List, [], ◌++◌, ◌∷◌, drop, length, take}
 use Rattle.std.proofs.lemmas.List.Edits.{sets}
-use Rattle.octets.specs.Lists.{if◌then◌else◌}
+use Rattle.octets.specs.Lists.{if◌then◌otherwise◌}
 use Rattle.octets.specs.Octets.{be}
 use Rattle.entries.specs.Names.{longest_name}
 use Rattle.trie.specs.Trie.{header_byte, longest_label, size_of}
@@ -35,7 +35,7 @@ group_own_bytes names d s rs = nodes_bytes names d (first_fields s (nodes_length
 
 -- bytes that are put, or only measured
 unfoldable pub put_if : Bool → List ℕ → ℕ → List ℕ → List ℕ
-put_if put dst at bs = if put then sets dst at bs else dst
+put_if put dst at bs = if put then sets dst at bs otherwise dst
 
 -- what the code needs of runs: labels of at most 7 bytes that stand in the rows, scores falling
 pub record RunFits (size d : ℕ) (r : Run) : Type 0 where

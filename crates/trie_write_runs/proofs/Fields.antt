@@ -5,7 +5,7 @@ use mathlib.Core.Bool.{Bool, false, true}
 use lib.Dec.{eqb}
 use native.Mathlib.Omega.{arith}
 use borrow.Author.Tests.{ne_eqb}
-use Rattle.octets.specs.Lists.{if◌then◌else◌}
+use Rattle.octets.specs.Lists.{if◌then◌otherwise◌}
 use Rattle.octets.proofs.Tests.{by_test}
 use Rattle.trie.specs.Trie.{longest_label, size_of}
 use Rattle.trie_write_runs.specs.Fields.{after, child_field_size, node_length}
@@ -20,7 +20,7 @@ pub after_size : (r : Run) (f : NodeFields) (s : ℕ) → f.size ≤ 4 → (afte
 unfolding after
 after_size r f s h = go (eqb r.under 0)
   where
-    go : (t : Bool) → (if t then f.size else size_of r.under) ≤ 4
+    go : (t : Bool) → (if t then f.size otherwise size_of r.under) ≤ 4
     go true = h
     go false = size_of_most r.under
 
@@ -36,8 +36,8 @@ after_inner_lem r f s n h e = go (eqb r.under 0) (ne_eqb r.under 0 h)
         → ◌≡◌ {A = NodeFields} (record { score = r.high - s; child = r.under; size = n })
         (record {
           score = r.high - s;
-          child = if t then f.child else r.under;
-          size = if t then f.size else size_of r.under;
+          child = if t then f.child otherwise r.under;
+          size = if t then f.size otherwise size_of r.under;
         })
     go true q = absurd (let z : ◌≡◌ {A = ℕ} 0 1 = cc in omega arith)
     go false q = ap (λ x. record { score = r.high - s; child = r.under; size = x }) e

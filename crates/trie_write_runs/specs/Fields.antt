@@ -1,24 +1,24 @@
 -- The fields of a node, and its length (document 01, "Trie image").
 use Rattle.std.specs.Prelude.{◌+◌, ◌-◌, ℕ, eqb}
-use Rattle.octets.specs.Lists.{if◌then◌else◌}
+use Rattle.octets.specs.Lists.{if◌then◌otherwise◌}
 use Rattle.trie.specs.Trie.{own_size, size_of}
 use Rattle.trie_write_runs.specs.declared.NodeFields.{NodeFields}
 use Rattle.trie_write_runs.specs.declared.Run.{Run}
 
 -- the child field of a node whose fields are f: none and 0 for a leaf
 abbrev pub child_field_size : Run → NodeFields → ℕ
-child_field_size r f = if eqb r.under 0 then 0 else f.size
+child_field_size r f = if eqb r.under 0 then 0 otherwise f.size
 
 abbrev pub child_field_value : Run → NodeFields → ℕ
-child_field_value r f = if eqb r.under 0 then 0 else f.child
+child_field_value r f = if eqb r.under 0 then 0 otherwise f.child
 
 -- the fields of the sibling after r, whose score is given
 unfoldable pub after : Run → NodeFields → ℕ → NodeFields
 after r f score =
     record {
       score = r.high - score;
-      child = if eqb r.under 0 then f.child else r.under;
-      size = if eqb r.under 0 then f.size else size_of r.under;
+      child = if eqb r.under 0 then f.child otherwise r.under;
+      size = if eqb r.under 0 then f.size otherwise size_of r.under;
     }
 
 -- header, score field, child field, label

@@ -78,7 +78,10 @@ impl fmt::Display for Refusal {
             Refusal::TooShort => "the destination is too short",
             Refusal::NoSuchKey => "the panel has no such key",
             Refusal::TextFull => "the panel's text is full",
-            Refusal::OldVersion => "a book of the old version 21, which has to be converted first",
+            Refusal::OldVersion => {
+                "a book of the old version 21, which this version cannot read; \
+                 the converter comes with the next one"
+            }
         })
     }
 }

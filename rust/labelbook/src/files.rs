@@ -89,8 +89,9 @@ fn no_book(place: impl fmt::Display, front: &[u8], refusal: Refusal) -> Failure 
     let hint = match front.first() {
         Some(&TRIE_VERSION) => "it begins as a trie does",
         Some(&SHEET_VERSION) => "it begins as a sheet does",
-        Some(&OLD_VERSION) if refusal == Refusal::OldVersion => "`labelbook convert` does that",
-        Some(&OLD_VERSION) => "it begins as a book of version 21 does",
+        Some(&OLD_VERSION) if refusal != Refusal::OldVersion => {
+            "it begins as a book of version 21 does"
+        }
         _ => "",
     };
     Failure::no_book(place, refusal, hint)

@@ -18,9 +18,8 @@ pub const PROGRAM: &str = env!("CARGO_BIN_EXE_labelbook");
 pub const NOT_A_BOOK: &str =
     "refused, 1: not laid out as a book, sheet, trie or script, or cut off";
 pub const A_TRIE: &str = "it begins as a trie does";
-pub const OLD: &str =
-    "refused, 10: a book of the old version 21, which has to be converted first; \
-                       `labelbook convert` does that";
+pub const OLD: &str = "refused, 10: a book of the old version 21, which this version cannot read; \
+                       the converter comes with the next one";
 /// What `convert` says of an old book that is damaged.
 pub const DAMAGED_OLD: &str =
     "refused, 1: not laid out as a book, sheet, trie or script, or cut off; it begins as a book of \
