@@ -127,24 +127,24 @@
  * bound when it is first called (no -static, no -Wl,-z,now), that one call takes some 3 KB more:
  *
  *   label_book_empty               64
- *   label_book_set               1024
- *   label_book_withdraw           960
- *   label_book_merge              960
- *   label_book_check              768
- *   label_book_find               768
- *   label_book_name_at            832
- *   label_book_name_of            768
- *   label_book_prefix_range       768
- *   label_book_head               768
+ *   label_book_set                768
+ *   label_book_withdraw           704
+ *   label_book_merge              832
+ *   label_book_check              576
+ *   label_book_find               576
+ *   label_book_name_at            576
+ *   label_book_name_of            576
+ *   label_book_prefix_range       576
+ *   label_book_head               576
  *   label_book_build              320
- *   label_book_list               896
- *   label_book_convert           1024
- *   label_book_page             60928
- *   label_book_complete         11072
- *   label_book_write_trie      170880
- *   label_book_complete_trie    28736
- *   label_book_press             2432
- *   label_book_run               1152
+ *   label_book_list               640
+ *   label_book_convert            704
+ *   label_book_page             60416
+ *   label_book_complete          9792
+ *   label_book_write_trie      167488
+ *   label_book_complete_trie    26368
+ *   label_book_press             3008
+ *   label_book_run                896
  *
  *
  * What is proved
