@@ -1,4 +1,4 @@
-//! The programs, which `rt check` of each and `rt ci` write to target/bin.
+//! The programs, which `./build labels` and `./build lookup_heads` write to target/bin.
 use std::io::Write;
 use std::process::{Child, ChildStdin, Command, Output, Stdio};
 use std::thread;

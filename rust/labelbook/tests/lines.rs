@@ -270,7 +270,7 @@ fn labels(desk: &Desk) {
     let input: String = lines.lines().map(|line| format!("set {line}\n")).collect();
     desk.write("input", format!("{input}top {COUNT_MAX} \n").as_bytes());
     let run = Command::new(program).stdin(File::open(desk.path("input")).unwrap()).output();
-    let printed = run.unwrap_or_else(|error| panic!("`rt check labels`: {error}")).stdout;
+    let printed = run.unwrap_or_else(|error| panic!("`./build labels`: {error}")).stdout;
     let printed = String::from_utf8(printed).unwrap();
     let is_entry = |line: &&str| !line.starts_with("ok ") && !line.starts_with("looks ");
     let best: Vec<&str> = printed.lines().filter(is_entry).collect();

@@ -1,0 +1,6 @@
+-- `label_book_name_of` meets its contract: what the front door's call answered is told. No loop.
+use Rattle.label_book_c.proofs.Told.{left}
+use Rattle.label_book_c.proofs.label_book_name_of.Goals as goal
+
+pub returns : goal.returns
+returns c = left c.name_of.ensures c.tell_written.ensures
