@@ -211,7 +211,7 @@ pub record Promises : Type 0 where
   pub appends_micro : Appends 0x80 micro
   pub appends_ohm : Appends 0x81 ohm
   -- Erase removes a whole sign. What stays is allowed, as after every key (`holds_its_name`).
-  pub erases_aSign : ErasesASign
+  pub erases_a_sign : ErasesASign
   -- REQUEST D. Nine rows are the most: k from 10 up gives 3, from the book, from the trie and in `top` (`completing`,
   -- `completing_from_trie` and `lines`, above). Looks are at most 17, which a completion of nine reaches.
   pub looks_at_most : MostLooks max_count 17
