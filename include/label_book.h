@@ -128,22 +128,22 @@
  *
  *   label_book_empty               64
  *   label_book_set                768
- *   label_book_withdraw           704
- *   label_book_merge              832
+ *   label_book_withdraw           768
+ *   label_book_merge              768
  *   label_book_check              576
- *   label_book_find               576
- *   label_book_name_at            576
- *   label_book_name_of            576
+ *   label_book_find               640
+ *   label_book_name_at            640
+ *   label_book_name_of            704
  *   label_book_prefix_range       576
  *   label_book_head               576
  *   label_book_build              320
- *   label_book_list               640
+ *   label_book_list               704
  *   label_book_convert            704
- *   label_book_page             60416
- *   label_book_complete          9792
- *   label_book_write_trie      167488
- *   label_book_complete_trie    26368
- *   label_book_press             3008
+ *   label_book_page             59648
+ *   label_book_complete          1600
+ *   label_book_write_trie      162816
+ *   label_book_complete_trie    25920
+ *   label_book_press             2496
  *   label_book_run                896
  *
  *

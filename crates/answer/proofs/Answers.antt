@@ -1,16 +1,18 @@
 -- Answers: where one is given no check applies, and a refusal changes nothing.
 use Prim.Native.Nat.{ℕ}
+use Rattle.std.specs.Prelude.{Result}
 use mathlib.Core.Path.{◌∙◌, ◌≡◌, ap, refl, sym}
 use mathlib.Core.Logic.{inl, inr}
 use mathlib.Core.Bool.{false}
 use mathlib.Core.List.{List, [], ◌++◌, ◌∷◌, append_assoc}
 use Rattle.octets.specs.Lists.{◌∈◌}
 use Rattle.octets.proofs.Tests.{by_test}
-use Rattle.entries.specs.Entries.{Entry, at}
+use Rattle.entries.specs.Entries.{Entry}
 use Rattle.answer.specs.Answers.{Answer, Check, Outcome, WrittenCounts, ◌when◌, given, refused, too_short, unless}
 use Rattle.answer.specs.Answers.{writing, writing_image}
 use Rattle.answer.specs.Reports.{Answered}
-use Rattle.answer.specs.declared.Written.{Written}
+use Rattle.answer.specs.declared.Refusal.{Refusal}
+use Rattle.answer.specs.declared.Size.{Size}
 
 -- where an answer is given, no check applies
 pub clear : {A : Type 0} (cs : List Check) (a x : A) → unless cs a ≡ given x → (c : Check) → c ∈ cs → c.applies ≡ false
@@ -40,7 +42,7 @@ unfolding writing
 refused-same cs a bytes dst n h = rw h
 
 -- an outcome in another's place
-pub answered_as : {o p : Outcome WrittenCounts} {r : Written} {left : List ℕ} → o ≡ p → Answered p r left
+pub answered_as : {o p : Outcome WrittenCounts} {r : Result Size Refusal} {left : List ℕ} → o ≡ p → Answered p r left
     → Answered o r left
 answered_as {o} {p} {r} {left} e a = record {
   answer = a.answer ∙ ap (λ x. x.answer) (sym e);

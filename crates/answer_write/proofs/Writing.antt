@@ -1,4 +1,5 @@
 -- One answer entry or a whole book, written or refused; an outcome in another's place.
+use Rattle.std.specs.Prelude.{Err, Ok}
 use Prim.Native.Nat.{◌+◌, ◌<◌, ◌≤◌, ℕ}
 use mathlib.Core.Path.{◌∙◌, ◌≡◌}
 use mathlib.Core.List.{List}
@@ -12,10 +13,10 @@ use Rattle.answer.specs.Answers.{entry_bytes, writing, writing_image}
 use Rattle.answer.proofs.Entries.{length-entry_bytes}
 use Rattle.answer.specs.Reports.{Answered}
 use Rattle.answer_write.specs.Entry.{one_entry}
-use Rattle.answer.specs.declared.Written.TheVariants as written
+use Rattle.answer.specs.declared.Refusal.TheVariants.{TooShort}
 
 pub entry-refused : (e : Entry) (dst : List ℕ) → length dst < length e.name + 5
-    → Answered (one_entry e dst) (written.Refused 7) dst
+    → Answered (one_entry e dst) (Err TooShort) dst
 unfolding writing_image writing
 entry-refused e dst h =
     let l = length-entry_bytes e in
@@ -25,7 +26,7 @@ entry-refused e dst h =
 pub entry_written :
     (e : Entry) (dst : List ℕ) (n : ℕ) → n ≡ length e.name + 5 → n ≤ length dst → (left : List ℕ)
     → left ≡ sets dst 0 (entry_bytes e)
-    → Answered (one_entry e dst) (written.Wrote 1 n) left
+    → Answered (one_entry e dst) (Ok (record { entries = 1; bytes = n })) left
 unfolding writing_image writing
 entry_written e dst n q h left p =
     let l = length-entry_bytes e in

@@ -9,7 +9,7 @@ ghost use Rattle.answer.specs.Answers.{entry_bytes};
 ghost use Rattle.answer.specs.Reports.{Answered};
 ghost use Rattle.answer_write.specs.Entry.{one_entry};
 
-use answer::Written;
+use answer::{Refusal, Size};
 use limits::{ENTRY_OVERHEAD, SCORE_BYTES};
 
 // Writes one entry, length byte, name and 4-byte score, for which there is room: where it ends.
@@ -26,17 +26,14 @@ pub fn put_entry(dst: &mut [u8], at: usize, name: &[u8], score: u32) -> usize
 }
 
 // Writes one answer entry, where the destination has room.
-pub fn write_entry(name: &[u8], score: u32, dst: &mut [u8]) -> Written
+pub fn write_entry(name: &[u8], score: u32, dst: &mut [u8]) -> Result<Size, Refusal>
     requires { length name.now ≤ longest_name }
     ensures { Answered (one_entry (entry name.now score) dst.old) result dst.new }
 {
     let bytes = name.len() + ENTRY_OVERHEAD;
     if dst.len() < bytes {
-        return Written::Refused(7);
+        return Err(Refusal::TooShort);
     }
     put_entry(dst, 0, name, score);
-    Written::Wrote {
-        entries: 1,
-        bytes: bytes,
-    }
+    Ok(Size { entries: 1, bytes })
 }

@@ -1,4 +1,3 @@
-pub mod FromBook
 pub mod Answer
-pub mod Held
+pub mod FromBook
 pub mod Refusing

@@ -1,7 +1,7 @@
 -- The loop over the blocks: those left decide as all of them do.
 use Prim.Native.Nat.{◌+◌, ◌-◌, ◌<◌, ◌≤◌, suc, ℕ}
 use mathlib.Core.Path.{◌≡◌}
-use mathlib.Core.Bool.{Bool, false, true}
+use mathlib.Core.Bool.{Bool, true}
 use mathlib.Core.List.{List}
 use native.Mathlib.Numerals.{add-one}
 use native.Mathlib.Omega.{arith}
@@ -24,9 +24,6 @@ module _ {l : Layout} {buf : List ℕ} {n j : ℕ} (g : Peaks l buf n j) (lt : j
     (tested : p ≡ peak_is l n j buf) where
   next_block : ceil n block_size - j ≡ suc (ceil n block_size - suc j)
   next_block = omega arith
-
-  pub peaks_stale : p ≡ false → false ≡ peaks_are l (ceil n block_size) n 0 buf
-  peaks_stale f = rw (next_block, ← tested, f) at g.left
 
   pub peaks-turn : p ≡ true → Peaks l buf n (j + 1)
   peaks-turn k = record { within = omega arith; left = rw add-one (rw (next_block, ← tested, k) at g.left) }

@@ -49,13 +49,11 @@ fn stands(block: &[u8], place: usize) -> bool
 {
     let top = octets_code::read_u32(block, SCORE_BYTES * place);
     let mut beaten = 0;
-    let mut i = 0;
-    while i < BLOCK_SIZE {
+    for i in 0..BLOCK_SIZE {
         beaten += beats(
             octets_code::read_u32(block, SCORE_BYTES * i),
             bound(top, place, i),
         );
-        i += 1;
     }
     beaten == 0
 }
@@ -101,13 +99,10 @@ pub fn peaks_are(buf: &[u8], l: Layout, n: usize) -> bool
     requires { n ≤ max_entries }
     ensures { result ≡ peaks_are l (ceil n block_size) n 0 buf.now }
 {
-    let blocks = book_layout::blocks(n);
-    let mut j = 0;
-    while j < blocks {
+    for j in 0..book_layout::blocks(n) {
         if !peak_right(buf, l, n, j) {
             return false;
         }
-        j += 1;
     }
     true
 }

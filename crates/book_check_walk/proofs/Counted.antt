@@ -3,7 +3,7 @@
 -- known at the end, and then it is known of every record.
 use Prim.Native.Nat.{◌*◌, ◌+◌, ◌-◌, ◌<◌, ◌≤◌, suc, ℕ}
 use mathlib.Core.Path.{◌∙◌, ◌≡◌, ap, refl, sym}
-use mathlib.Core.Bool.{Bool, false, true}
+use mathlib.Core.Bool.{false, true}
 use mathlib.Core.List.{List, [], ◌∷◌}
 use mathlib.Core.Option.{some}
 use lib.ListN.{drop, get_or, length, length-drop, take}
@@ -20,7 +20,7 @@ use Rattle.book.specs.Records.{head_at, names_from}
 use Rattle.book_laws.specs.Check.{offset_is, records_end}
 use Rattle.book_laws.specs.Cursor.{cursor_of, name_in}
 use Rattle.book_laws.specs.declared.Cursor.{Cursor}
-use Rattle.book_record_quick.specs.Quick.{HeaderAt, Stored, name_room}
+use Rattle.book_record_quick.specs.Quick.{HeaderAt, NameRead, name_room}
 use Rattle.book_record_quick.proofs.Step.{quick_keeps, quick_plain, quick_rest, quick_step}
 use Rattle.book_seek.specs.Seek.{GoesOn, Seeking, none, settled}
 use Rattle.book_seek.specs.declared.Seek.{Seek}
@@ -132,15 +132,17 @@ going_start key buf name n start total h fits long s e =
 module _
     {key buf : List ℕ} {n start total : ℕ} (fits : total ≤ length buf) {c : Cursor} {found : ℕ} {s : Seek}
     (g : Going key buf n start total c found s) (lt : c.index < n)
-    {kept own : ℕ} (h : HeaderAt buf c.at total c.name c.len kept own)
-    {name : List ℕ} {ok : Bool} (stored : Stored c.name kept buf (c.at + 2) own ok name) (yes : ok ≡ true)
-    (s' : Seek)
+    {kept own : ℕ} {name : List ℕ} (wide : length name ≡ name_room)
+    (got : NameRead buf c.at total c.name c.len kept own name) (s' : Seek)
     (on : GoesOn key (settled s c.index c.at) c.at (c.at + 2 + own) kept (take own (drop (c.at + 2) buf))
     (settled s' (c.index + 1) (c.at + 2 + own)))
     (below : s'.below ≤ length key)
     {a b : ℕ} (first : a ≡ low_of (get_or buf c.at 0)) (second : b ≡ low_of (get_or buf (c.at + 1) 0))
     (one : a ≤ 1) (two : b ≤ 1)
   where
+    h : HeaderAt buf c.at total c.name c.len kept own
+    h = got.header
+
     abbrev d : Cursor
     d = cursor_of (c.at + 2 + own) (c.index + 1) name (kept + own)
 
@@ -170,7 +172,7 @@ module _
         let i = h.inside in
         let plain = rest_plain buf start (c.at + 2) own total (omega (arith, g.from)) (omega arith) fits t none in
         let room : c.len ≤ length c.name = omega (arith, g.small, g.long) in
-        let holds = stored.holds yes in
+        let holds = got.holds in
         let u = r.walking.sound in
         let v = r.plain in
         let st = quick_step l.heads buf c u total kept own fits h room (no_head l off) v plain name holds in
@@ -191,7 +193,7 @@ module _
           from = omega (arith, g.from);
           inside = h.inside;
           small = h.short;
-          long = stored.long;
+          long = wide;
           within = omega arith;
           bounded = below;
           few = omega (arith, g.few);

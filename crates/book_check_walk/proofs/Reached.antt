@@ -16,7 +16,8 @@ use Rattle.book_laws.specs.Cursor.{Step, Stepped, name_in}
 use Rattle.book_laws.specs.declared.Cursor.{Cursor}
 use Rattle.book_laws.proofs.Walk.{standing_length}
 use Rattle.book_record_read.proofs.RecordParts.{record_is_lem}
-use Rattle.book_seek.specs.Seek.{GoesOn, Next, Seeking, none, place_in}
+use Rattle.book_seek.specs.Seek.{GoesOn, Next, Seeking, none}
+use Rattle.book_seek.proofs.Seeking.{seeking_start}
 use Rattle.book_seek.specs.declared.Seek.{Seek}
 
 -- the names vs are read, the cursor c stands behind them, and s says where the key stands among them
@@ -33,7 +34,6 @@ pub record Reached (key buf : List ℕ) (n start : ℕ) (c : Cursor) (s : Seek) 
 pub reached_start :
     (key buf name : List ℕ) (n start : ℕ)
     → Reached key buf n start (record { at = start; index = 0; name = name; len = 0 }) (none start)
-unfolding place_in
 reached_start key buf name n start =
     let z : n - 0 ≡ n = omega arith in
     record {
@@ -42,21 +42,7 @@ reached_start key buf name n start =
       many = refl;
       last = refl;
       from = sym (add-zero start);
-      seeks = record {
-        few = omega arith;
-        place = refl;
-        past = refl;
-        index = sym (add-zero start);
-        left = refl;
-        right = λ h. absurd (omega arith);
-        equal = λ h. absurd (omega arith);
-        none = λ h. refl;
-        whole = λ h. refl;
-        under = λ h l. absurd (omega arith);
-        some = λ h. absurd (omega arith);
-        begun = λ h. absurd (omega arith);
-        over = λ h. absurd (omega arith);
-      };
+      seeks = seeking_start key start;
     }
 
 -- a turn: the record at c is read

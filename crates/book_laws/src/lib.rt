@@ -1,5 +1,5 @@
-// What the functions of a book share beneath its definitions: a cursor over its records. The rest of this crate is
-// inner definitions and laws.
+// What the functions of a book share beneath its definitions: a cursor over its records, and the parts of a record. The
+// rest of this crate is inner definitions and laws.
 #![tactic(auto)]
 
 use limits::LONGEST_NAME;
@@ -11,4 +11,12 @@ pub struct Cursor {
     pub index: usize,
     pub name: [u8; LONGEST_NAME],
     pub len: usize,
+}
+
+// The parts of a record: the bytes kept of the name before, where the record's own bytes start in it, their number.
+#[derive(Clone, Copy)]
+pub struct Parts {
+    pub kept: usize,
+    pub start: usize,
+    pub own: usize,
 }

@@ -44,10 +44,3 @@ module _ {buf : List ℕ} {first end b score i s : ℕ} (g : Best buf first end 
         scored = g.scored;
         left = rw add-one (rw (le-ltb score s l) at on);
       }
-
-pub best_end :
-    {buf : List ℕ} {first end b score i : ℕ} → Best buf first end b score i → end ≤ i → (b ≡ best_between buf first end)
-    × (b < end)
-best_end {end = end} {i = i} g h =
-    let z : end - i ≡ 0 = omega (arith, g.within) in
-    (rw z at g.left, omega (arith, g.past, g.within))

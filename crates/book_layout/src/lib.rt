@@ -73,10 +73,7 @@ pub fn blocks(n: usize) -> usize
 pub fn is_head(heads: bool, index: usize) -> bool
     ensures { result ≡ head_at heads index }
 {
-    if !heads {
-        return false;
-    }
-    index % BUCKET_SIZE == 0
+    heads && index % BUCKET_SIZE == 0
 }
 
 // Where block j of n positions ends.
@@ -85,7 +82,7 @@ pub fn block_end(n: usize, j: usize) -> usize
     ensures { result ≡ block_end n j }
 {
     let full = BLOCK_SIZE * j + BLOCK_SIZE;
-    if n < full { n } else { full }
+    n.min(full)
 }
 
 // Where the score of a position stands, in a book of any number of entries.
@@ -166,14 +163,12 @@ pub fn best_between(buf: &[u8], first: usize, end: usize) -> usize
 {
     let mut b = first;
     let mut best = score_at(buf, first);
-    let mut i = first + 1;
-    while i < end {
+    for i in first + 1..end {
         let score = score_at(buf, i);
         if best < score {
             b = i;
             best = score;
         }
-        i += 1;
     }
     b
 }

@@ -6,7 +6,6 @@ use mathlib.Core.List.{List, [], ◌++◌, ◌∷◌}
 use lib.Dec.{eqb}
 use lib.ListN.{drop, get_or, length, length-drop, take, take-append-drop}
 use lib.Seq.{drop-drop, get_or-drop, length-sets, sets, take-take}
-use native.Mathlib.Nat.{add-zero}
 use native.Mathlib.Numerals.{add-one}
 use native.Mathlib.Omega.{arith}
 use borrow.Author.Tests.{eq-eqb, eqb-true}
@@ -18,7 +17,7 @@ use Rattle.octets.proofs.Tests.{and_true_both, by_test}
 use Rattle.entries.specs.Entries.{Entry, at}
 use Rattle.entries.specs.Names.{longest_name}
 use Rattle.entries.proofs.Valid.{name_length}
-use Rattle.book.specs.Book.{in_book, is_book, records_at, today}
+use Rattle.book.specs.Book.{in_book, is_book, today}
 use Rattle.book_laws.specs.Ahead.{name_before, record_at}
 use Rattle.book_laws.specs.Cursor.{cursor_of}
 use Rattle.book_laws.specs.Held.{Held}
@@ -28,22 +27,12 @@ use Rattle.book_laws.proofs.Held.{held_stored, held-valid}
 use Rattle.book_laws.proofs.Standing.{kept_there, name_allowed, next_there, own_there, own_within, record_inside}
 use Rattle.book_laws.proofs.Standing.{rest_there}
 use Rattle.book_read.specs.Record.{Inside, Read, parts_at}
-use Rattle.book_read.specs.declared.Parts.{Parts}
+use Rattle.book_laws.specs.declared.Parts.{Parts}
 use Rattle.book_name.specs.Poised.{Poised, Starts, kept_at}
 
 -- a checked book, its entries counted
 pub held_of : (book : List ℕ) → is_book book ≡ true → Held book (length (in_book book))
 held_of book h = record { is_it = h; count = refl }
-
--- at the first record nothing is kept
-pub poised_first :
-    {book : List ℕ} {n : ℕ} → Held book n → {c : Cursor} → c.at ≡ records_at today n → c.index ≡ 0
-    → Poised (in_book book) c
-poised_first {book} held {c} a z =
-    record {
-      stands = rw z (a ∙ ap (records_at today) held.count ∙ sym (add-zero (records_at today (length (in_book book)))));
-      keeps = λ h. rw z;
-    }
 
 -- the parts of a record, as its first two bytes say them
 parts-plain : (i : ℕ) (s : List ℕ)
@@ -58,17 +47,6 @@ pub record Naming (es : List Entry) (first i k index : ℕ) (name : List ℕ) (l
   pub from : first ≤ index
   pub upto : index ≤ i + 1
   pub last : first < index → (take len name ≡ (at es (index - 1)).name) × (len ≤ longest_name)
-
-pub naming_start :
-    {es : List Entry} {c : Cursor} {i : ℕ} → Poised es c → length c.name ≡ longest_name → c.index ≤ i
-    → Naming es c.index i c.at c.index c.name c.len
-naming_start p l h = record {
-  poised = p;
-  long = l;
-  from = omega arith;
-  upto = omega arith;
-  last = λ z. absurd (omega arith);
-}
 
 module _
     (book : List ℕ) (ok : is_book book ≡ true) {first i k index len : ℕ} {name : List ℕ}
@@ -187,16 +165,6 @@ module _
                   sym (take-take (common w v) (length w) new (common_most w v))
                   ∙ ap (take (common w v)) is_name_lem
                   ∙ common-take w v
-
--- behind the record at position i
-pub naming_end :
-    {es : List Entry} {first i k index len : ℕ} {name : List ℕ} → Naming es first i k index name len → first ≤ i
-    → i < index
-    → (take len name ≡ (at es i).name) × (len ≤ longest_name) × (index ≡ i + 1)
-naming_end {i = i} {index = index} g h l =
-    let z : index - 1 ≡ i = omega (arith, g.upto) in
-    let q = g.last (omega arith) in
-    (rw z at q.0, q.1, omega (arith, g.upto))
 
 -- the bytes stored at the front of an array
 pub front_of-sets :

@@ -52,16 +52,14 @@ pub fn read_to(book: &[u8], from: Cursor, i: usize) -> Cursor
     let mut name = from.name;
     let mut len = from.len;
     let mut at = from.at;
-    let mut index = from.index;
-    while index <= i {
+    for index in from.index..i + 1 {
         let p = book_read::read_name(book, at, BOOK_HEADS, index, &mut name);
         at += p.start + p.own;
         len = p.kept + p.own;
-        index += 1;
     }
     Cursor {
         at: at,
-        index: index,
+        index: i + 1,
         name: name,
         len: len,
     }

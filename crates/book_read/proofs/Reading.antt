@@ -23,14 +23,14 @@ use Rattle.book_laws.specs.Held.{HeldIn}
 use Rattle.book_laws.proofs.Ahead.{ahead_first, ahead_sound, step_ahead, step_name, step_ok}
 use Rattle.book_laws.proofs.Held.{held_stored, held-valid}
 use Rattle.book_read.specs.Record.{Inside, Read, own_bytes, parts_at}
-use Rattle.book_read.specs.declared.Parts.{Parts}
+use Rattle.book_laws.specs.declared.Parts.{Parts}
 use Rattle.book_laws.specs.declared.Cursor.{Cursor}
-use Rattle.book_record_read.specs.declared.Part.TheVariants.{Own}
+use Rattle.std.specs.Prelude.{Some}
 
 -- the parts of a record of a book are those that its tests find
 parts_own :
     (heads : Bool) (i : ℕ) (prev s : List ℕ) → record_is heads i prev s ≡ true
-    → record_part heads i prev s ≡ Own (parts_at heads i s).kept (parts_at heads i s).start (parts_at heads i s).own
+    → record_part heads i prev s ≡ Some (parts_at heads i s)
 unfolding record_part parts_at
 parts_own heads i prev s t = by_test (head_at heads i) (λ e. rw (e, t)) (λ e. rw (e, t))
 
@@ -65,7 +65,7 @@ module _
     own_step t =
         let z : c.at + (p.start + p.own) ≡ c.at + p.start + p.own = omega arith in
         rw z
-        (step_own l.heads book c (ahead_sound l es v book c a h) long p.kept p.start p.own new
+        (step_own l.heads book c (ahead_sound l es v book c a h) long p new
         (parts_own l.heads c.index (name_in c) s t) refl)
 
     -- they do
@@ -79,7 +79,7 @@ module _
 
     owned : Owned l.heads c.index (name_in c) s p.kept p.start p.own
     owned =
-        part_own l.heads c.index (name_in c) s p.kept p.start p.own a.allowed
+        part_own l.heads c.index (name_in c) s p a.allowed
         (parts_own l.heads c.index (name_in c) s tests_hold)
 
     name_bytes : p.kept + p.own ≡ length (at es c.index).name

@@ -3,7 +3,7 @@ use Rattle.std.specs.Prelude.{◌+◌, ◌≤◌, ℕ, ◌≡◌, Bool, List, dr
 use Rattle.std.proofs.lemmas.List.Edits.{sets}
 use Rattle.octets.specs.Lists.{if◌then◌otherwise◌}
 use Rattle.book.specs.Records.{head_at}
-use Rattle.book_read.specs.declared.Parts.{Parts}
+use Rattle.book_laws.specs.declared.Parts.{Parts}
 
 -- the parts of the record at the front of s, at position i: a head keeps nothing and has a length byte; another has its
 -- common byte and the length of the rest

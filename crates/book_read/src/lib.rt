@@ -4,15 +4,8 @@
 ghost use Rattle.std.specs.Prelude.{◌≡◌, ◌≤◌, drop, length};
 ghost use Rattle.book_read.specs.Record.{Inside, Read, parts_at};
 
+use book_laws::Parts;
 use limits::HEADER_BYTES;
-
-// The parts of a record: the bytes kept of the name before, where the record's own bytes start in it, their number.
-#[derive(Clone, Copy)]
-pub struct Parts {
-    pub kept: usize,
-    pub start: usize,
-    pub own: usize,
-}
 
 // The parts of the record at the front of s, at a position.
 pub fn parts_at(heads: bool, index: usize, s: &[u8]) -> Parts

@@ -5,7 +5,7 @@ use mathlib.Core.Path.{◌∙◌, ◌≡◌, ap, refl, sym}
 use mathlib.Core.Bool.{Bool, false, true}
 use mathlib.Core.List.{List, ◌++◌}
 use lib.Dec.{leb}
-use lib.ListN.{drop, get_or, length, length-drop, length-take, take}
+use lib.ListN.{drop, get_or, length, length-drop, take}
 use lib.Seq.{drop_at, drop-drop, get_or-drop, get_or-take, length-take-le, take-take}
 use native.Mathlib.Nat.{add-zero}
 use native.Mathlib.Omega.{arith}
@@ -20,7 +20,7 @@ use Rattle.book.specs.Records.{head_at}
 use Rattle.book_laws.specs.Cursor.{Sound, Stepped, name_in}
 use Rattle.book_laws.specs.declared.Cursor.{Cursor}
 use Rattle.book_record_read.specs.RecordParts.{goes_above, record_part, tail_test}
-use Rattle.book_record_read.specs.declared.Part.TheVariants.{Own}
+use Rattle.std.specs.Prelude.{Some}
 use Rattle.book_record_read.proofs.RecordParts.{Owned, part_own, tail_part_lem}
 use Rattle.book_record_quick.specs.Quick.{HeaderAt}
 
@@ -93,11 +93,11 @@ module _
         )
         goes
 
-    parts : record_part heads c.index (name_in c) s ≡ Own kept 2 own
+    parts : record_part heads c.index (name_in c) s ≡ Some (record { kept = kept; start = 2; own = own })
     parts = sym (tail_part_lem heads c.index (name_in c) s no-head sound.allowed) ∙ rw (tests, first, second)
 
     owned : Owned heads c.index (name_in c) s kept 2 own
-    owned = part_own heads c.index (name_in c) s kept 2 own sound.allowed parts
+    owned = part_own heads c.index (name_in c) s (record { kept = kept; start = 2; own = own }) sound.allowed parts
 
     module _ (name : List ℕ) (holds : take (kept + own) name ≡ take kept c.name ++ rest) where
       named : take (kept + own) name ≡ take kept (name_in c) ++ take own (drop 2 s)

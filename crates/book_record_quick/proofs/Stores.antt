@@ -1,14 +1,11 @@
 -- A rest stored with the bytes behind it: the front of the array is the kept bytes and the rest.
 use Prim.Native.Nat.{◌+◌, ◌≤◌, ℕ}
 use mathlib.Core.Path.{◌∙◌, ◌≡◌, ap, sym}
-use mathlib.Core.Bool.{false, false≢true}
 use mathlib.Core.List.{List, ◌++◌}
-use lib.ListN.{drop, length, length-drop, length-set, length-take, set, take}
+use lib.ListN.{drop, length, length-drop, length-set, set, take}
 use lib.Seq.{length-sets, length-take-le, sets, take-append-add, take-set-le, take-take}
 use native.Mathlib.Omega.{arith}
 use Rattle.octets.proofs.Stores.{take-sets}
-use Rattle.book_record_quick.specs.Quick.{ReadAs, name_room}
-use Rattle.book_record_quick.specs.declared.Header.{Header}
 
 stored_front :
     (name vs : List ℕ) (k n : ℕ) → k + length vs ≤ length name → n ≤ length vs
@@ -36,13 +33,3 @@ module _
 
     pub stored_long : length after ≡ length name
     stored_long = ap length e ∙ simp (length-set, length-sets)
-
--- no record was read
-pub nothing_read :
-    {buf name after : List ℕ} {at total len : ℕ} {r : Header} → r.ok ≡ false → length after ≡ name_room
-    → ReadAs buf at total name len r after
-nothing_read e l =
-    record {
-      header = λ t. absurd (false≢true (sym e ∙ t));
-      stored = record { long = l; holds = λ t. absurd (false≢true (sym e ∙ t)) };
-    }

@@ -1,5 +1,5 @@
 -- What the fast reading of a record tells.
-use Rattle.std.specs.Prelude.{◌+◌, ◌<◌, ◌≤◌, ℕ, ◌≡◌, Bool, true, List, ◌++◌, drop, get_or, length, take}
+use Rattle.std.specs.Prelude.{◌+◌, ◌<◌, ◌≤◌, ℕ, ◌≡◌, List, ◌++◌, IfSome, Option, drop, get_or, length, take}
 use Rattle.entries.specs.Names.{longest_name}
 use Rattle.book_record_quick.specs.declared.Header.{Header}
 
@@ -17,15 +17,13 @@ pub record HeaderAt (buf : List ℕ) (at total : ℕ) (name : List ℕ) (len kep
   pub short : kept + own ≤ longest_name
   pub above : get_or name kept 0 < get_or buf (at + 2) 0
 
-abbrev pub Headed : List ℕ → ℕ → ℕ → List ℕ → ℕ → Header → Type 0
-Headed buf at total name len r = r.ok ≡ true → HeaderAt buf at total name len r.kept r.own
+-- a record that was read, and the name that it leaves: the rest stands behind the kept bytes
+pub record NameRead (buf : List ℕ) (at total : ℕ) (name : List ℕ) (len kept own : ℕ) (after : List ℕ) : Type 0 where
+  pub header : HeaderAt buf at total name len kept own
+  pub holds : take (kept + own) after ≡ take kept name ++ take own (drop (at + 2) buf)
 
--- the array with a rest stored behind the kept bytes, where r says so
-pub record Stored (name : List ℕ) (kept : ℕ) (buf : List ℕ) (from own : ℕ) (r : Bool) (after : List ℕ) : Type 0 where
-  pub long : length after ≡ name_room
-  pub holds : r ≡ true → take (kept + own) after ≡ take kept name ++ take own (drop from buf)
-
--- a record that was read
-pub record ReadAs (buf : List ℕ) (at total : ℕ) (name : List ℕ) (len : ℕ) (r : Header) (after : List ℕ) : Type 0 where
-  pub header : Headed buf at total name len r
-  pub stored : Stored name r.kept buf (at + 2) r.own r.ok after
+-- the array after a reading, whether a record was read or none may stand there
+pub record ReadAs (buf : List ℕ) (at total : ℕ) (name : List ℕ) (len : ℕ) (r : Option Header) (after : List ℕ) : Type 0
+  where
+    pub long : length after ≡ name_room
+    pub read : IfSome r (λ h. NameRead buf at total name len h.kept h.own after)

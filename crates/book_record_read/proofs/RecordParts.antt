@@ -20,7 +20,8 @@ use Rattle.book_record_read.specs.RecordParts.{goes_above, head_part, head_test,
 use Rattle.book_record_read.specs.RecordParts.{tail_test}
 use Rattle.book.specs.Records.{head_at, record_length, record_name, record_of}
 use Rattle.book_laws.specs.Cursor.{record_is}
-use Rattle.book_record_read.specs.declared.Part.TheVariants.{Bad, Own}
+use Rattle.book_laws.specs.declared.Parts.{Parts}
+use Rattle.std.specs.Prelude.{None, Some}
 use Rattle.book_record_read.proofs.Standing.{head_stands, tail_stands}
 
 -- A name that keeps the first k bytes of prev and goes on with v: its bytes, its order. Where no half is open behind
@@ -242,12 +243,16 @@ pub record Owned (heads : Bool) (i : ℕ) (prev s : List ℕ) (kept start n : �
   pub inside : start + n ≤ length s
   pub shares : head_at heads i ≡ false → kept ≡ common prev (record_name heads i prev s)
 
-own_if_lem : (t : Bool) (a b d : ℕ) {k m n : ℕ} → own_if t a b d ≡ Own k m n → (t ≡ true) × (a ≡ k) × (b ≡ m) × (d ≡ n)
-own_if_lem true a b d e = (refl, (cc), (cc), (cc))
-own_if_lem false a b d e = absurd (let z : ◌≡◌ {A = ℕ} 0 1 = cc in omega arith)
+own_if_lem :
+    (t : Bool) (a b d : ℕ) {p : Parts} → own_if t a b d ≡ Some p
+    → (t ≡ true) × (a ≡ p.kept) × (b ≡ p.start) × (d ≡ p.own)
+own_if_lem true a b d {p} e =
+    let q : record { kept = a; start = b; own = d } ≡ p = cc in
+    (refl, ap (λ (x : Parts). x.kept) q, ap (λ (x : Parts). x.start) q, ap (λ (x : Parts). x.own) q)
+own_if_lem false a b d e = absurd (cc)
 
-own_not : (t : Bool) (a b d : ℕ) → own_if t a b d ≡ Bad → t ≡ false
-own_not true a b d e = absurd (let z : ◌≡◌ {A = ℕ} 0 1 = cc in omega arith)
+own_not : (t : Bool) (a b d : ℕ) → own_if t a b d ≡ None → t ≡ false
+own_not true a b d e = absurd (cc)
 own_not false a b d e = refl
 
 module _ (heads : Bool) (i : ℕ) (prev s : List ℕ) where
@@ -303,9 +308,9 @@ module _ (heads : Bool) (i : ℕ) (prev s : List ℕ) where
       }
 
   pub part_own :
-      (kept start n : ℕ) → is_prefix prev ≡ true → record_part heads i prev s ≡ Own kept start n
-      → Owned heads i prev s kept start n
-  part_own kept start n h q =
+      (p : Parts) → is_prefix prev ≡ true → record_part heads i prev s ≡ Some p
+      → Owned heads i prev s p.kept p.start p.own
+  part_own p h q =
       by_test (head_at heads i)
       (λ e.
       let x = own_if_lem (head_test prev s) 0 1 (get_or s 0 0) (head_part_lem heads i prev s e ∙ q) in
@@ -314,7 +319,7 @@ module _ (heads : Bool) (i : ℕ) (prev s : List ℕ) where
       let x = own_if_lem (tail_test prev s) (get_or s 0 0) 2 (get_or s 1 0) (tail_part_lem heads i prev s e h ∙ q) in
       rw (← x.1, ← x.2, ← x.3) (tail_owned e h x.0))
 
-  pub part_bad : record_part heads i prev s ≡ Bad → record_is heads i prev s ≡ false
+  pub part_bad : record_part heads i prev s ≡ None → record_is heads i prev s ≡ false
   unfolding record_part
   part_bad q =
       by_test (head_at heads i)

@@ -1,5 +1,5 @@
 -- A step of the cursor in plain numbers and lists: the name that it leaves in the array, and where it stands.
-use Prim.Native.Nat.{◌+◌, ◌-◌, ◌≤◌, ℕ}
+use Prim.Native.Nat.{◌+◌, ◌≤◌, ℕ}
 use mathlib.Core.Path.{◌∙◌, ◌≡◌, ap, refl, sym}
 use mathlib.Core.Bool.{Bool, false, false≢true, true}
 use mathlib.Core.List.{List, ◌++◌}
@@ -14,7 +14,8 @@ use Rattle.book_laws.specs.Cursor.{Sound, Step, Stepped, name_in}
 use Rattle.book_record_read.specs.RecordParts.{record_part}
 use Rattle.book.specs.Records.{head_at, record_name}
 use Rattle.book_laws.specs.declared.Cursor.{Cursor}
-use Rattle.book_record_read.specs.declared.Part.TheVariants.{Bad, Own}
+use Rattle.book_laws.specs.declared.Parts.{Parts}
+use Rattle.std.specs.Prelude.{None, Some}
 use Rattle.book_record_read.proofs.RecordParts.{part_bad, part_own, record_is_lem}
 use Rattle.octets.proofs.Stores.{take-sets}
 
@@ -27,38 +28,38 @@ stored name own len k n e h q = rw (take-take k len name h, ← e) (take-sets na
 module _ (heads : Bool) (src : List ℕ) (c : Cursor) (sound : Sound src c) where
   -- no record of a book
   pub step_bad :
-      {d : Cursor} → record_part heads c.index (name_in c) (drop c.at src) ≡ Bad
+      {d : Cursor} → record_part heads c.index (name_in c) (drop c.at src) ≡ None
       → Stepped heads src c (record { ok = false; next = d })
   step_bad e = record {
     ok = sym (part_bad heads c.index (name_in c) (drop c.at src) e);
     next = λ t. absurd (false≢true t);
   }
 
-  module _ (long : length c.name ≡ longest_name) (kept start n : ℕ) where
+  module _ (long : length c.name ≡ longest_name) (p : Parts) where
     -- a record, whose own bytes are stored behind the kept ones
     pub step_own :
-        (name : List ℕ) → record_part heads c.index (name_in c) (drop c.at src) ≡ Own kept start n
-        → name ≡ sets c.name kept (take n (drop start (drop c.at src)))
+        (name : List ℕ) → record_part heads c.index (name_in c) (drop c.at src) ≡ Some p
+        → name ≡ sets c.name p.kept (take p.own (drop p.start (drop c.at src)))
         → Stepped heads src c
         (record {
           ok = true;
           next = record {
-            at = c.at + start + n;
+            at = c.at + p.start + p.own;
             index = c.index + 1;
             name = name;
-            len = kept + n;
+            len = p.kept + p.own;
           };
         })
     step_own name e m =
         let s = drop c.at src in
-        let o = part_own heads c.index (name_in c) s kept start n sound.allowed e in
-        let l = length-take-le n (drop start s) (omega (arith, o.inside, length-drop start s)) in
-        let k : kept ≤ c.len = omega (arith, o.within, length-take c.len c.name) in
+        let o = part_own heads c.index (name_in c) s p sound.allowed e in
+        let l = length-take-le p.own (drop p.start s) (omega (arith, o.inside, length-drop p.start s)) in
+        let k : p.kept ≤ c.len = omega (arith, o.within, length-take c.len c.name) in
         record {
           ok = sym o.is;
           next = λ t.
               record {
-                name = rw m (stored c.name (take n (drop start s)) c.len kept n l k (omega (arith, o.short)))
+                name = rw m (stored c.name (take p.own (drop p.start s)) c.len p.kept p.own l k (omega (arith, o.short)))
                     ∙ sym o.name;
                 at = omega (arith, o.long);
                 index = refl;
@@ -69,12 +70,12 @@ module _ (heads : Bool) (src : List ℕ) (c : Cursor) (sound : Sound src c) wher
 
     -- and what it keeps of the name before, where it is no head
     pub own_keeps :
-        (name : List ℕ) → record_part heads c.index (name_in c) (drop c.at src) ≡ Own kept start n
-        → name ≡ sets c.name kept (take n (drop start (drop c.at src)))
-        → head_at heads c.index ≡ false → kept ≡ common (name_in c) (take (kept + n) name)
+        (name : List ℕ) → record_part heads c.index (name_in c) (drop c.at src) ≡ Some p
+        → name ≡ sets c.name p.kept (take p.own (drop p.start (drop c.at src)))
+        → head_at heads c.index ≡ false → p.kept ≡ common (name_in c) (take (p.kept + p.own) name)
     own_keeps name e m f =
         let s = drop c.at src in
-        let o = part_own heads c.index (name_in c) s kept start n sound.allowed e in
+        let o = part_own heads c.index (name_in c) s p sound.allowed e in
         let q = ((step_own name e m).next refl).name in
         o.shares f ∙ ap (common (name_in c)) (sym q)
 

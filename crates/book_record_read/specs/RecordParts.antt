@@ -1,23 +1,22 @@
 -- The parts of a record: how many bytes it keeps of the name before, where its own bytes start, and how many they are.
 -- They are found by tests of the record's own bytes; only a head's name is compared as a whole with the name before.
-use Rattle.std.specs.Prelude.{◌+◌, ◌-◌, ◌≤◌, ℕ, ◌≡◌, Bool, ◌&&◌, false, not, true, List, leb, ltb, drop, get_or, length, take}
+use Rattle.std.specs.Prelude.{◌+◌, ◌-◌, ℕ, ◌≡◌, Bool, ◌&&◌, false, not, true, List, None, Option, Some, ⊤, leb, ltb}
+use Rattle.std.specs.Prelude.{drop, get_or, length, take}
 use Rattle.octets.specs.Lists.{if◌then◌otherwise◌}
 use Rattle.octets.specs.Octets.{below, common}
 use Rattle.entries.specs.Names.{is_name, is_prefix, longest_name}
 use Rattle.entries_laws.specs.Signs.{is_tail}
 use Rattle.book.specs.Records.{head_at}
 use Rattle.book_laws.specs.Cursor.{Step, cursor_of, record_is}
-use Rattle.book_record_read.specs.declared.Part.{Part}
-use Rattle.book_record_read.specs.declared.Part.TheVariants.{Bad, Own}
-use Rattle.book_record_read.specs.declared.Reading.{Reading}
+use Rattle.book_laws.specs.declared.Parts.{Parts}
 
 -- these parts where the test holds
-abbrev pub own_if : Bool → ℕ → ℕ → ℕ → Part
-own_if true kept start n = Own kept start n
-own_if false kept start n = Bad
+abbrev pub own_if : Bool → ℕ → ℕ → ℕ → Option Parts
+own_if true kept start n = Some (record { kept = kept; start = start; own = n })
+own_if false kept start n = None
 
 -- the parts of the record at the front of s, at position i behind the name prev
-unfoldable pub record_part : Bool → ℕ → List ℕ → List ℕ → Part
+unfoldable pub record_part : Bool → ℕ → List ℕ → List ℕ → Option Parts
 record_part heads i prev s =
     if head_at heads i
     then own_if (record_is heads i prev s) 0 1 (get_or s 0 0)
@@ -46,17 +45,19 @@ tail_test prev s =
     && (leb 1 n
     && (leb n (length s - 2) && (leb (k + n) longest_name && (is_prefix rest && goes_above prev k (get_or rest 0 0))))))
 
-abbrev pub head_part : List ℕ → List ℕ → Part
+abbrev pub head_part : List ℕ → List ℕ → Option Parts
 head_part prev s = own_if (head_test prev s) 0 1 (get_or s 0 0)
 
-abbrev pub tail_part : List ℕ → List ℕ → Part
+abbrev pub tail_part : List ℕ → List ℕ → Option Parts
 tail_part prev s = own_if (tail_test prev s) (get_or s 0 0) 2 (get_or s 1 0)
 
--- the step that the reading of the record at index i tells, with the name that it left
-abbrev pub step_of : ℕ → Reading → List ℕ → Step
-step_of i r name = record { ok = r.ok; next = cursor_of r.end (i + 1) name r.len }
+-- the step that the reading of the record at index `at` and position i tells, with the name that it left
+abbrev pub step_of : ℕ → ℕ → Option Parts → List ℕ → Step
+step_of at i None name = record { ok = false; next = cursor_of at i name 0 }
+step_of at i (Some p) name =
+    record { ok = true; next = cursor_of (at + p.start + p.own) (i + 1) name (p.kept + p.own) }
 
--- what the record at position i keeps of the name before is within its name w and, where it is no head, all that w
--- shares with that name
-abbrev pub Keeps : Bool → ℕ → List ℕ → Reading → List ℕ → Type 0
-Keeps heads i prev r w = r.ok ≡ true → (r.kept ≤ r.len) × (head_at heads i ≡ false → r.kept ≡ common prev w)
+-- what the record at position i keeps of the name before is, where it is no head, all that its name shares with that one
+abbrev pub Keeps : Bool → ℕ → List ℕ → Option Parts → List ℕ → Type 0
+Keeps heads i prev None name = ⊤
+Keeps heads i prev (Some p) name = head_at heads i ≡ false → p.kept ≡ common prev (take (p.kept + p.own) name)

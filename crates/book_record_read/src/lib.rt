@@ -6,50 +6,38 @@ ghost use Rattle.entries.specs.Names.{is_prefix, longest_name};
 ghost use Rattle.book_record_read.specs.RecordParts.{Keeps, goes_above, head_part, record_part, step_of, tail_part};
 ghost use Rattle.book_laws.specs.Cursor.{Sound, Stepped, cursor_of};
 
+use book_laws::Parts;
 use limits::{LONGEST_NAME, MICRO_TAIL, OHM_TAIL};
 
-// Whether a record of a book stands at an index, where it ends, how many bytes it keeps of the name before, and the
-// length of its name.
-#[derive(Clone, Copy)]
-pub struct Reading {
-    pub ok: bool,
-    pub end: usize,
-    pub kept: usize,
-    pub len: usize,
-}
-
-// The parts of a record.
-#[derive(Clone, Copy)]
-pub enum Part {
-    // No record of a book.
-    Bad,
-    // The bytes kept of the name before, the start of the record's own bytes, their number.
-    Own(usize, usize, usize),
-}
-
 // The parts of a head: a length byte, and a name above the one before.
-fn head_part(prev: &[u8], s: &[u8]) -> Part
+#[tactic(auto, unfolding(crate::specs::RecordParts::head_test))]
+fn head_part(prev: &[u8], s: &[u8]) -> Option<Parts>
     ensures { result ≡ head_part prev.now s.now }
 {
     if s.len() < 1 {
-        return Part::Bad;
+        return None;
     }
     let n = s[0] as usize;
     if s.len() - 1 < n {
-        return Part::Bad;
+        return None;
     }
     let name = &s[1..1 + n];
     if !entries_check::is_name(name) {
-        return Part::Bad;
+        return None;
     }
     if !octets_code::is_below(prev, name) {
-        return Part::Bad;
+        return None;
     }
-    Part::Own(0, 1, n)
+    Some(Parts {
+        kept: 0,
+        start: 1,
+        own: n,
+    })
 }
 
 // Whether a name that keeps the first bytes of prev and goes on with next shares no more with it, and is above it; no
 // longest common prefix ends inside a pair, where prev goes on with the pair's other half.
+#[tactic(auto, unfolding(crate::specs::RecordParts::goes_above))]
 fn goes_above(prev: &[u8], kept: usize, next: u8) -> bool
     ensures { result ≡ goes_above prev.now kept next }
 {
@@ -67,38 +55,43 @@ fn goes_above(prev: &[u8], kept: usize, next: u8) -> bool
 }
 
 // The parts of another record: the common byte, the length of the rest, the rest.
-fn tail_part(prev: &[u8], s: &[u8]) -> Part
+#[tactic(auto, unfolding(crate::specs::RecordParts::tail_test))]
+fn tail_part(prev: &[u8], s: &[u8]) -> Option<Parts>
     ensures { result ≡ tail_part prev.now s.now }
 {
     if s.len() < 2 {
-        return Part::Bad;
+        return None;
     }
     let kept = s[0] as usize;
     let n = s[1] as usize;
     if prev.len() < kept {
-        return Part::Bad;
+        return None;
     }
     if n < 1 {
-        return Part::Bad;
+        return None;
     }
     if s.len() - 2 < n {
-        return Part::Bad;
+        return None;
     }
     if LONGEST_NAME < kept + n {
-        return Part::Bad;
+        return None;
     }
     let rest = &s[2..2 + n];
     if !entries_check::is_prefix(rest) {
-        return Part::Bad;
+        return None;
     }
     if !goes_above(prev, kept, rest[0]) {
-        return Part::Bad;
+        return None;
     }
-    Part::Own(kept, 2, n)
+    Some(Parts {
+        kept: kept,
+        start: 2,
+        own: n,
+    })
 }
 
 // The parts of the record at the front of s, at a position behind the name prev.
-fn part_at(heads: bool, index: usize, prev: &[u8], s: &[u8]) -> Part
+fn part_at(heads: bool, index: usize, prev: &[u8], s: &[u8]) -> Option<Parts>
     requires { is_prefix prev.now ≡ true }
     ensures { result ≡ record_part heads index prev.now s.now }
 {
@@ -118,31 +111,15 @@ pub fn read_record(
     index: usize,
     name: &mut [u8],
     len: usize,
-) -> Reading
+) -> Option<Parts>
     requires { Sound src.now (cursor_of at index name.old len) × (length name.old ≡ longest_name) }
     ensures { Stepped heads src.now (cursor_of at index name.old len)
-        (step_of index result name.new)
-        × Keeps heads index (take len name.old) result (take result.len name.new) }
+        (step_of at index result name.new)
+        × Keeps heads index (take len name.old) result name.new }
 {
     let s = &src[at..];
-    let part = part_at(heads, index, &name[..len], s);
-    match part {
-        Part::Bad => Reading {
-            ok: false,
-            end: at,
-            kept: 0,
-            len: len,
-        },
-        Part::Own(kept, start, n) => {
-            octets_code::copy(name, kept, &s[start..start + n]);
-            let end = at + start + n;
-            let long = kept + n;
-            Reading {
-                ok: true,
-                end: end,
-                kept: kept,
-                len: long,
-            }
-        }
-    }
+    let p = part_at(heads, index, &name[..len], s)?;
+    let end = p.start + p.own;
+    octets_code::copy(name, p.kept, &s[p.start..end]);
+    Some(p)
 }

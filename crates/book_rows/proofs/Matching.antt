@@ -5,7 +5,6 @@ use mathlib.Core.Bool.{false, true}
 use mathlib.Core.List.{List, [], ◌∷◌}
 use lib.ListN.{get_or, length}
 use native.Mathlib.Omega.{arith}
-use Rattle.octets.specs.Octets.{begins}
 use Rattle.octets.proofs.Order.{begins-length}
 use Rattle.octets.proofs.Tests.{by_test}
 use Rattle.entries.specs.Completion.{begun, first_match, matches}

@@ -18,7 +18,7 @@ fn nearer(position: usize, from: usize, least: usize) -> usize
     if position < from {
         return least;
     }
-    octets_code::least(position, least)
+    position.min(least)
 }
 
 // The least position wanted that is not before `from`, or `end` if there is none before it.
@@ -27,10 +27,8 @@ fn next_wanted(wanted: &[usize], from: usize, end: usize) -> usize
     ensures { Wanted wanted.now from end result }
 {
     let mut least = end;
-    let mut j = 0;
-    while j < wanted.len() {
-        least = nearer(wanted[j], from, least);
-        j += 1;
+    for position in wanted {
+        least = nearer(*position, from, least);
     }
     least
 }
@@ -57,10 +55,8 @@ fn put_rows(c: Cursor, wanted: &[usize], rows: &mut [u8], lens: &mut [usize])
     ensures { Placed c wanted.now rows.old lens.old rows.new
         lens.new }
 {
-    let mut j = 0;
-    while j < wanted.len() {
-        put_row(c, wanted[j], j, rows, lens);
-        j += 1;
+    for (j, position) in wanted.iter().enumerate() {
+        put_row(c, *position, j, rows, lens);
     }
 }
 

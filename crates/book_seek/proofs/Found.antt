@@ -7,9 +7,8 @@ use lib.Dec.{ltb}
 use lib.ListN.{length}
 use native.Mathlib.Omega.{arith}
 use borrow.Author.Tests.{ltb-false, ltb-true}
-use Rattle.octets.specs.Octets.{same}
 use Rattle.octets.proofs.Tests.{by_test}
-use Rattle.entries.specs.Entries.{Entry, at, names}
+use Rattle.entries.specs.Entries.{Entry, names}
 use Rattle.entries.proofs.Valid.{length-names}
 use Rattle.entries_laws.specs.Place.{is_at, is_before, place}
 use Rattle.book_laws.proofs.Ahead.{names_at}

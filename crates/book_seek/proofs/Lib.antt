@@ -1,4 +1,4 @@
 pub mod Found
-pub mod Order
 pub mod Seeking
 pub mod Settling
+pub mod Sharing

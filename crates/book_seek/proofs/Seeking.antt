@@ -1,6 +1,6 @@
 -- One more name: what is known of the key among the names before it, and how it stands to the key, say what is known
 -- with it.
-use Prim.Native.Nat.{◌+◌, ◌-◌, ◌<◌, ◌≤◌, suc, zero, ℕ}
+use Prim.Native.Nat.{◌+◌, ◌<◌, ◌≤◌, suc, zero, ℕ}
 use mathlib.Core.Path.{◌∙◌, ◌≡◌, ap, refl, sym}
 use mathlib.Core.Bool.{Bool, false, false≢true, true}
 use mathlib.Core.List.{List, [], ◌++◌, ◌∷◌, append-nil}
@@ -10,7 +10,7 @@ use lib.Seq.{get_or-append_seam, take-append-le, take-append_seam, take-length}
 use native.Mathlib.Nat.{add-zero}
 use native.Mathlib.Omega.{arith}
 use borrow.Author.Tests.{eq-eqb, eqb-false, eqb-true}
-use Rattle.octets.specs.Lists.{if◌then◌otherwise◌, keep}
+use Rattle.octets.specs.Lists.{if◌then◌otherwise◌}
 use Rattle.octets.specs.Octets.{begins, below, common, same}
 use Rattle.octets.proofs.Coding.{common_le}
 use Rattle.octets_code.proofs.Loops.{same_apart, same-begins}
@@ -19,32 +19,31 @@ use Rattle.octets.proofs.Tests.{and_true_both, by_test}
 use Rattle.entries_laws.proofs.Place.{begun_not_below}
 use Rattle.book.specs.Records.{last_or, record_of, records}
 use Rattle.book.proofs.Records.{records-append}
-use Rattle.book_seek.specs.Seek.{Compares, Meets, Next, Seeking, Stands, before, order_begun, order_below}
-use Rattle.book_seek.specs.Seek.{early, none, order_past, place_in, placed, stopped}
-use Rattle.book_seek.proofs.Order.{shares_both, shares_less, shares_more}
+use Rattle.book_seek.specs.Seek.{Compares, Meets, Next, Ordered, Seeking, Stands, before, early, none, place_in, placed, stopped}
+use Rattle.book_seek.proofs.Sharing.{shares_both, shares_less, shares_more}
+use Rattle.book_seek.specs.declared.Order.{Order}
+use Rattle.book_seek.specs.declared.Order.TheVariants.{Begun, Below, Past}
 use Rattle.book_seek.specs.declared.Seek.{Seek}
 
 -- comparing
 module _ (key : List ℕ) (kept : ℕ) (rest : List ℕ) (shared : ℕ) where
-  pub keeps_more : shared < kept → Compares key kept rest shared order_below shared
+  pub keeps_more : shared < kept → Compares key kept rest shared Below shared
   keeps_more h prev w m =
       let q = shares_more prev w key (omega (arith, m.keeps, m.shares)) in
       record {
-        few = omega arith;
         shares = m.shares ∙ sym q.0;
         under = λ z. q.1 ∙ m.under h;
-        begun = λ z. absurd (omega arith);
-        over = λ z. absurd (omega arith);
+        begun = λ z. absurd (cc);
+        over = λ z. absurd (cc);
       }
 
-  pub keeps_less : kept < shared → Compares key kept rest shared order_past kept
+  pub keeps_less : kept < shared → Compares key kept rest shared Past kept
   keeps_less h prev w m =
       let q = shares_less prev w key (omega (arith, m.keeps, m.shares)) m.above in
       record {
-        few = omega arith;
         shares = m.keeps ∙ sym q.0;
-        under = λ z. absurd (omega arith);
-        begun = λ z. absurd (omega arith);
+        under = λ z. absurd (cc);
+        begun = λ z. absurd (cc);
         over = λ z. (q.1, q.2);
       }
 
@@ -59,39 +58,21 @@ module _ (key : List ℕ) (kept : ℕ) (rest : List ℕ) (shared : ℕ) where
         let r : rest ≡ drop shared w = m.goes_on ∙ ap (λ k. drop k w) h in
         rw (e, r) (sym q.0, q.1, q.2)
 
-    pub keeps_begun : begins (drop shared key) rest ≡ true → Compares key kept rest shared order_begun (shared + c)
-    keeps_begun b prev w m =
+    pub keeps_even :
+        (order : Order) → Ordered rest (drop shared key) order → Compares key kept rest shared order (shared + c)
+    keeps_even Begun b prev w m =
+        let q = both prev w m in
+        record { shares = q.0; under = λ z. absurd (cc); begun = λ z. q.2 ∙ b; over = λ z. absurd (cc) }
+    keeps_even Below b prev w m =
+        let q = both prev w m in
+        record { shares = q.0; under = λ z. q.1 ∙ b; begun = λ z. absurd (cc); over = λ z. absurd (cc) }
+    keeps_even Past b prev w m =
         let q = both prev w m in
         record {
-          few = omega arith;
           shares = q.0;
-          under = λ z. absurd (omega arith);
-          begun = λ z. q.2 ∙ b;
-          over = λ z. absurd (omega arith);
-        }
-
-    pub keeps_under : below rest (drop shared key) ≡ true → Compares key kept rest shared order_below (shared + c)
-    keeps_under b prev w m =
-        let q = both prev w m in
-        record {
-          few = omega arith;
-          shares = q.0;
-          under = λ z. q.1 ∙ b;
-          begun = λ z. absurd (omega arith);
-          over = λ z. absurd (omega arith);
-        }
-
-    pub keeps_over :
-        begins (drop shared key) rest ≡ false → below rest (drop shared key) ≡ false
-        → Compares key kept rest shared order_past (shared + c)
-    keeps_over a b prev w m =
-        let q = both prev w m in
-        record {
-          few = omega arith;
-          shares = q.0;
-          under = λ z. absurd (omega arith);
-          begun = λ z. absurd (omega arith);
-          over = λ z. (q.1 ∙ b, q.2 ∙ a);
+          under = λ z. absurd (cc);
+          begun = λ z. absurd (cc);
+          over = λ z. (q.1 ∙ b.0, q.2 ∙ b.1);
         }
 
 -- lists of names with one more
@@ -183,18 +164,17 @@ module _
 
     -- a place that was found stays
     stays :
-        0 < s.order → below w key ≡ false → (r : Seek) → r.place ≡ s.place → r.at ≡ s.at → r.below ≡ s.below
+        (s.order ≡ Below → ⊥) → below w key ≡ false → (r : Seek) → r.place ≡ s.place → r.at ≡ s.at → r.below ≡ s.below
         → r.above ≡ s.above → r.same ≡ s.same
-        → r.order ≤ 2 → 0 < r.order → r.past ≡ place_in true key ws
-        → (r.order ≡ order_begun → begins key w ≡ true) → (r.order ≡ order_past → begins key w ≡ false)
+        → (r.order ≡ Below → ⊥) → r.past ≡ place_in true key ws
+        → (r.order ≡ Begun → begins key w ≡ true) → (r.order ≡ Past → begins key w ≡ false)
         → Seeking key start ws r
-    stays f b r pl ix lf rt eq few pos past one two =
+    stays f b r pl ix lf rt eq pos past one two =
         let here = g.some f in
         let m = more in
         let k : take s.place ws ≡ take s.place vs = take-append-le s.place vs (w ∷ []) (omega arith) in
         let d : get_or ws s.place [] ≡ get_or vs s.place [] = get-front vs (w ∷ []) s.place here in
         record {
-          few = few;
           place = pl ∙ g.place ∙ sym (counted false {b = false} (rw b) ∙ add-zero (place_in false key vs));
           past = past;
           index = ix ∙ g.index ∙ rw (pl, k);
@@ -202,31 +182,30 @@ module _
           right = λ z. rt ∙ g.right here ∙ rw (pl, d);
           equal = λ z. eq ∙ g.equal here ∙ rw (pl, d);
           none = λ z. absurd (omega arith);
-          whole = λ z. absurd (omega arith);
-          under = λ z. absurd (omega arith);
+          whole = λ z. absurd (pos z);
+          under = λ z. absurd (pos z);
           some = λ z. omega arith;
           begun = λ z. rw last (one z);
           over = λ z. rw last (b, two z);
         }
 
     -- the last name is past the key: this one is too
-    pub still_over : s.order ≡ order_past → Seeking key start ws s
+    pub still_over : s.order ≡ Past → Seeking key start ws s
     still_over o =
         let q = g.over o in
         let b = not_under (last_or [] vs) w key n.above q.0 in
         let c = not_begun (last_or [] vs) w key n.above q.0 q.1 in
-        stays (omega arith) b s refl refl refl refl refl (omega arith)
-        (omega arith)
+        stays (λ z. absurd (cc)) b s refl refl refl refl refl (λ z. absurd (cc))
         (g.past ∙ sym (counted true {b = false} (rw (b, c)) ∙ add-zero (place_in true key vs)))
-        (λ z. absurd (omega arith)) (λ z. c)
+        (λ z. absurd (cc)) (λ z. c)
 
     -- the key begins the last name: this one too where it keeps all of the key
-    module _ (o : s.order ≡ order_begun) where
+    module _ (o : s.order ≡ Begun) where
       not_below : below w key ≡ false
       not_below = not_under (last_or [] vs) w key n.above (begun_not_below key (last_or [] vs) (g.begun o))
 
       pub begun_no_more :
-          kept < length key → (r : Seek) → r ≡ placed s order_past s.past → Seeking key start ws r
+          kept < length key → (r : Seek) → r ≡ placed s Past s.past → Seeking key start ws r
       begun_no_more h r e =
           let c : begins key w ≡ false =
           by_test (begins key w)
@@ -234,25 +213,23 @@ module _
           (λ t. t)
           in
           rw e
-          (stays (omega arith) not_below (placed s order_past s.past) refl refl refl refl refl (omega arith)
-          (omega arith)
+          (stays (λ z. absurd (cc)) not_below (placed s Past s.past) refl refl refl refl refl (λ z. absurd (cc))
           (g.past ∙ sym (counted true {b = false} (rw (not_below, c)) ∙ add-zero (place_in true key vs)))
-          (λ z. absurd (omega arith)) (λ z. c))
+          (λ z. absurd (cc)) (λ z. c))
 
       pub begun_still :
-          length key ≤ kept → (r : Seek) → r ≡ placed s order_begun (s.past + 1) → Seeking key start ws r
+          length key ≤ kept → (r : Seek) → r ≡ placed s Begun (s.past + 1) → Seeking key start ws r
       begun_still h r e =
           let c = begun_on key (last_or [] vs) w (g.begun o) (omega (arith, n.keeps)) in
           let p = g.past in
           let q = counted true {b = true} (rw (not_below, c)) in
           rw e
-          (stays (omega arith) not_below (placed s order_begun (s.past + 1)) refl refl refl refl refl (omega arith)
+          (stays (λ z. absurd (cc)) not_below (placed s Begun (s.past + 1)) refl refl refl refl refl (λ z. absurd (cc))
           (omega arith)
-          (omega arith)
-          (λ z. c) (λ z. absurd (omega arith)))
+          (λ z. c) (λ z. absurd (cc)))
 
     -- all names so far are below the key
-    module _ (o : s.order ≡ order_below) where
+    module _ (o : s.order ≡ Below) where
       all-names : take s.place vs ≡ vs
       all-names = rw (g.whole o) (take-length vs)
 
@@ -271,10 +248,10 @@ module _
               absurd (let k = n.keeps in let z : common (last_or [] vs) w ≡ 0 = rw (← e) in omega arith)
           under_last (u ∷ us) e h = g.under o (let l = ap length e in omega arith)
 
-      module _ {order shared : ℕ} (c : Stands w key order shared) where
+      module _ {order : Order} {shared : ℕ} (c : Stands w key order shared) where
         -- this one is below it too
         pub found_under_lem :
-            order ≡ order_below → s.past ≡ s.place → (r : Seek) → r ≡ early (s.place + 1) end shared
+            order ≡ Below → s.past ≡ s.place → (r : Seek) → r ≡ early (s.place + 1) end shared
             → Seeking key start ws r
         found_under_lem z y r e =
             let b = c.under z in
@@ -295,7 +272,6 @@ module _
             let pa = g.past in
             rw e
             (record {
-              few = omega arith;
               place = omega arith;
               past = omega arith;
               index = rw (k, n.to, n.from, i) (omega arith);
@@ -305,14 +281,14 @@ module _
               none = λ q. refl;
               whole = λ q. omega arith;
               under = λ q l. rw last b;
-              some = λ q. absurd (omega arith);
-              begun = λ q. absurd (omega arith);
-              over = λ q. absurd (omega arith);
+              some = λ q. absurd (q refl);
+              begun = λ q. absurd (cc);
+              over = λ q. absurd (cc);
             })
 
         -- this one is not: its place is found
         found :
-            0 < order → below w key ≡ false → (past : ℕ) → past ≡ place_in true key ws → (eq : Bool) → eq ≡ same w key
+            (order ≡ Below → ⊥) → below w key ≡ false → (past : ℕ) → past ≡ place_in true key ws → (eq : Bool) → eq ≡ same w key
             → (r : Seek) → r ≡ stopped s at order past shared eq → Seeking key start ws r
         found pos b past pa eq q r e =
             let m = more in
@@ -321,7 +297,6 @@ module _
             let d : get_or ws s.place [] ≡ w = rw p (get_or-append_seam vs w [] []) in
             rw e
             (record {
-              few = c.few;
               place = g.place ∙ sym (counted false {b = false} (rw b) ∙ add-zero (place_in false key vs));
               past = pa;
               index = n.from ∙ rw k;
@@ -329,8 +304,8 @@ module _
               right = λ z. c.shares ∙ rw d;
               equal = λ z. q ∙ rw d;
               none = λ z. absurd (omega arith);
-              whole = λ z. absurd (omega arith);
-              under = λ z. absurd (omega arith);
+              whole = λ z. absurd (pos z);
+              under = λ z. absurd (pos z);
               some = λ z. omega arith;
               begun = λ z. rw last (c.begun z);
               over = λ z. rw last (c.over z);
@@ -344,15 +319,15 @@ module _
             rw n.goes_on (omega arith)
 
         pub found_begun :
-            order ≡ order_begun → (r : Seek)
-            → r ≡ stopped s at order_begun (s.past + 1) shared (eqb (kept + length rest) (length key))
+            order ≡ Begun → (r : Seek)
+            → r ≡ stopped s at Begun (s.past + 1) shared (eqb (kept + length rest) (length key))
             → Seeking key start ws r
         found_begun z r e =
             let b = c.begun z in
             let u = begun_not_below key w b in
             let p = g.past in
             let t = counted true {b = true} (rw (u, b)) in
-            found (omega arith) u (s.past + 1) (omega arith) (eqb (kept + length rest) (length key)) is_same r (rw z e)
+            found (λ q. absurd (cc)) u (s.past + 1) (omega arith) (eqb (kept + length rest) (length key)) is_same r (rw z e)
           where
             is_same : eqb (kept + length rest) (length key) ≡ same w key
             is_same =
@@ -365,13 +340,13 @@ module _
                 (λ t. rw t (sym (same_apart w key (eqb-false (length w) (length key) t)))))
 
         pub found_over :
-            order ≡ order_past → (r : Seek)
-            → r ≡ stopped s at order_past s.past shared false → Seeking key start ws r
+            order ≡ Past → (r : Seek)
+            → r ≡ stopped s at Past s.past shared false → Seeking key start ws r
         found_over z r e =
             let b = c.over z in
             let p = g.past in
             let t = counted true {b = false} (rw (b.0, b.1)) in
-            found (omega arith) b.0 s.past (omega arith) false (not_same b.1) r (rw z e)
+            found (λ q. absurd (cc)) b.0 s.past (omega arith) false (not_same b.1) r (rw z e)
           where
             not_same : begins key w ≡ false → false ≡ same w key
             not_same h =
@@ -384,7 +359,6 @@ pub seeking_start : (key : List ℕ) (start : ℕ) → Seeking key start [] (non
 unfolding place_in
 seeking_start key start =
     record {
-      few = omega arith;
       place = refl;
       past = refl;
       index = sym (add-zero start);
@@ -394,14 +368,14 @@ seeking_start key start =
       none = λ h. refl;
       whole = λ h. refl;
       under = λ h l. absurd (omega arith);
-      some = λ h. absurd (omega arith);
-      begun = λ h. absurd (omega arith);
-      over = λ h. absurd (omega arith);
+      some = λ h. absurd (h refl);
+      begun = λ h. absurd (cc);
+      over = λ h. absurd (cc);
     }
 
 -- once a name is past the key, a name above it changes nothing
 pub over_more :
-    (key : List ℕ) (start : ℕ) (vs : List (List ℕ)) (s : Seek) → Seeking key start vs s → s.order ≡ order_past
+    (key : List ℕ) (start : ℕ) (vs : List (List ℕ)) (s : Seek) → Seeking key start vs s → s.order ≡ Past
     → (w : List ℕ) → below (last_or [] vs) w ≡ true
     → Seeking key start (vs ++ (w ∷ [])) s
 over_more key start vs s g o w b =

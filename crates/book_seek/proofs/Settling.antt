@@ -3,50 +3,34 @@ use Prim.Native.Nat.{◌+◌, ◌<◌, ◌≤◌, ℕ}
 use mathlib.Core.Path.{◌≡◌, ap, refl}
 use mathlib.Core.Bool.{false}
 use mathlib.Core.List.{List, []}
-use lib.Dec.{eqb, ltb}
+use lib.Dec.{eqb}
 use lib.ListN.{length}
-use native.Mathlib.Omega.{arith}
-use borrow.Author.Tests.{ltb-false, ltb-true, ne_eqb}
-use Rattle.octets.proofs.Tests.{by_test}
 use Rattle.book.specs.Records.{last_or}
-use Rattle.book_seek.specs.Seek.{Compares, GoesOn, Next, Seeking, Stands, early, order_begun, order_below}
-use Rattle.book_seek.specs.Seek.{order_past, placed, settled, settled_by, stopped}
+use Rattle.book_seek.specs.Seek.{Compares, GoesOn, Next, Seeking, Stands, early, placed, settled, settled_by, stopped}
 use Rattle.book_seek.proofs.Seeking.{begun_no_more, begun_still, found_begun, found_over, found_under_lem}
 use Rattle.book_seek.proofs.Seeking.{keeps_more, meets, still_over}
+use Rattle.book_seek.specs.declared.Order.{Order}
+use Rattle.book_seek.specs.declared.Order.TheVariants.{Begun, Below, Past}
 use Rattle.book_seek.specs.declared.Seek.{Seek}
-
--- a number up to 2 that is neither 0 nor 1
-pub only_two : (x : ℕ) → x ≤ 2 → (x ≡ 0 → ⊥) → (x ≡ 1 → ⊥) → x ≡ 2
-only_two x h a b =
-    by_test (ltb x 1)
-    (λ t. let z = ltb-true x 1 t in absurd (a (omega arith)))
-    (λ t.
-    let z = ltb-false x 1 t in
-    by_test (ltb x 2)
-    (λ u. let y = ltb-true x 2 u in absurd (b (omega arith)))
-    (λ u. let y = ltb-false x 2 u in omega arith))
 
 -- the three forms of what is kept
 module _ (s : Seek) (i at : ℕ) where
-  pub settled-early : s.order ≡ order_below → settled s i at ≡ early i at s.below
+  pub settled-early : s.order ≡ Below → settled s i at ≡ early i at s.below
   unfolding settled
   settled-early o = ap (λ x. settled_by x s i at) o
 
   pub settled-begun :
-      s.order ≡ order_begun → settled s i at ≡ placed s order_begun i
+      s.order ≡ Begun → settled s i at ≡ placed s Begun i
   unfolding settled
   settled-begun o = ap (λ x. settled_by x s i at) o
 
-  pub settled_late : (s.order ≡ order_below → ⊥) → (s.order ≡ order_begun → ⊥) → settled s i at ≡ s
+  pub settled-past : s.order ≡ Past → settled s i at ≡ s
   unfolding settled
-  settled_late a b = rw (ne_eqb s.order 0 a, ne_eqb s.order 1 b)
-
-  pub settled-two : s.order ≡ order_past → settled s i at ≡ s
-  settled-two o = settled_late (λ z. omega arith) (λ z. omega arith)
+  settled-past o = ap (λ x. settled_by x s i at) o
 
 module _ (key : List ℕ) (i at end kept : ℕ) (rest : List ℕ) where
   -- all names so far are below the key
-  module _ (b : ℕ) {order shared : ℕ} (c : Compares key kept rest b order shared) where
+  module _ (b : ℕ) {order : Order} {shared : ℕ} (c : Compares key kept rest b order shared) where
     stood :
         (start : ℕ) (vs : List (List ℕ)) (w : List ℕ) → Seeking key start vs (early i at b)
         → Next start vs w at end kept rest
@@ -54,7 +38,7 @@ module _ (key : List ℕ) (i at end kept : ℕ) (rest : List ℕ) where
     stood start vs w g n = c (last_or [] vs) w (meets key start vs (early i at b) g w at end kept rest n refl)
 
     pub met_under :
-        order ≡ order_below → (r : Seek) → r ≡ early (i + 1) end shared
+        order ≡ Below → (r : Seek) → r ≡ early (i + 1) end shared
         → GoesOn key (early i at b) at end kept rest (settled r (i + 1) end)
     met_under z r e =
         let r' : Seek = early (i + 1) end shared in
@@ -64,31 +48,30 @@ module _ (key : List ℕ) (i at end kept : ℕ) (rest : List ℕ) where
         found_under_lem key start vs (early i at b) g w at end kept rest n refl (stood start vs w g n) z refl _ refl)
 
     pub met_begun :
-        order ≡ order_begun → (r : Seek)
-        → r ≡ stopped (early i at b) at order_begun (i + 1) shared (eqb (kept + length rest) (length key))
+        order ≡ Begun → (r : Seek)
+        → r ≡ stopped (early i at b) at Begun (i + 1) shared (eqb (kept + length rest) (length key))
         → GoesOn key (early i at b) at end kept rest (settled r (i + 1) end)
     met_begun z r e =
-        let r' : Seek = stopped (early i at b) at order_begun (i + 1) shared (eqb (kept + length rest) (length key)) in
+        let r' : Seek = stopped (early i at b) at Begun (i + 1) shared (eqb (kept + length rest) (length key)) in
         let q : settled r (i + 1) end ≡ r' = rw e (settled-begun r' (i + 1) end refl) in
         rw q
         (λ start vs w g n.
         found_begun key start vs (early i at b) g w at end kept rest n refl (stood start vs w g n) z _ refl)
 
     pub met_over :
-        (order ≡ order_below → ⊥) → (order ≡ order_begun → ⊥) → (r : Seek)
-        → r ≡ stopped (early i at b) at order_past i shared false
+        order ≡ Past → (r : Seek)
+        → r ≡ stopped (early i at b) at Past i shared false
         → GoesOn key (early i at b) at end kept rest (settled r (i + 1) end)
-    met_over x y r e =
-        let r' : Seek = stopped (early i at b) at order_past i shared false in
-        let q : settled r (i + 1) end ≡ r' = rw e (settled-two r' (i + 1) end refl) in
+    met_over z r e =
+        let r' : Seek = stopped (early i at b) at Past i shared false in
+        let q : settled r (i + 1) end ≡ r' = rw e (settled-past r' (i + 1) end refl) in
         rw q
         (λ start vs w g n.
-        let t = stood start vs w g n in
-        found_over key start vs (early i at b) g w at end kept rest n refl t (only_two order t.few x y) _ refl)
+        found_over key start vs (early i at b) g w at end kept rest n refl (stood start vs w g n) z _ refl)
 
   module _ (s : Seek) where
     pub pass_under :
-        s.order ≡ order_below → s.below < kept
+        s.order ≡ Below → s.below < kept
         → GoesOn key (settled s i at) at end kept rest (settled s (i + 1) end)
     pass_under o h =
         rw (settled-early s i at o, settled-early s (i + 1) end o)
@@ -98,17 +81,17 @@ module _ (key : List ℕ) (i at end kept : ℕ) (rest : List ℕ) where
 
     -- the key begins the last one
     pub pass_no_more :
-        s.order ≡ order_begun → kept < length key → (r : Seek)
-        → r ≡ placed s order_past i
+        s.order ≡ Begun → kept < length key → (r : Seek)
+        → r ≡ placed s Past i
         → GoesOn key (settled s i at) at end kept rest (settled r (i + 1) end)
     pass_no_more o h r e =
-        let r' : Seek = placed s order_past i in
-        let q : settled r (i + 1) end ≡ r' = rw e (settled-two r' (i + 1) end refl) in
+        let r' : Seek = placed s Past i in
+        let q : settled r (i + 1) end ≡ r' = rw e (settled-past r' (i + 1) end refl) in
         rw (settled-begun s i at o, q)
         (λ start vs w g n. begun_no_more key start vs _ g w at end kept rest n refl h _ refl)
 
     pub pass_still :
-        s.order ≡ order_begun → length key ≤ kept
+        s.order ≡ Begun → length key ≤ kept
         → GoesOn key (settled s i at) at end kept rest (settled s (i + 1) end)
     pass_still o h =
         rw (settled-begun s i at o, settled-begun s (i + 1) end o)
@@ -116,8 +99,7 @@ module _ (key : List ℕ) (i at end kept : ℕ) (rest : List ℕ) where
 
     -- the last one is past it
     pub pass_over :
-        (s.order ≡ order_below → ⊥) → (s.order ≡ order_begun → ⊥)
-        → GoesOn key (settled s i at) at end kept rest (settled s (i + 1) end)
-    pass_over a b =
-        rw (settled_late s i at a b, settled_late s (i + 1) end a b)
-        (λ start vs w g n. still_over key start vs s g w at end kept rest n (only_two s.order g.few a b))
+        s.order ≡ Past → GoesOn key (settled s i at) at end kept rest (settled s (i + 1) end)
+    pass_over o =
+        rw (settled-past s i at o, settled-past s (i + 1) end o)
+        (λ start vs w g n. still_over key start vs s g w at end kept rest n o)

@@ -1,19 +1,11 @@
 -- The place of a key among names, and what is known of it while their records are read. No record is a bucket's head.
-use Rattle.std.specs.Prelude.{◌+◌, ◌<◌, ◌≤◌, ℕ, ◌≡◌, Bool, ◌&&◌, ◌||◌, false, true, List, [], ◌++◌, ◌∷◌, eqb, drop, get_or, length, take}
-use Rattle.octets.specs.Lists.{if◌then◌otherwise◌, keep}
+use Rattle.std.specs.Prelude.{◌+◌, ◌<◌, ◌≤◌, ℕ, ◌≡◌, ◌≢◌, Bool, ◌&&◌, ◌||◌, false, true, List, [], ◌++◌, ◌∷◌, drop, get_or, length, take}
+use Rattle.octets.specs.Lists.{keep}
 use Rattle.octets.specs.Octets.{begins, below, common, same}
 use Rattle.book.specs.Records.{last_or, record_of, records}
+use Rattle.book_seek.specs.declared.Order.{Order}
+use Rattle.book_seek.specs.declared.Order.TheVariants.{Begun, Below, Past}
 use Rattle.book_seek.specs.declared.Seek.{Seek}
-
--- how a name stands to a key: it is below it, it is begun by it, or it is neither
-abbrev pub order_below : ℕ
-order_below = 0
-
-abbrev pub order_begun : ℕ
-order_begun = 1
-
-abbrev pub order_past : ℕ
-order_past = 2
 
 -- the name is below the key or, with `past`, begun by it; how many names are
 abbrev pub before : Bool → List ℕ → List ℕ → Bool
@@ -22,13 +14,18 @@ before past key w = below w key || (past && begins key w)
 unfoldable pub place_in : Bool → List ℕ → List (List ℕ) → ℕ
 place_in past key ws = length (keep (before past key) ws)
 
+-- how a list of bytes stands to another
+abbrev pub Ordered : List ℕ → List ℕ → Order → Type 0
+Ordered w key Below = below w key ≡ true
+Ordered w key Begun = begins key w ≡ true
+Ordered w key Past = (below w key ≡ false) × (begins key w ≡ false)
+
 -- how the name w stands to the key, and how many bytes they share
-pub record Stands (w key : List ℕ) (order shared : ℕ) : Type 0 where
-  pub few : order ≤ order_past
+pub record Stands (w key : List ℕ) (order : Order) (shared : ℕ) : Type 0 where
   pub shares : shared ≡ common w key
-  pub under : order ≡ order_below → below w key ≡ true
-  pub begun : order ≡ order_begun → begins key w ≡ true
-  pub over : order ≡ order_past → (below w key ≡ false) × (begins key w ≡ false)
+  pub under : order ≡ Below → below w key ≡ true
+  pub begun : order ≡ Begun → begins key w ≡ true
+  pub over : order ≡ Past → (below w key ≡ false) × (begins key w ≡ false)
 
 -- the name w stands behind the name prev, which is below the key or none, and goes on with `rest` behind the bytes that
 -- it keeps of it
@@ -41,7 +38,6 @@ pub record Meets (prev w key : List ℕ) (kept : ℕ) (rest : List ℕ) (shared 
 
 -- what is known of the key among the names vs, whose records begin at index `start`
 pub record Seeking (key : List ℕ) (start : ℕ) (vs : List (List ℕ)) (s : Seek) : Type 0 where
-  pub few : s.order ≤ order_past
   pub place : s.place ≡ place_in false key vs
   pub past : s.past ≡ place_in true key vs
   pub index : s.at ≡ start + length (records false 0 [] (take s.place vs))
@@ -49,11 +45,11 @@ pub record Seeking (key : List ℕ) (start : ℕ) (vs : List (List ℕ)) (s : Se
   pub right : s.place < length vs → s.above ≡ common (get_or vs s.place []) key
   pub equal : s.place < length vs → s.same ≡ same (get_or vs s.place []) key
   pub none : length vs ≤ s.place → s.same ≡ false
-  pub whole : s.order ≡ order_below → s.place ≡ length vs
-  pub under : s.order ≡ order_below → 0 < length vs → below (last_or [] vs) key ≡ true
-  pub some : 0 < s.order → s.place < length vs
-  pub begun : s.order ≡ order_begun → begins key (last_or [] vs) ≡ true
-  pub over : s.order ≡ order_past → (below (last_or [] vs) key ≡ false) × (begins key (last_or [] vs) ≡ false)
+  pub whole : s.order ≡ Below → s.place ≡ length vs
+  pub under : s.order ≡ Below → 0 < length vs → below (last_or [] vs) key ≡ true
+  pub some : s.order ≢ Below → s.place < length vs
+  pub begun : s.order ≡ Begun → begins key (last_or [] vs) ≡ true
+  pub over : s.order ≡ Past → (below (last_or [] vs) key ≡ false) × (begins key (last_or [] vs) ≡ false)
 
 -- the name w comes behind vs: its record stands from index `at` to before `end`
 pub record Next (start : ℕ) (vs : List (List ℕ)) (w : List ℕ) (at end kept : ℕ) (rest : List ℕ) : Type 0 where
@@ -64,7 +60,7 @@ pub record Next (start : ℕ) (vs : List (List ℕ)) (w : List ℕ) (at end kept
   pub to : end ≡ at + length (record_of false (length vs) (last_or [] vs) w)
 
 -- what comparing gives, for every name that stands so; and what one more name gives, whatever names were before it
-abbrev pub Compares : List ℕ → ℕ → List ℕ → ℕ → ℕ → ℕ → Type 0
+abbrev pub Compares : List ℕ → ℕ → List ℕ → ℕ → Order → ℕ → Type 0
 Compares key kept rest shared order all =
     (prev w : List ℕ) → Meets prev w key kept rest shared → Stands w key order all
 
@@ -75,17 +71,17 @@ GoesOn key s at end kept rest r =
 
 -- before the first name, whose record begins at index `at`
 abbrev pub none : ℕ → Seek
-none at = record { order = order_below; place = 0; past = 0; at = at; below = 0; above = 0; same = false }
+none at = record { order = Below; place = 0; past = 0; at = at; below = 0; above = 0; same = false }
 
 -- before the record at position i and index `at`, where all names so far are below the key and the last shares so many
 -- bytes with it
 abbrev pub early : ℕ → ℕ → ℕ → Seek
 early i at below =
-    record { order = order_below; place = i; past = i; at = at; below = below; above = 0; same = false }
+    record { order = Below; place = i; past = i; at = at; below = below; above = 0; same = false }
 
 -- the name of the record at index `at` is the first that is not below the key: how it stands to it, where the names end
 -- that the key begins, how many bytes the two share, and whether they are the same
-abbrev pub stopped : Seek → ℕ → ℕ → ℕ → ℕ → Bool → Seek
+abbrev pub stopped : Seek → ℕ → Order → ℕ → ℕ → Bool → Seek
 stopped s at order past shared equal = record {
   order = order;
   place = s.place;
@@ -97,7 +93,7 @@ stopped s at order past shared equal = record {
 }
 
 -- the same place, with another order of the last name and another end
-abbrev pub placed : Seek → ℕ → ℕ → Seek
+abbrev pub placed : Seek → Order → ℕ → Seek
 placed s order past = record {
   order = order;
   place = s.place;
@@ -110,11 +106,10 @@ placed s order past = record {
 
 -- What a loop keeps of the search, with what the position and the index of the next record tell: while all names are
 -- below the key, its place; while the key begins the last one, how many it begins.
-abbrev pub settled_by : ℕ → Seek → ℕ → ℕ → Seek
-settled_by order s i at =
-    if eqb order order_below
-    then early i at s.below
-    otherwise (if eqb order order_begun then placed s order_begun i otherwise s)
+abbrev pub settled_by : Order → Seek → ℕ → ℕ → Seek
+settled_by Below s i at = early i at s.below
+settled_by Begun s i at = placed s Begun i
+settled_by Past s i at = s
 
 unfoldable pub settled : Seek → ℕ → ℕ → Seek
 settled s i at = settled_by s.order s i at

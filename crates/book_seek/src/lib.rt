@@ -5,20 +5,21 @@
 ghost use Rattle.std.specs.Prelude.{◌≡◌, ◌+◌, ◌≤◌, length};
 ghost use Rattle.entries.specs.Entries.{max_entries};
 ghost use Rattle.entries.specs.Names.{longest_name};
-ghost use Rattle.book_seek.specs.Seek.{Compares, GoesOn, Quiet, early, none, settled};
+ghost use Rattle.octets.specs.Octets.{common};
+ghost use Rattle.book_seek.specs.Seek.{Compares, GoesOn, Ordered, Quiet, early, none, settled};
 
-// How a name stands to a key: it is below it, it is begun by it, or it is neither and so past it: `order_below`,
-// `order_begun`, `order_past` in the definitions.
-pub const BELOW: u8 = 0;
-
-pub const BEGUN: u8 = 1;
-
-pub const PAST: u8 = 2;
+// How a name stands to a key: it is below it, it is begun by it, or it is neither and so past it.
+#[derive(Clone, Copy, PartialEq, Eq)]
+pub enum Order {
+    Below,
+    Begun,
+    Past,
+}
 
 // How a name stands to a key, and how many bytes they share.
 #[derive(Clone, Copy)]
 pub struct Compared {
-    pub order: u8,
+    pub order: Order,
     pub shared: usize,
 }
 
@@ -35,8 +36,8 @@ pub struct Record {
 // Where a key stands among the names read so far.
 #[derive(Clone, Copy)]
 pub struct Seek {
-    // How the last name stands to the key; BELOW before the first.
-    pub order: u8,
+    // How the last name stands to the key; below it before the first.
+    pub order: Order,
     // How many names are below the key, and how many are below it or begun by it.
     pub place: usize,
     pub past: usize,
@@ -49,6 +50,25 @@ pub struct Seek {
     pub same: bool,
 }
 
+// How a rest stands to what is left of the key, with which it shares so many bytes and no more: the next bytes decide,
+// so that both are looked through once.
+fn order_of(rest: &[u8], tail: &[u8], more: usize) -> Order
+    requires { more ≡ common rest.now tail.now }
+    ensures { Ordered rest.now tail.now result }
+{
+    if tail.len() <= more {
+        return Order::Begun;
+    }
+    if rest.len() <= more {
+        return Order::Below;
+    }
+    if rest[more] < tail[more] {
+        Order::Below
+    } else {
+        Order::Past
+    }
+}
+
 // How a name stands to a key, where the name before is below the key and shares that many bytes with it: the name keeps
 // so many bytes of the name before and goes on with the rest.
 fn compare(kept: usize, rest: &[u8], key: &[u8], shared: usize) -> Compared
@@ -58,33 +78,21 @@ fn compare(kept: usize, rest: &[u8], key: &[u8], shared: usize) -> Compared
 {
     if shared < kept {
         return Compared {
-            order: BELOW,
+            order: Order::Below,
             shared: shared,
         };
     }
     if kept < shared {
         return Compared {
-            order: PAST,
+            order: Order::Past,
             shared: kept,
         };
     }
     let tail = &key[shared..];
-    let all = shared + octets_code::common_prefix(rest, tail);
-    if octets_code::starts_with(rest, tail) {
-        return Compared {
-            order: BEGUN,
-            shared: all,
-        };
-    }
-    if octets_code::is_below(rest, tail) {
-        return Compared {
-            order: BELOW,
-            shared: all,
-        };
-    }
+    let more = octets_code::common_prefix(rest, tail);
     Compared {
-        order: PAST,
-        shared: all,
+        order: order_of(rest, tail, more),
+        shared: shared + more,
     }
 }
 
@@ -92,15 +100,7 @@ fn compare(kept: usize, rest: &[u8], key: &[u8], shared: usize) -> Compared
 pub fn begin(at: usize) -> Seek
     ensures { result ≡ none at }
 {
-    Seek {
-        order: BELOW,
-        place: 0,
-        past: 0,
-        at: at,
-        below: 0,
-        above: 0,
-        same: false,
-    }
+    early(0, at, 0)
 }
 
 // Before the record at a position and an index, where all names so far are below the key and the last shares so many
@@ -109,7 +109,7 @@ fn early(index: usize, at: usize, below: usize) -> Seek
     ensures { result ≡ early index at below }
 {
     Seek {
-        order: BELOW,
+        order: Order::Below,
         place: index,
         past: index,
         at: at,
@@ -128,29 +128,26 @@ fn meet(below: usize, p: Record, rest: &[u8], key: &[u8]) -> Seek
 {
     let c = compare(p.kept, rest, key, below);
     let next = p.index + 1;
-    if c.order == BELOW {
-        return early(next, p.end, c.shared);
-    }
-    if c.order == BEGUN {
-        let all = p.kept + rest.len();
-        return Seek {
-            order: BEGUN,
+    match c.order {
+        Order::Below => early(next, p.end, c.shared),
+        Order::Begun => Seek {
+            order: Order::Begun,
             place: p.index,
             past: next,
             at: p.at,
             below: below,
             above: c.shared,
-            same: all == key.len(),
-        };
-    }
-    Seek {
-        order: PAST,
-        place: p.index,
-        past: p.index,
-        at: p.at,
-        below: below,
-        above: c.shared,
-        same: false,
+            same: p.kept + rest.len() == key.len(),
+        },
+        Order::Past => Seek {
+            order: Order::Past,
+            place: p.index,
+            past: p.index,
+            at: p.at,
+            below: below,
+            above: c.shared,
+            same: false,
+        },
     }
 }
 
@@ -162,37 +159,36 @@ pub fn pass(s: Seek, p: Record, rest: &[u8], key: &[u8]) -> Seek
     ensures { GoesOn key.now (settled s p.index p.at) p.at p.end p.kept
         rest.now (settled result (p.index + 1) p.end) × (result.below ≤ length key.now) }
 {
-    if s.order == BELOW {
-        if s.below < p.kept {
-            return s;
+    match s.order {
+        Order::Below => {
+            if s.below < p.kept {
+                return s;
+            }
+            meet(s.below, p, rest, key)
         }
-        return meet(s.below, p, rest, key);
-    }
-    if s.order == BEGUN {
-        if p.kept < key.len() {
-            let mut t = s;
-            t.order = PAST;
-            t.past = p.index;
-            return t;
+        Order::Begun => {
+            if p.kept < key.len() {
+                return Seek {
+                    order: Order::Past,
+                    past: p.index,
+                    ..s
+                };
+            }
+            s
         }
-        return s;
+        Order::Past => s,
     }
-    s
 }
 
 // Where the key stands before the record at a position and an index, of what a loop keeps.
 pub fn settle(s: Seek, index: usize, at: usize) -> Seek
     ensures { result ≡ settled s index at }
 {
-    if s.order == BELOW {
-        return early(index, at, s.below);
+    match s.order {
+        Order::Below => early(index, at, s.below),
+        Order::Begun => Seek { past: index, ..s },
+        Order::Past => s,
     }
-    if s.order == BEGUN {
-        let mut t = s;
-        t.past = index;
-        return t;
-    }
-    s
 }
 
 // A record that keeps so many bytes of the name before, or more, changes nothing that is kept of the search.
@@ -200,11 +196,9 @@ pub fn limit(s: Seek, key: &[u8]) -> usize
     requires { s.below ≤ length key.now }
     ensures { Quiet key.now s result }
 {
-    if s.order == BELOW {
-        return s.below + 1;
+    match s.order {
+        Order::Below => s.below + 1,
+        Order::Begun => key.len(),
+        Order::Past => 0,
     }
-    if s.order == BEGUN {
-        return key.len();
-    }
-    0
 }

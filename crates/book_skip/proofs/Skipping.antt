@@ -22,10 +22,11 @@ use Rattle.book_laws.proofs.Front.{names_next, record_next}
 use Rattle.book_laws.proofs.Held.{held_stored, held-valid}
 use Rattle.book_laws.proofs.Standing.{before-below, kept_there, name_allowed, next_there, own_there, own_within}
 use Rattle.book_laws.proofs.Standing.{record_inside, rest_there}
-use Rattle.book_seek.specs.Seek.{GoesOn, Next, Quiet, Seeking, none, order_past, settled}
+use Rattle.book_seek.specs.Seek.{GoesOn, Next, Quiet, Seeking, none, settled}
+use Rattle.book_seek.specs.declared.Order.TheVariants.{Past}
 use Rattle.book_seek.specs.declared.Seek.{Seek}
 use Rattle.book_seek.proofs.Seeking.{over_more, seeking_start}
-use Rattle.book_seek.proofs.Settling.{settled-early, settled-two}
+use Rattle.book_seek.proofs.Settling.{settled-early, settled-past}
 
 -- the names before position i are passed, and its record begins at index `at`
 pub record Reached (l : Layout) (key buf : List ℕ) (start at i : ℕ) (s : Seek) : Type 0 where
@@ -175,7 +176,7 @@ module _ (l : Layout) (key buf : List ℕ) (n start : ℕ) (held : HeldIn l buf 
   reached_end {i = i} g h = rw (← from, ← whole i h) g.seeks
 
   past_on :
-      (s : Seek) → s.order ≡ order_past → (k i : ℕ) → i + k ≡ n → Seeking key start (take i (names (in_book_in l buf))) s
+      (s : Seek) → s.order ≡ Past → (k i : ℕ) → i + k ≡ n → Seeking key start (take i (names (in_book_in l buf))) s
       → Seeking key start (names (in_book_in l buf)) s
   past_on s o zero i e g = rw (whole i (omega arith)) at g
   past_on s o (suc k) i e g =
@@ -186,7 +187,7 @@ module _ (l : Layout) (key buf : List ℕ) (n start : ℕ) (held : HeldIn l buf 
       (before-below (in_book_in l buf) (held-valid held) i h)))
 
   pub reached_past :
-      {at i : ℕ} {s : Seek} → Reached l key buf start at i s → s.order ≡ order_past → i ≤ n
+      {at i : ℕ} {s : Seek} → Reached l key buf start at i s → s.order ≡ Past → i ≤ n
       → Seeking key (records_at l n) (names (in_book_in l buf)) s
   reached_past {at} {i} {s} g o h =
-      rw (← from) (past_on s o (n - i) i (omega arith) (rw (settled-two s i at o) at g.seeks))
+      rw (← from) (past_on s o (n - i) i (omega arith) (rw (settled-past s i at o) at g.seeks))

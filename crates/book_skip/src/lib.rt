@@ -9,7 +9,7 @@ ghost use Rattle.book_laws.specs.Held.{HeldIn};
 ghost use Rattle.book_seek.specs.Seek.{Seeking};
 
 use book::Layout;
-use book_seek::{PAST, Record, Seek};
+use book_seek::{Order, Record, Seek};
 use limits::HEADER_BYTES;
 
 // Where the key stands among the names of a book of n entries, in a layout without heads: the records are passed until
@@ -20,15 +20,13 @@ pub fn seek(book: &[u8], l: Layout, n: usize, key: &[u8]) -> Seek
 {
     let start = book_layout::records_at(l, n);
     let mut at = start;
-    let mut index = 0;
     let mut s = book_seek::begin(start);
     let mut limit = book_seek::limit(s, key);
-    while index < n {
+    for index in 0..n {
         let kept = book[at] as usize;
         let own = book[at + 1] as usize;
         let from = at + HEADER_BYTES;
         let end = from + own;
-        let next = index + 1;
         if kept < limit {
             let record = Record {
                 index: index,
@@ -37,13 +35,12 @@ pub fn seek(book: &[u8], l: Layout, n: usize, key: &[u8]) -> Seek
                 kept: kept,
             };
             s = book_seek::pass(s, record, &book[from..end], key);
-            if s.order == PAST {
+            if s.order == Order::Past {
                 return s;
             }
             limit = book_seek::limit(s, key);
         }
         at = end;
-        index = next;
     }
-    book_seek::settle(s, index, at)
+    book_seek::settle(s, n, at)
 }

@@ -25,7 +25,7 @@ use Rattle.book_laws.specs.Held.{Held}
 use Rattle.book_laws.proofs.Held.{held_few, held_stored, held-valid}
 use Rattle.book_read.proofs.Reading.{Given, Reading, read_start}
 use Rattle.book_table.specs.Table.{TableRoom, Unpacked, entries, row_at}
-use Rattle.book_read.specs.declared.Parts.{Parts}
+use Rattle.book_laws.specs.declared.Parts.{Parts}
 
 -- row p holds the entry at position p
 pub record Row (es : List Entry) (u m sc : List ℕ) (p : ℕ) : Type 0 where

@@ -16,11 +16,7 @@ fn put_row(names: &mut [u8], at: usize, name: &[u8])
     requires { (length name.now ≡ longest_name) × (at + longest_name ≤ length names.old) }
     ensures { names.new ≡ sets names.old at name.now }
 {
-    let mut j = 0;
-    while j < LONGEST_NAME {
-        names[at + j] = name[j];
-        j += 1;
-    }
+    names[at..at + LONGEST_NAME].copy_from_slice(name);
 }
 
 // Unpacks the n entries of a book: names into rows of 48 bytes, their lengths, their scores.
@@ -31,14 +27,12 @@ pub fn unpack(book: &[u8], n: usize, names: &mut [u8], lens: &mut [u8], scores: 
 {
     let mut name = [0; LONGEST_NAME];
     let mut at = book_layout::records_at(book_layout::today(), n);
-    let mut i = 0;
-    while i < n {
+    for i in 0..n {
         let p = book_read::read_name(book, at, BOOK_HEADS, i, &mut name);
         let len = p.kept + p.own;
         put_row(names, i * LONGEST_NAME, &name);
         lens[i] = len as u8;
         scores[i] = book_layout::score_at(book, i);
         at += p.start + p.own;
-        i += 1;
     }
 }

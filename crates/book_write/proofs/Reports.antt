@@ -12,12 +12,13 @@ use Rattle.answer.specs.Reports.{Answered}
 use Rattle.book.specs.declared.Layout.{Layout}
 use Rattle.book.specs.Book.{image_in}
 use Rattle.book_write.specs.Whole.{whole_in}
-use Rattle.answer.specs.declared.Written.TheVariants as written
+use Rattle.answer.specs.declared.Refusal.TheVariants as refusal
+use Rattle.std.specs.Prelude.{Err, Ok}
 
 -- a whole book, refused or written
 pub whole_refused :
     (l : Layout) (es : List Entry) (dst : List ℕ) {total : ℕ} → total ≡ length (image_in l es) → length dst < total
-    → Answered (whole_in l es dst) (written.Refused 7) dst
+    → Answered (whole_in l es dst) (Err refusal.TooShort) dst
 unfolding writing_image writing
 whole_refused l es dst e h =
     let t = lt-ltb (length dst) (length (image_in l es)) (omega arith) in
@@ -26,7 +27,7 @@ whole_refused l es dst e h =
 pub whole_written :
     (l : Layout) (es : List Entry) (dst left : List ℕ) {n total : ℕ} → n ≡ length es
     → total ≡ length (image_in l es) → total ≤ length dst → left ≡ overwrite dst (image_in l es)
-    → Answered (whole_in l es dst) (written.Wrote n total) left
+    → Answered (whole_in l es dst) (Ok (record { entries = n; bytes = total })) left
 unfolding writing_image writing
 whole_written l es dst left m t h e =
     let u = le-ltb (length dst) (length (image_in l es)) (omega arith) in

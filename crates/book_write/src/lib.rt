@@ -85,10 +85,8 @@ fn put_peaks(dst: &mut [u8], l: Layout, n: usize)
     ensures { dst.new ≡ put_peaks l (ceil n block_size) n 0 dst.old }
 {
     let blocks = book_layout::blocks(n);
-    let mut j = 0;
-    while j < blocks {
+    for j in 0..blocks {
         put_peak(dst, l, n, j);
-        j += 1;
     }
 }
 

@@ -1,5 +1,5 @@
 -- Completion from a book (document 01, "Completion"), as a function from all that the call is given and lent.
-use Rattle.std.specs.Prelude.{◌*◌, ℕ, ◌≡◌, Bool, ◌||◌, not, List, [], ◌++◌, ◌∷◌, eqb, ltb, length}
+use Rattle.std.specs.Prelude.{◌*◌, ℕ, ◌≡◌, Bool, ◌||◌, not, Result, List, [], ◌++◌, ◌∷◌, eqb, ltb, length}
 use Rattle.entries.specs.Completion.{completion, max_count}
 use Rattle.entries.specs.Entries.{Entry}
 use Rattle.entries.specs.Names.{is_prefix}
@@ -8,8 +8,8 @@ use Rattle.book.specs.declared.Layout.{Layout}
 use Rattle.book.specs.Book.{in_book, in_book_in, is_book_in}
 use Rattle.book.specs.Checks.{book_checks}
 use Rattle.completion.specs.Machine.{machine}
-use Rattle.answer.specs.declared.Completion.{Completion}
-use Rattle.answer.specs.declared.Completion.TheVariants as answer
+use Rattle.answer.specs.declared.Offered.{Offered}
+use Rattle.answer.specs.declared.Refusal.{Refusal}
 use Rattle.answer.specs.Reports.{offered_of}
 use Rattle.completion.specs.declared.Range.{Range}
 
@@ -59,12 +59,12 @@ Lent (refused n) before after = after ≡ before
 Lent (given a) before after = length after ≡ length before
 
 -- a call that completes answers r and leaves the destination dest, as its definition says
-pub record Completed (o : Outcome OfferedCounts) (r : Completion) (dest : List ℕ) : Type 0 where
+pub record Completed (o : Outcome OfferedCounts) (r : Result Offered Refusal) (dest : List ℕ) : Type 0 where
   pub answer : offered_of r ≡ o.answer
   pub left : dest ≡ o.dest
 
 -- a call that completes answers r, leaves the destination dest, and leaves the lent ranges xs as ys
-pub record CompletedOver (o : Outcome OfferedCounts) (r : Completion) (dest : List ℕ) (xs ys : List Range) : Type 0
-  where
-    pub completed : Completed o r dest
-    pub lent : Lent o.answer xs ys
+pub record CompletedOver (o : Outcome OfferedCounts) (r : Result Offered Refusal) (dest : List ℕ) (xs ys : List Range) :
+    Type 0 where
+  pub completed : Completed o r dest
+  pub lent : Lent o.answer xs ys

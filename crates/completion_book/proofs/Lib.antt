@@ -1,2 +1,3 @@
 pub mod Answering
-pub mod Putting
+mod Asking
+mod Putting

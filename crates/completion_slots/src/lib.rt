@@ -1,34 +1,24 @@
-// The lent slots in which open ranges wait: one is put, the best is taken out.
+// The range machine over the lent slots in which its open ranges wait: the best is taken out and its parts are put.
 #![tactic(auto)]
 
-ghost use Rattle.std.specs.Prelude.{◌≡◌, ◌-◌, ◌<◌, ◌≤◌, length, set};
-ghost use Rattle.completion_turn.specs.Slots.{best_from, best_of, without_best};
+ghost use Rattle.std.specs.Prelude.{◌≡◌, ◌<◌, ◌≤◌, length};
+ghost use Rattle.book.specs.Book.{in_book};
+ghost use Rattle.completion_turn.specs.Slots.{best_of, without_best};
+ghost use Rattle.completion_turn.specs.Turns.{Ran, Runnable};
 
-// Puts a range into a slot.
-pub fn put(ranges: &mut [completion::Range], at: usize, r: completion::Range)
-    requires { at < length ranges.old }
-    ensures { ranges.new ≡ set ranges.old at r }
+// The best of the first n slots.
+fn best_of(ranges: &[completion::Range], n: usize) -> completion_turn::BestRange
+    requires { (0 < n) × (n ≤ length ranges.now) }
+    ensures { (result ≡ best_of ranges.now n) × (result.at < n) }
 {
-    ranges[at] = r;
-}
-
-// The best of b and the slots from i to before n.
-fn best_from(
-    ranges: &mut [completion::Range],
-    i: usize,
-    n: usize,
-    b: completion_turn::BestRange,
-) -> completion_turn::BestRange
-    requires { n ≤ length ranges.old }
-    ensures { (result ≡ best_from ranges.old (n - i) i b) × (ranges.new ≡ ranges.old) }
-{
-    if i < n {
-        let x = ranges[i];
-        let c = completion_turn::better_range(b, i, x);
-        return best_from(ranges, i + 1, n, c);
-    } else {
-        return b;
+    let mut b = completion_turn::BestRange {
+        at: 0,
+        range: ranges[0],
+    };
+    for i in 1..n {
+        b = completion_turn::better_range(b, i, ranges[i]);
     }
+    b
 }
 
 // Takes the best of the first n slots out: the last of them comes into its place.
@@ -37,13 +27,25 @@ pub fn take_best(ranges: &mut [completion::Range], n: usize) -> completion::Rang
     ensures { (result ≡ (best_of ranges.old n).range)
         × (ranges.new ≡ without_best ranges.old n) }
 {
-    let first = completion_turn::BestRange {
-        at: 0,
-        range: ranges[0],
-    };
-    let b = best_from(ranges, 1, n, first);
-    let end = ranges[n - 1];
+    let b = best_of(ranges, n);
     let at = b.at;
-    ranges[at] = end;
+    ranges[at] = ranges[n - 1];
     b.range
+}
+
+// Turns until as many are offered as were asked for, or no range is open.
+pub fn run(
+    book: &[u8],
+    ranges: &mut [completion::Range],
+    start: completion_turn::Progress,
+) -> completion_turn::Progress
+    requires { Runnable book.now ranges.old start }
+    ensures { Ran (in_book book.now) ranges.old start result }
+{
+    let mut p = start;
+    while 0 < p.turns && 0 < p.filled {
+        let r = take_best(ranges, p.filled);
+        p = completion_turn::turn(book, ranges, p, r);
+    }
+    p
 }

@@ -1,10 +1,11 @@
 -- Open ranges and the parts of one.
 use Prim.Native.Nat.{◌+◌, ◌-◌, ◌<◌, ◌≤◌, suc, ℕ}
-use mathlib.Core.Path.{◌≡◌, refl}
+use mathlib.Core.Path.{◌∙◌, ◌≡◌, refl, sym}
 use mathlib.Core.Logic.{◌⊎◌, inl, inr}
-use mathlib.Core.List.{List, [], ◌++◌, ◌∷◌}
+use mathlib.Core.List.{List, [], ◌++◌, ◌∷◌, append_assoc, append-nil}
 use lib.Dec.{ltb}
-use lib.ListN.{length}
+use lib.ListN.{length, length-append, length-set, set, take}
+use lib.Seq.{take-suc-set}
 use native.Mathlib.Omega.{arith}
 use borrow.Author.Tests.{le-ltb, lt-ltb, ltb-true}
 use Rattle.octets.specs.Lists.{◌∈◌}
@@ -14,8 +15,9 @@ use Rattle.entries.specs.Entries.{Entry, at, best}
 use Rattle.entries.proofs.Span.{span, span_best}
 use Rattle.completion.specs.declared.Range.{Range}
 use Rattle.completion.specs.Machine.{open_range, parts}
+use Rattle.completion.proofs.Machine.{open_length}
 use Rattle.book_best.specs.Best.{BestIn}
-use Rattle.completion_turn.specs.Turns.{RangeInside}
+use Rattle.completion_turn.specs.Turns.{Put, RangeInside}
 
 module _ (es : List Entry) (first end : ℕ) where
   -- no positions, no range
@@ -30,15 +32,50 @@ module _ (es : List Entry) (first end : ℕ) where
   unfolding open_range
   open_some h w = rw (lt-ltb first end h, ← w.is_best)
 
--- the parts, from what is left and right of the best
-pub parts_are :
-    (es : List Entry) (r : Range) {left right : List Range} → open_range es r.first r.best ≡ left
-    → open_range es (r.best + 1) (r.last + 1) ≡ right → left ++ right ≡ parts es r
+-- the parts are what is left and right of the best
+parts_are : (es : List Entry) (r : Range)
+    → parts es r ≡ open_range es r.first r.best ++ open_range es (r.best + 1) (r.last + 1)
 unfolding parts
-parts_are es r {left} {right} a b =
+parts_are es r =
     let p : suc r.best ≡ r.best + 1 = omega arith in
     let q : suc r.last ≡ r.last + 1 = omega arith in
-    rw (p, q, a, b)
+    rw (p, q)
+
+pub parts_few : (es : List Entry) (r : Range) → length (parts es r) ≤ 2
+parts_few es r =
+    let a = open_length es r.first r.best in
+    let b = open_length es (r.best + 1) (r.last + 1) in
+    rw (parts_are es r) (omega (arith, length-append {A = Range}))
+
+-- positions put as an open range, if there are any
+module _ (es : List Entry) (first end : ℕ) (xs : List Range) (m : ℕ) where
+  pub put_none : end ≤ first → Put es first end xs m xs m
+  put_none h =
+      let o = open_none es first end h in
+      record { opened = rw o (sym (append-nil (take m xs))); filled = rw o (omega arith); size = refl }
+
+  pub put_some : {r : Range} → open_range es first end ≡ r ∷ [] → m < length xs
+      → Put es first end xs m (set xs m r) (m + 1)
+  put_some {r} o l =
+      let z : m + 1 ≡ suc m = omega arith in
+      record { opened = rw (o, z) (take-suc-set xs m r l); filled = rw o (omega arith); size = length-set xs m r }
+
+-- one more slot is filled at most
+pub put_few : {es : List Entry} {i j : ℕ} {xs ys : List Range} {m k : ℕ} → Put es i j xs m ys k → k ≤ m + 1
+put_few {es} {i} {j} a = omega (arith, a.filled, open_length es i j)
+
+-- both parts of a range put, one behind the other
+pub put_parts :
+    {es : List Entry} (r : Range) {xs ys zs : List Range} {m k l : ℕ} → Put es r.first r.best xs m ys k
+    → Put es (r.best + 1) (r.last + 1) ys k zs l
+    → (take l zs ≡ take m xs ++ parts es r) × (l ≡ m + length (parts es r)) × (length zs ≡ length xs)
+    × (l - m ≡ length (parts es r))
+put_parts {es} r {xs} {ys} {zs} {m} {k} {l} a b =
+    let left = open_range es r.first r.best in
+    let right = open_range es (r.best + 1) (r.last + 1) in
+    let e = parts_are es r in
+    let n : l ≡ m + length (parts es r) = rw e (omega (arith, a.filled, b.filled, length-append left right)) in
+    (rw (e, ← append_assoc (take m xs) left right, ← a.opened) b.opened, n, b.size ∙ a.size, omega (arith, n))
 
 -- every open range holds positions, its best among them with its score
 pub open_inside : (es : List Entry) (i j : ℕ) → j ≤ length es → (r : Range) → r ∈ open_range es i j → RangeInside es r

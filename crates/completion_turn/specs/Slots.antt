@@ -1,4 +1,4 @@
--- The slots in which open ranges wait: an array, or a slice that the caller lends.
+-- The slots in which open ranges wait: a slice that is lent.
 use Rattle.std.specs.Prelude.{◌+◌, ◌-◌, suc, zero, ℕ, Bool, List, eqb, ltb, get_or, set, take}
 use Rattle.octets.specs.Lists.{if◌then◌otherwise◌}
 use Rattle.completion.specs.declared.Range.{Range}
@@ -28,10 +28,6 @@ best_of xs n = best_from xs (n - 1) 1 (record { at = 0; range = get_or xs 0 no_r
 abbrev pub without_best : List Range → ℕ → List Range
 without_best xs n = set xs (best_of xs n).at (get_or xs (n - 1) no_range)
 
--- the slots with the ranges put that are to be put
-abbrev pub put_both : List Range → Progress → List Range
-put_both xs p = set (set xs p.at0 p.r0) p.at1 p.r1
-
--- the ranges that are then open
+-- the ranges that are open
 abbrev pub waiting : List Range → Progress → List Range
-waiting xs p = take p.filled (put_both xs p)
+waiting xs p = take p.filled xs

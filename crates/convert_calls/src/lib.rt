@@ -4,38 +4,28 @@
 ghost use Rattle.answer.specs.Reports.{Answered};
 ghost use Rattle.convert.specs.Convert.{convert_book, convert_in};
 
-use answer::Written;
+use answer::{Refusal, Size};
 use book::Layout;
 use convert_write::Conversion;
-use frame_code::Image;
 
 // Writes a book laid out as one version says as another one says.
-fn convert_in(book: &[u8], from: Layout, to: Layout, dst: &mut [u8]) -> Written
+fn convert_in(book: &[u8], from: Layout, to: Layout, dst: &mut [u8]) -> Result<Size, Refusal>
     ensures { Answered (convert_in from to book.now dst.old) result dst.new }
 {
-    let reply = book_check::check_in(book, from, &[]);
-    let image = reply.image;
-    let Image::Entries(n) = image else {
-        return Written::Refused(1);
-    };
-    let c = Conversion {
-        from: from,
-        to: to,
-        n: n,
-    };
+    let n = book_check::check_in(book, from, &[])
+        .ok_or(Refusal::NotLaidOut)?
+        .n;
+    let c = Conversion { from, to, n };
     if !convert_write::fits(book, c, dst.len()) {
-        return Written::Refused(7);
+        return Err(Refusal::TooShort);
     }
-    let total = convert_write::fill(book, c, dst);
-    Written::Wrote {
-        entries: n,
-        bytes: total,
-    }
+    let bytes = convert_write::fill(book, c, dst);
+    Ok(Size { entries: n, bytes })
 }
 
 // Converts a book, by its byte 0 alone: 21 goes up to 22, 22 back to 21. A buffer with another byte 0, or none, is read
 // as 22, which it is not: 1.
-pub fn convert(book: &[u8], dst: &mut [u8]) -> Written
+pub fn convert(book: &[u8], dst: &mut [u8]) -> Result<Size, Refusal>
     ensures { Answered (convert_book book.now dst.old) result dst.new }
 {
     let old = book_layout::old();

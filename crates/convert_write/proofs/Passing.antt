@@ -18,7 +18,7 @@ use Rattle.book_laws.specs.declared.Cursor.{Cursor}
 use Rattle.book_laws.proofs.Ahead.{here_begins, step_ahead, step_at, step_name}
 use Rattle.book_laws.proofs.Held.{held_stored, held-valid}
 use Rattle.book_read.specs.Record.{Inside, Read}
-use Rattle.book_read.specs.declared.Parts.{Parts}
+use Rattle.book_laws.specs.declared.Parts.{Parts}
 use Rattle.book_read.proofs.Reading.{step_inside, step_read, step_by}
 use Rattle.book_write.proofs.Calls.{name_copied}
 use Rattle.book_append.specs.Append.{AppendDone, Fits, after_given, cursor_behind}

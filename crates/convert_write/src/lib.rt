@@ -120,8 +120,7 @@ fn pass(book: &[u8], c: Conversion, dst: &mut [u8], store: bool) -> usize
     let mut len = 0;
     let mut next = book_layout::records_at(l, n);
     let mut at = book_layout::records_at(m, n);
-    let mut i = 0;
-    while i < n {
+    for i in 0..n {
         let src = Source {
             layout: l,
             at: next,
@@ -141,7 +140,6 @@ fn pass(book: &[u8], c: Conversion, dst: &mut [u8], store: bool) -> usize
         next = p.read;
         at = p.written;
         len = p.len;
-        i += 1;
     }
     at
 }

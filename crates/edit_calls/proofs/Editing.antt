@@ -4,14 +4,12 @@ use mathlib.Core.Path.{◌∙◌, ◌≡◌, ap, refl, sym}
 use mathlib.Core.Bool.{false, true}
 use mathlib.Core.List.{List, [], ◌∷◌}
 use lib.ListN.{length}
-use denote.Enum.Declared.{tag_of}
-use types.Run.{OneOf}
 use native.Mathlib.Omega.{arith}
 use borrow.Author.Tests.{le-leb, lt-leb}
 use Rattle.entries.specs.Entries.{Entry, entry, holds, max_entries, names, position, with, without}
 use Rattle.entries.specs.Names.{is_name}
 use Rattle.entries_laws.proofs.Place.{position_at}
-use Rattle.answer.specs.Answers.{given, writing, writing_image}
+use Rattle.answer.specs.Answers.{writing, writing_image}
 use Rattle.book.specs.Book.{book_image, in_book, records_at, today}
 use Rattle.book.specs.Checks.{is_old}
 use Rattle.book.proofs.Checks.{read_not_old}
@@ -20,39 +18,38 @@ use Rattle.book_laws.proofs.Held.{held-valid}
 use Rattle.book_seek.specs.Seek.{Seeking}
 use Rattle.book_seek.specs.declared.Seek.{Seek}
 use Rattle.book_seek.proofs.Found.{seeking_place}
-use Rattle.book_check.specs.Checked.{CheckedAs}
-use Rattle.book_check.specs.declared.Checked.{Checked}
+use Rattle.book_check.specs.Checked.{Declined}
 use Rattle.book_check.proofs.Refusing.{refused_image}
 use Rattle.edit.specs.Edits.{set_entry, set_refusals, withdraw_entry, withdraw_refusals}
 use Rattle.edit_copy.specs.Asked.{Adds, Sought, Withdraws}
 use Rattle.edit_rescore.specs.Rescored.{rescored}
 use Rattle.edit_rescore.proofs.Rescored.{rescored-with}
-use Rattle.answer.specs.Reports.{Answered, found_of}
+use Rattle.answer.specs.Reports.{Answered, finding}
 use Rattle.book_write.specs.Whole.{whole_book}
 use Rattle.lookup.specs.Lookups.{found_in}
 use Rattle.lookup_find.specs.Finding.{found_at}
-use Rattle.lookup_find.proofs.Finding.{found_entry, found_is, gap_there, held_there, not_found}
+use Rattle.lookup_find.proofs.Finding.{found_entry, found_is, found_not, gap_there, held_there}
 use Rattle.answer.proofs.Answers.{answered_as}
-use Rattle.answer.specs.contracts.Found.{the_type}
 use Rattle.answer.specs.declared.Found.{Found}
-use Rattle.answer.specs.declared.Found.TheVariants as found
-use Rattle.answer.specs.declared.Written.{Written}
-use Rattle.answer.specs.declared.Written.TheVariants as written
+use Rattle.answer.specs.declared.Refusal.{Refusal}
+use Rattle.answer.specs.declared.Refusal.TheVariants as refusal
+use Rattle.answer.specs.declared.Size.{Size}
+use Rattle.std.specs.Prelude.{Err, None, Option, Result, Some}
 
 -- the book is refused
-module _ {book key : List ℕ} {r : Checked} (c : CheckedAs book key r) (h : r.refusal ≡ 0 → ⊥) (w dst : List ℕ) where
-  pub set-refused : (s : ℕ) → Answered (set_entry book w s dst) (written.Refused r.refusal) dst
+module _ {book : List ℕ} {r : Refusal} (c : Declined book r) (w dst : List ℕ) where
+  pub set-refused : (s : ℕ) → Answered (set_entry book w s dst) (Err r) dst
   unfolding set_entry
   set-refused s =
       let result = with (entry w s) (in_book book) in
-      answered_as (refused_image c h (set_refusals w (in_book book)) result (book_image result) dst)
+      answered_as (refused_image c (set_refusals w (in_book book)) result (book_image result) dst)
       (record { answer = refl; left = refl })
 
-  pub withdraw_refused : Answered (withdraw_entry book w dst) (written.Refused r.refusal) dst
+  pub withdraw_refused : Answered (withdraw_entry book w dst) (Err r) dst
   unfolding withdraw_entry
   withdraw_refused =
       let result = without w (in_book book) in
-      answered_as (refused_image c h (withdraw_refusals w (in_book book)) result (book_image result) dst)
+      answered_as (refused_image c (withdraw_refusals w (in_book book)) result (book_image result) dst)
       (record { answer = refl; left = refl })
 
 module _ (b w dst : List ℕ) {n : ℕ} (h : Held b n) where
@@ -63,11 +60,11 @@ module _ (b w dst : List ℕ) {n : ℕ} (h : Held b n) where
   new = read_not_old b h.is_it
 
   -- the name is not allowed
-  pub set_unnamed : is_name w ≡ false → (s : ℕ) → Answered (set_entry b w s dst) (written.Refused 2) dst
+  pub set_unnamed : is_name w ≡ false → (s : ℕ) → Answered (set_entry b w s dst) (Err refusal.NotAllowed) dst
   unfolding set_entry writing_image writing
   set_unnamed t s = record { answer = rw (new, h.is_it, t); left = rw (new, h.is_it, t) }
 
-  pub withdraw_unnamed : is_name w ≡ false → Answered (withdraw_entry b w dst) (written.Refused 2) dst
+  pub withdraw_unnamed : is_name w ≡ false → Answered (withdraw_entry b w dst) (Err refusal.NotAllowed) dst
   unfolding withdraw_entry writing_image writing
   withdraw_unnamed t = record { answer = rw (new, h.is_it, t); left = rw (new, h.is_it, t) }
 
@@ -83,7 +80,7 @@ module _ (b w dst : List ℕ) {n : ℕ} (h : Held b n) where
       pub held_low : s.place < n
       held_low = omega (arith, h.count, there.1, (position_at w es there.0).0)
 
-      pub held-set : (v : ℕ) {r : Written} {left : List ℕ} → Answered (whole_book (rescored es s.place v) dst) r left
+      pub held-set : (v : ℕ) {r : Result Size Refusal} {left : List ℕ} → Answered (whole_book (rescored es s.place v) dst) r left
           → Answered (set_entry b w v dst) r left
       unfolding set_entry writing_image writing
       held-set v a =
@@ -97,7 +94,7 @@ module _ (b w dst : List ℕ) {n : ℕ} (h : Held b n) where
       absent : holds w es ≡ false
       absent = gap_there b w h f t
 
-      pub set_full : (v : ℕ) → max_entries ≤ n → Answered (set_entry b w v dst) (written.Refused 5) dst
+      pub set_full : (v : ℕ) → max_entries ≤ n → Answered (set_entry b w v dst) (Err refusal.Full) dst
       unfolding set_entry writing_image writing
       set_full v l =
           let m = le-leb max_entries (length es) (rw (← h.count) l) in
@@ -106,7 +103,7 @@ module _ (b w dst : List ℕ) {n : ℕ} (h : Held b n) where
       pub new_asked : n < max_entries → Adds today b n w s
       new_asked l = record { sought = sought; allowed = k; absent = absent; room = l }
 
-      pub new_set : (v : ℕ) → n < max_entries → {r : Written} {left : List ℕ}
+      pub new_set : (v : ℕ) → n < max_entries → {r : Result Size Refusal} {left : List ℕ}
           → Answered (whole_book (with (entry w v) es) dst) r left
           → Answered (set_entry b w v dst) r left
       unfolding set_entry writing_image writing
@@ -116,26 +113,26 @@ module _ (b w dst : List ℕ) {n : ℕ} (h : Held b n) where
           answered_as c a
 
     -- a withdrawal, by what finding answers
-    module _ (a : Found) (e : found_of a ≡ given (found_at b s)) where
-      is_found : found_of a ≡ given (found_in w es)
-      is_found = e ∙ ap given (found_is b w h f)
+    module _ (a : Option Found) (e : finding a ≡ found_at b s) where
+      is_found : finding a ≡ found_in w es
+      is_found = e ∙ found_is b w h f
 
-      pub not_held : OneOf (0 ∷ 2 ∷ []) (tag_of the_type a) → Answered (withdraw_entry b w dst) (written.Refused 4) dst
+      pub not_held : a ≡ None → Answered (withdraw_entry b w dst) (Err refusal.NotHeld) dst
       unfolding withdraw_entry writing_image writing
-      not_held o =
-          let t = not_found w es a is_found o in
+      not_held m =
+          let t = found_not w es (ap finding (sym m) ∙ is_found) in
           record { answer = rw (new, h.is_it, k, t); left = rw (new, h.is_it, k, t) }
 
-      module _ {i v : ℕ} (m : a ≡ found.At i v) where
+      module _ {x : Found} (m : a ≡ Some x) where
         present : holds w es ≡ true
-        present = (found_entry w es i v (ap found_of (sym m) ∙ is_found)).0
+        present = (found_entry w es {f = x} (ap finding (sym m) ∙ is_found)).0
 
         pub gone-asked : Withdraws today b n w s
         gone-asked = record { sought = sought; present = present }
 
-        pub gone : {r : Written} {left : List ℕ} → Answered (whole_book (without w es) dst) r left
+        pub gone : {r : Result Size Refusal} {left : List ℕ} → Answered (whole_book (without w es) dst) r left
             → Answered (withdraw_entry b w dst) r left
         unfolding withdraw_entry writing_image writing
-        gone x =
+        gone y =
             let c : withdraw_entry b w dst ≡ whole_book (without w es) dst = rw (new, h.is_it, k, present) in
-            answered_as c x
+            answered_as c y

@@ -8,7 +8,7 @@ use lib.Seq.{length-sets, sets}
 use native.Mathlib.Omega.{arith}
 use Rattle.octets.specs.Octets.{common, overwrite}
 use Rattle.octets.proofs.Common.{common-front}
-use Rattle.entries.specs.Entries.{Entry, entry, names, valid, with, without}
+use Rattle.entries.specs.Entries.{Entry, entry, names, with, without}
 use Rattle.book.specs.Records.{record_of}
 use Rattle.book.specs.declared.Layout.{Layout}
 use Rattle.book.specs.Book.{image_in, in_book_in, records_at, scores}

@@ -1,6 +1,6 @@
 -- The plan of an edit: what the code reads of the old image gives the records behind its place.
 use Prim.Native.Nat.{◌+◌, ◌-◌, ◌<◌, ◌≤◌, suc, ℕ}
-use mathlib.Core.Path.{◌∙◌, ◌≡◌, ap, subst, sym}
+use mathlib.Core.Path.{◌∙◌, ◌≡◌, ap, refl, subst, sym}
 use mathlib.Core.Bool.{false, true}
 use mathlib.Core.List.{List, [], ◌++◌, ◌∷◌}
 use lib.Dec.{leb, ltb}
@@ -24,15 +24,16 @@ use Rattle.book_laws.proofs.Ahead.{names_at}
 use Rattle.book_laws.proofs.Held.{held_few, held_stored, held-valid}
 use Rattle.book_seek.specs.declared.Seek.{Seek}
 use Rattle.edit_copy.specs.Asked.{Adds, Sought, Withdraws}
-use Rattle.edit_copy.specs.Copies.{Bytes, GoneRoom, NewRoom, Planned, PlannedWith, PlannedWithout}
-use Rattle.edit_copy.specs.Copies.{ScoreRoom}
-use Rattle.edit_copy.specs.Copies.{after, behind_gone, behind_new, behind_size, nothing}
+use Rattle.edit_copy.specs.Copies.{Bytes, GoneRoom, NewRoom, PlanRoom, Planned, PlannedWith, PlannedWithout}
+use Rattle.edit_copy.specs.Copies.{ScoreRoom, after, behind_gone, behind_new, nothing, plan_of}
 use Rattle.edit_copy.proofs.Puts.{behind_long}
 use Rattle.edit_copy.proofs.Records.{after_long, gone_behind, gone_next, header_inside, kept_read, new_behind}
 use Rattle.edit_copy.proofs.Records.{new_order, new_within, own_read}
 use Rattle.edit_copy.proofs.Results.{back-stands, end_is, front_low, held-inside, held_name, held-names}
 use Rattle.edit_copy.proofs.Results.{with_left, with_right, without_left, without_right}
 use Rattle.edit_copy.specs.declared.Behind.{Behind}
+use Rattle.edit_copy.specs.declared.Plan.{Plan}
+use Rattle.book.specs.Records.{record_of}
 
 -- no record behind the place
 nothing_bytes : (book : List ℕ) (end : ℕ) → end ≤ length book → Bytes book end [] (nothing end)
@@ -86,6 +87,42 @@ module _ {l : Layout} {book : List ℕ} {n : ℕ} {w : List ℕ} {s : Seek} (a :
       let y = image_small in
       let w = h.within in
       (h.order, omega arith, omega arith)
+
+  -- what the plan asks, and what it then is
+  plan_room_of :
+      (count : ℕ) {own end : ℕ} {bs : List ℕ} {b : Behind} → count ≤ max_entries → own ≤ 50
+      → end ≡ length (image_in l es) → Bytes book end bs b → PlanRoom l n count s own b end
+  plan_room_of count few short e h =
+      let r = runs-inside e h in
+      record {
+        few = held_few a.held;
+        count_few = few;
+        order = front_low a;
+        near = omega (arith, at_small, records_small count few);
+        short = short;
+        rest = r.0;
+        lent = r.1;
+        small = r.2;
+      }
+
+  planned_of :
+      (count : ℕ) (own : List ℕ) {long end : ℕ} {bs : List ℕ} {b : Behind} {p : Plan} → long ≡ length own
+      → end ≡ length (image_in l es) → Bytes book end bs b → p ≡ plan_of l n count s long b end
+      → Planned l book n count s own bs p
+  planned_of count own {long} {end} {bs} {b} el e h ep =
+      let size = behind_long b book end h in
+      let made : Planned l book n count s own bs (plan_of l n count s long b end) =
+      record {
+        old = refl;
+        new = refl;
+        start = refl;
+        at = omega arith;
+        behind = h;
+        small = (runs-inside e h).2;
+        total = omega arith;
+      }
+      in
+      subst (Planned l book n count s own bs) (sym ep) made
 
   -- the names from a position on
   names_from_lem : (k : ℕ) → k < n → drop k (names es) ≡ (at es k).name ∷ drop (suc k) (names es)
@@ -197,44 +234,26 @@ module _ {l : Layout} {book : List ℕ} {n : ℕ} {w : List ℕ} {s : Seek} (a :
               ∙ ap (after w) (sym (names_from_lem i h));
         }))
 
-    pub new_inside :
+    new_behind_bytes :
         {end : ℕ} {b : Behind} → end ≡ number_at 4 book 1 → b ≡ behind_new book end n s
-        → (b.rest ≤ end) × (b.lent ≤ end) × (end ≤ 65536)
-    new_inside {end} e eb = runs-inside (end_read e)
-        (subst (Bytes book end (after w (drop i (names es)))) (sym eb) (new_bytes end (end_read e)))
+        → Bytes book end (after w (drop i (names es))) b
+    new_behind_bytes {end} e eb =
+        subst (Bytes book end (after w (drop i (names es)))) (sym eb) (new_bytes end (end_read e))
+
+    pub new_plan_room :
+        {end : ℕ} {b : Behind} → end ≡ number_at 4 book 1 → b ≡ behind_new book end n s
+        → PlanRoom l n (n + 1) s (2 + (length w - s.below)) b end
+    new_plan_room e eb =
+        plan_room_of (n + 1) (omega (arith, new.room)) (omega (arith, new_short)) (end_read e) (new_behind_bytes e eb)
 
     pub planned_with :
-        {old above end size : ℕ} {b : Behind} → old ≡ records_at l n → above ≡ records_at l (n + 1)
-        → end ≡ number_at 4 book 1 → b ≡ behind_new book end n s → size ≡ behind_size end b
-        → PlannedWith l book n w s
-        (record {
-          old = old;
-          new = above;
-          start = above + (s.at - old);
-          at = above + (s.at - old) + 2 + (length w - s.below);
-          behind = b;
-          end = end;
-          total = above + (s.at - old) + 2 + (length w - s.below) + size;
-        })
-    planned_with {old} {above} {end} {size} {b} eo en ee eb es' =
-        let bytes : Bytes book end (after w (drop i (names es))) b =
-        subst (Bytes book end (after w (drop i (names es)))) (sym eb) (new_bytes end (end_read ee))
-        in
-        let long = behind_long b book end bytes in
-        let q = end_read ee in
-        let m = image_small in
+        {end : ℕ} {b : Behind} {p : Plan} → end ≡ number_at 4 book 1 → b ≡ behind_new book end n s
+        → p ≡ plan_of l n (n + 1) s (2 + (length w - s.below)) b end → PlannedWith l book n w s p
+    planned_with e eb ep =
         let r = record_long 0 prev w in
         let x = left_shared in
         let y = left_within in
-        record {
-          old = eo;
-          new = en;
-          start = rw (eo, en);
-          at = rw (eo, en) (omega arith);
-          behind = bytes;
-          small = omega arith;
-          total = rw (eo, en) (omega arith);
-        }
+        planned_of (n + 1) (record_of false 0 prev w) (omega arith) (end_read e) (new_behind_bytes e eb) ep
 
   -- a name that is held
   module _ (gone : Withdraws l book n w s) where
@@ -370,40 +389,22 @@ module _ {l : Layout} {book : List ℕ} {n : ℕ} {w : List ℕ} {s : Seek} (a :
               ∙ ap (after prev) (sym (names_from_lem (suc i) h));
         }))
 
-    pub gone-inside :
+    gone_behind_bytes :
         {end : ℕ} {b : Behind} → end ≡ number_at 4 book 1
         → b ≡ behind_gone book end s.at s.below (length w - s.below)
-        → (b.rest ≤ end) × (b.lent ≤ end) × (end ≤ 65536)
-    gone-inside {end} e eb = runs-inside (end_read e)
-        (subst (Bytes book end (after prev (drop (suc i) (names es)))) (sym eb) (gone_bytes end (end_read e)))
+        → Bytes book end (after prev (drop (suc i) (names es))) b
+    gone_behind_bytes {end} e eb =
+        subst (Bytes book end (after prev (drop (suc i) (names es)))) (sym eb) (gone_bytes end (end_read e))
+
+    pub gone_plan_room :
+        {end : ℕ} {b : Behind} → end ≡ number_at 4 book 1
+        → b ≡ behind_gone book end s.at s.below (length w - s.below)
+        → PlanRoom l n (n - 1) s 0 b end
+    gone_plan_room e eb =
+        plan_room_of (n - 1) (omega (arith, held_few a.held)) (omega arith) (end_read e) (gone_behind_bytes e eb)
 
     pub planned_without :
-        {old below end size : ℕ} {b : Behind} → old ≡ records_at l n → below ≡ records_at l (n - 1)
-        → end ≡ number_at 4 book 1 → b ≡ behind_gone book end s.at s.below (length w - s.below)
-        → size ≡ behind_size end b
-        → PlannedWithout l book n s
-        (record {
-          old = old;
-          new = below;
-          start = below + (s.at - old);
-          at = below + (s.at - old);
-          behind = b;
-          end = end;
-          total = below + (s.at - old) + size;
-        })
-    planned_without {old} {below} {end} {size} {b} eo en ee eb es' =
-        let bytes : Bytes book end (after prev (drop (suc i) (names es))) b =
-        subst (Bytes book end (after prev (drop (suc i) (names es)))) (sym eb) (gone_bytes end (end_read ee))
-        in
-        let long = behind_long b book end bytes in
-        let q = end_read ee in
-        let m = image_small in
-        record {
-          old = eo;
-          new = en;
-          start = rw (eo, en);
-          at = rw (eo, en) (omega arith);
-          behind = bytes;
-          small = omega arith;
-          total = rw (eo, en) (omega arith);
-        }
+        {end : ℕ} {b : Behind} {p : Plan} → end ≡ number_at 4 book 1
+        → b ≡ behind_gone book end s.at s.below (length w - s.below) → p ≡ plan_of l n (n - 1) s 0 b end
+        → PlannedWithout l book n s p
+    planned_without e eb ep = planned_of (n - 1) [] (omega arith) (end_read e) (gone_behind_bytes e eb) ep

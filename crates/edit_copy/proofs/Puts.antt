@@ -1,53 +1,56 @@
 -- What stands behind the place of an edit: its header, its size, and how it is stored.
-use Prim.Native.Nat.{◌*◌, ◌+◌, ◌-◌, ◌<◌, ◌≤◌, min, ℕ}
+use Prim.Native.Nat.{◌+◌, ◌-◌, ◌<◌, ◌≤◌, min, ℕ}
 use mathlib.Core.Path.{◌∙◌, ◌≡◌, ap, sym}
-use mathlib.Core.Bool.{false, true}
-use mathlib.Core.List.{List, [], ◌++◌, ◌∷◌}
-use lib.ListN.{drop, get_or, length, length-append, length-drop, take}
+use mathlib.Core.List.{List, [], ◌++◌, ◌∷◌, append-nil}
+use lib.ListN.{drop, drop_of_length-le, get_or, length, length-append, length-drop}
 use lib.Seq.{length-take-le, sets}
 use native.Mathlib.Omega.{arith}
 use borrow.Author.Tests.{le-leb, lt-leb}
-use Rattle.octets.specs.Lists.{if◌then◌otherwise◌}
 use Rattle.octets.specs.Octets.{be}
 use Rattle.octets.proofs.Coding.{length-be}
-use Rattle.octets.proofs.Stores.{sets-append}
-use Rattle.octets.proofs.Tests.{by_test}
+use Rattle.octets.proofs.Stores.{sets-append, sets-overwrite}
 use Rattle.book_laws.specs.Check.{score_start}
 use Rattle.book_seek.specs.declared.Seek.{Seek}
-use Rattle.edit_copy.specs.Copies.{Bytes, HeaderPut, behind_bytes, behind_size, header_of, part, scores_with}
-use Rattle.edit_copy.specs.Copies.{behind_gone, behind_new, nothing, scores_without}
+use Rattle.edit_copy.specs.Copies.{Bytes, HeaderPut, ScoresRoom, behind_bytes, behind_size, header_bytes, header_of}
+use Rattle.edit_copy.specs.Copies.{behind_gone, behind_new, nothing, part, scores_spliced, scores_with}
 use Rattle.edit_copy.specs.declared.Behind.{Behind}
+use Rattle.edit_copy.specs.declared.Header.{Header}
+use Rattle.std.specs.Prelude.{Option, Some, None}
 
 module _ (b : Behind) where
-  pub no_header : b.some ≡ false → header_of b ≡ []
-  no_header e = ap (λ t. if t then (b.kept ∷ b.own ∷ []) otherwise []) e
+  pub no_header : b.header ≡ None → header_of b ≡ []
+  no_header e = ap header_bytes e
 
-  pub has_header : b.some ≡ true → header_of b ≡ b.kept ∷ b.own ∷ []
-  has_header e = ap (λ t. if t then (b.kept ∷ b.own ∷ []) otherwise []) e
+  pub has_header : {h : Header} → b.header ≡ Some h → header_of b ≡ h.kept ∷ h.own ∷ []
+  has_header e = ap header_bytes e
 
   -- the size
-  pub size_without : (end : ℕ) {r : ℕ} → b.some ≡ false → r ≡ b.lent + (end - b.rest) → r ≡ behind_size end b
+  pub size_without : (end : ℕ) {r : ℕ} → b.header ≡ None → r ≡ b.lent + (end - b.rest) → r ≡ behind_size end b
   size_without end e s = let h = ap length (no_header e) in omega arith
 
-  pub size_with : (end : ℕ) {r : ℕ} → b.some ≡ true → r ≡ b.lent + (end - b.rest) → 2 + r ≡ behind_size end b
+  pub size_with :
+      (end : ℕ) {h : Header} {r : ℕ} → b.header ≡ Some h → r ≡ b.lent + (end - b.rest) → 2 + r ≡ behind_size end b
   size_with end e s = let h = ap length (has_header e) in omega arith
 
   -- the header stored
-  pub header_left : (d : List ℕ) (at : ℕ) → b.some ≡ false → HeaderPut d d at b at
+  pub header_left : (d : List ℕ) (at : ℕ) → b.header ≡ None → HeaderPut d d at b at
   header_left d at e =
       let h = ap length (no_header e) in
       record { bytes = sym (ap (sets d at) (no_header e)); end = omega arith }
 
   pub header_stored :
-      (d new : List ℕ) (at : ℕ) → b.some ≡ true → new ≡ sets d at (b.kept ∷ b.own ∷ [])
+      (d new : List ℕ) (at : ℕ) {h : Header} → b.header ≡ Some h → new ≡ sets d at (h.kept ∷ h.own ∷ [])
       → HeaderPut d new at b (at + 2)
   header_stored d new at e s =
       let h = ap length (has_header e) in
       record { bytes = s ∙ sym (ap (sets d at) (has_header e)); end = omega arith }
 
-  pub header_most : length (header_of b) ≤ 2
-  header_most = by_test b.some (λ t. let h = ap length (has_header t) in omega arith)
-      (λ t. let h = ap length (no_header t) in omega arith)
+header_most_of : (h : Option Header) → length (header_bytes h) ≤ 2
+header_most_of None = omega arith
+header_most_of (Some h) = omega arith
+
+pub header_most : (b : Behind) → length (header_of b) ≤ 2
+header_most b = header_most_of b.header
 
 -- the length of a part
 pub part_long : (s : List ℕ) (x y : ℕ) → y ≤ length s → length (part x y s) ≡ y - x
@@ -89,44 +92,39 @@ behind_long b book end {bs} h =
     omega arith
 
 -- the scores stored, one run behind the other
-module _ (d book : List ℕ) (n i : ℕ) (h : i ≤ n) (inside : score_start n ≤ length book) {cut end : ℕ}
-    (ec : cut ≡ score_start i) (ee : end ≡ score_start n) where
-  front_long : length (part 7 (score_start i) book) ≡ 4 * i
-  front_long = part_long book 7 (score_start i) (omega arith) ∙ omega arith
+pub scores_put :
+    (d book own : List ℕ) {n i next cut from end : ℕ} {d₁ d₂ d₃ : List ℕ} → ScoresRoom book n i own next
+    → cut ≡ score_start i → from ≡ score_start next → end ≡ score_start n → d₁ ≡ sets d 7 (part 7 cut book)
+    → d₂ ≡ sets d₁ cut own → d₃ ≡ sets d₂ (cut + length own) (part from end book)
+    → d₃ ≡ sets d 7 (scores_spliced book n i own next)
+scores_put d book own {n} {i} {next} {cut} {from} {end} {d₁} {d₂} {d₃} v ec ef ee e₁ e₂ e₃ =
+    let front = part 7 cut book in
+    let back = part from end book in
+    let a = v.front in
+    let long : length front ≡ cut - 7 = part_long book 7 cut (omega (arith, a.within, a.inside)) in
+    let z : cut ≡ 7 + length front = omega arith in
+    let all : d₃ ≡ sets d 7 (front ++ (own ++ back)) =
+    e₃
+    ∙ ap (λ x. sets x (cut + length own) back) (e₂ ∙ ap (λ x. sets x cut own) e₁)
+    ∙ ap (λ k. sets (sets (sets d 7 front) k own) (k + length own) back) z
+    ∙ sets-append (sets d 7 front) own back (7 + length front)
+    ∙ sets-append d front (own ++ back) 7
+    in
+    rw (ec, ef, ee) at all
 
-  pub scores-with :
-      (score : ℕ) {next : ℕ} {d₁ d₂ d₃ : List ℕ} → next ≡ score_start (i + 1) → d₁ ≡ sets d 7 (part 7 cut book)
-      → d₂ ≡ sets d₁ cut (be 4 score) → d₃ ≡ sets d₂ next (part cut end book)
-      → d₃ ≡ sets d 7 (scores_with book n i score)
-  scores-with score {d₁ = d₁} {d₂} en e₁ e₂ e₃ =
-      let front = part 7 (score_start i) book in
-      let back = part (score_start i) (score_start n) book in
-      let f = front_long in
-      let b = length-be 4 score in
-      let z : score_start i ≡ 7 + length front = omega arith in
-      let y : score_start (i + 1) ≡ 7 + length front + length (be 4 score) = omega arith in
-      e₃
-      ∙ rw (en, ec, ee)
-      (ap (λ x. sets x (score_start (i + 1)) back)
-      (e₂ ∙ rw ec (ap (λ x. sets x (score_start i) (be 4 score)) (e₁ ∙ ap (λ k. sets d 7 (part 7 k book)) ec)))
-      ∙ ap (λ k. sets (sets (sets d 7 front) k (be 4 score)) (score_start (i + 1)) back) z
-      ∙ ap (λ k. sets (sets (sets d 7 front) (7 + length front) (be 4 score)) k back) y
-      ∙ sets-append (sets d 7 front) (be 4 score) back (7 + length front)
-      ∙ sets-append d front (be 4 score ++ back) 7)
-
-  pub scores-without :
-      {next : ℕ} {d₁ d₂ : List ℕ} → next ≡ score_start (i + 1) → d₁ ≡ sets d 7 (part 7 cut book)
-      → d₂ ≡ sets d₁ cut (part next end book) → d₂ ≡ sets d 7 (scores_without book n i)
-  scores-without {d₁ = d₁} en e₁ e₂ =
-      let front = part 7 (score_start i) book in
-      let back = part (score_start (i + 1)) (score_start n) book in
-      let f = front_long in
-      let z : score_start i ≡ 7 + length front = omega arith in
-      e₂
-      ∙ rw (en, ec, ee)
-      (ap (λ x. sets x (score_start i) back) (e₁ ∙ ap (λ k. sets d 7 (part 7 k book)) ec)
-      ∙ ap (λ k. sets (sets d 7 front) k back) z
-      ∙ sets-append d front back 7)
+-- a score, its bytes written to an array of their own and stored in front of those from its position on
+pub score_put :
+    (d own book into : List ℕ) (n i score : ℕ) {new : List ℕ} → length d ≡ 4 → own ≡ sets d 0 (be 4 score)
+    → new ≡ sets into 7 (scores_spliced book n i own i) → new ≡ sets into 7 (scores_with book n i score)
+score_put d own book into n i score long e put =
+    let b = length-be 4 score in
+    let z : own ≡ be 4 score =
+    e
+    ∙ sets-overwrite d (be 4 score) (omega arith)
+    ∙ ap (λ l. be 4 score ++ l) (drop_of_length-le d {i = length (be 4 score)} (omega arith))
+    ∙ append-nil (be 4 score)
+    in
+    put ∙ ap (λ l. sets into 7 (scores_spliced book n i l i)) z
 
 -- what the code reads behind the place: nothing, or a header
 pub new_none :
@@ -136,9 +134,7 @@ new_none book end n s h e = rw (le-leb n s.place h) e
 pub new_some :
     (book : List ℕ) (end n : ℕ) (s : Seek) → s.place < n
     → record {
-      some = true;
-      kept = s.above;
-      own = get_or book (s.at + 1) 0 - (s.above - get_or book s.at 0);
+      header = Some (record { kept = s.above; own = get_or book (s.at + 1) 0 - (s.above - get_or book s.at 0) });
       from = 0;
       lent = 0;
       rest = s.at + 2 + (s.above - get_or book s.at 0);
@@ -154,9 +150,10 @@ pub gone-some :
     (book : List ℕ) (end at kept own : ℕ) {new : ℕ} → at + 2 + own < end
     → new ≡ min kept (get_or book (at + 2 + own) 0)
     → record {
-      some = true;
-      kept = new;
-      own = get_or book (at + 2 + own) 0 - new + get_or book (at + 2 + own + 1) 0;
+      header = Some (record {
+        kept = new;
+        own = get_or book (at + 2 + own) 0 - new + get_or book (at + 2 + own + 1) 0;
+      });
       from = at + 2;
       lent = get_or book (at + 2 + own) 0 - new;
       rest = at + 2 + own + 2;

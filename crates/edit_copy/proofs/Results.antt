@@ -10,7 +10,7 @@ use lib.Seq.{drop-append_seam, drop-cons, drop-drop, length-take-le, split_at, t
 use native.Mathlib.Numerals.{add-one}
 use native.Mathlib.Omega.{arith}
 use borrow.Author.Tests.{lt-leb}
-use Rattle.octets.specs.Octets.{be, begins, below}
+use Rattle.octets.specs.Octets.{be, below}
 use Rattle.octets.proofs.Lists.{all_in, at_all, concat-append, in_append_right, map-append, map-drop, map-take}
 use Rattle.octets.proofs.Order.{begins_split}
 use Rattle.octets.proofs.Tests.{and_true_both}

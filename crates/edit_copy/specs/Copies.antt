@@ -1,5 +1,6 @@
 -- The bytes of an edit's result, as copies of the old image's.
-use Rattle.std.specs.Prelude.{◌+◌, ◌-◌, ◌<◌, ◌≤◌, min, suc, ℕ, ◌≡◌, false, true, List, [], ◌++◌, ◌∷◌, leb, drop, get_or, length, take}
+use Rattle.std.specs.Prelude.{◌+◌, ◌-◌, ◌<◌, ◌≤◌, min, suc, ℕ, ◌≡◌, false, List, [], ◌++◌, ◌∷◌, leb, drop, get_or, length, take}
+use Rattle.std.specs.Prelude.{Option, Some, None}
 use Rattle.std.proofs.lemmas.List.Edits.{sets}
 use Rattle.octets.specs.Lists.{if◌then◌otherwise◌}
 use Rattle.octets.specs.Octets.{be}
@@ -12,6 +13,7 @@ use Rattle.book_laws.specs.Ahead.{name_before}
 use Rattle.book_laws.specs.Check.{score_start}
 use Rattle.book_seek.specs.declared.Seek.{Seek}
 use Rattle.edit_copy.specs.declared.Behind.{Behind}
+use Rattle.edit_copy.specs.declared.Header.{Header}
 use Rattle.edit_copy.specs.declared.Plan.{Plan}
 
 -- the bytes from index a to before index b
@@ -19,8 +21,12 @@ abbrev pub part : ℕ → ℕ → List ℕ → List ℕ
 part a b s = take (b - a) (drop a s)
 
 -- the header, if there is one; and all bytes behind the place, where the old image ends at index `end`
+abbrev pub header_bytes : Option Header → List ℕ
+header_bytes None = []
+header_bytes (Some h) = h.kept ∷ h.own ∷ []
+
 abbrev pub header_of : Behind → List ℕ
-header_of b = if b.some then (b.kept ∷ b.own ∷ []) otherwise []
+header_of b = header_bytes b.header
 
 abbrev pub behind_bytes : List ℕ → ℕ → Behind → List ℕ
 behind_bytes book end b = header_of b ++ (part b.from (b.from + b.lent) book ++ part b.rest end book)
@@ -34,7 +40,7 @@ pub record Bytes (book : List ℕ) (end : ℕ) (bs : List ℕ) (b : Behind) : Ty
 
 -- none: no header, and nothing of the old image
 abbrev pub nothing : ℕ → Behind
-nothing end = record { some = false; kept = 0; own = 0; from = 0; lent = 0; rest = end }
+nothing end = record { header = None; from = 0; lent = 0; rest = end }
 
 -- behind a new name: the header of the record there, which has been read, is changed
 abbrev pub behind_new : List ℕ → ℕ → ℕ → Seek → Behind
@@ -43,9 +49,7 @@ behind_new book end n s =
     if leb n s.place
     then nothing end
     otherwise (record {
-      some = true;
-      kept = s.above;
-      own = get_or book (s.at + 1) 0 - more;
+      header = Some (record { kept = s.above; own = get_or book (s.at + 1) 0 - more });
       from = 0;
       lent = 0;
       rest = s.at + 2 + more;
@@ -67,9 +71,7 @@ behind_gone book end at kept own =
     if leb end next
     then nothing end
     otherwise (record {
-      some = true;
-      kept = min kept old;
-      own = old - min kept old + get_or book (next + 1) 0;
+      header = Some (record { kept = min kept old; own = old - min kept old + get_or book (next + 1) 0 });
       from = at + 2;
       lent = old - min kept old;
       rest = next + 2;
@@ -108,17 +110,51 @@ pub record ScoreRoom (book : List ℕ) (n i : ℕ) : Type 0 where
   pub within : i ≤ n
   pub inside : score_start n ≤ length book
 
--- the scores of n entries with another one put in at position i, or with the one there left out
+-- the scores of n entries with those from position i to before position `next` given way to the bytes `own`, few
+-- enough
+abbrev pub scores_spliced : List ℕ → ℕ → ℕ → List ℕ → ℕ → List ℕ
+scores_spliced book n i own next =
+    part 7 (score_start i) book ++ (own ++ part (score_start next) (score_start n) book)
+
+pub record ScoresRoom (book : List ℕ) (n i : ℕ) (own : List ℕ) (next : ℕ) : Type 0 where
+  pub front : ScoreRoom book n i
+  pub back : ScoreRoom book n next
+  pub few : length own ≤ 4
+
+-- with another one put in at position i, or with the one there left out
 abbrev pub scores_with : List ℕ → ℕ → ℕ → ℕ → List ℕ
-scores_with book n i score =
-    part 7 (score_start i) book ++ (be 4 score ++ part (score_start i) (score_start n) book)
+scores_with book n i score = scores_spliced book n i (be 4 score) i
 
 abbrev pub scores_without : List ℕ → ℕ → ℕ → List ℕ
-scores_without book n i = part 7 (score_start i) book ++ part (score_start (i + 1)) (score_start n) book
+scores_without book n i = scores_spliced book n i [] (i + 1)
 
 -- the records of names, the first of them behind the name p
 abbrev pub after : List ℕ → List (List ℕ) → List ℕ
 after p ws = records false 0 p ws
+
+-- a plan for so many entries, where the place and the bytes are no further than a book can reach
+abbrev pub plan_of : Layout → ℕ → ℕ → Seek → ℕ → Behind → ℕ → Plan
+plan_of l n count s own behind end =
+    let start = records_at l count + (s.at - records_at l n) in
+    record {
+      old = records_at l n;
+      new = records_at l count;
+      start = start;
+      at = start + own;
+      behind = behind;
+      end = end;
+      total = start + own + behind_size end behind;
+    }
+
+pub record PlanRoom (l : Layout) (n count : ℕ) (s : Seek) (own : ℕ) (behind : Behind) (end : ℕ) : Type 0 where
+  pub few : n ≤ max_entries
+  pub count_few : count ≤ max_entries
+  pub order : records_at l n ≤ s.at
+  pub near : records_at l count + s.at ≤ 65536
+  pub short : own ≤ 50
+  pub rest : behind.rest ≤ end
+  pub lent : behind.lent ≤ end
+  pub small : end ≤ 65536
 
 -- the plan p: behind the records in front of the place s come the bytes `own`, then the bytes bs, and the result has
 -- count entries

@@ -3,29 +3,34 @@
 // and its bytes stand in the old image. Peaks and frame are made anew.
 #![tactic(auto)]
 
-ghost use Rattle.std.specs.Prelude.{◌≡◌, ◌+◌, ◌<◌, ◌≤◌};
+ghost use Rattle.std.specs.Prelude.{◌≡◌, ◌≤◌};
 ghost use Rattle.std.proofs.lemmas.List.Edits.{sets};
-ghost use Rattle.entries.specs.Entries.{entry, max_entries, with, without};
+ghost use Rattle.entries.specs.Entries.{entry, with, without};
 ghost use Rattle.answer.specs.Reports.{Answered};
 ghost use Rattle.book.specs.Book.{in_book_in};
 ghost use Rattle.book_write.specs.Whole.{whole_in};
 ghost use Rattle.edit_copy.specs.Asked.{Adds, Withdraws};
-ghost use Rattle.edit_copy.specs.Copies.{BehindRoom, GoneRoom, HeaderPut, NewRoom, PlannedWith};
-ghost use Rattle.edit_copy.specs.Copies.{PlannedWithout, ScoreRoom, behind_bytes, behind_gone};
-ghost use Rattle.edit_copy.specs.Copies.{behind_new, behind_size, nothing, scores_with, scores_without};
+ghost use Rattle.edit_copy.specs.Copies.{BehindRoom, GoneRoom, HeaderPut, NewRoom, PlanRoom, PlannedWith};
+ghost use Rattle.edit_copy.specs.Copies.{PlannedWithout, ScoresRoom, behind_bytes, behind_gone};
+ghost use Rattle.edit_copy.specs.Copies.{behind_new, behind_size, nothing, plan_of, scores_spliced};
 
-use answer::Written;
+use answer::{Refusal, Size};
 use book::Layout;
 use book_seek::Seek;
-use limits::{FRAME_LENGTH, HEADER_BYTES, TOTAL_AT};
+use limits::{FRAME_LENGTH, HEADER_BYTES, SCORE_BYTES, TOTAL_AT};
+
+// The header of a record: how many bytes it keeps of the name before, and how many it goes on with.
+#[derive(Clone, Copy)]
+struct Header {
+    kept: u8,
+    own: u8,
+}
 
 // What stands behind the place of an edit in the result: the header of the record there, if there is one, and bytes of
 // the old image in two runs.
 #[derive(Clone, Copy)]
 struct Behind {
-    some: bool,
-    kept: u8,
-    own: u8,
+    header: Option<Header>,
     // The first run: so many bytes from an index on, which the record that is left out lends to the one behind it.
     from: usize,
     lent: usize,
@@ -53,9 +58,7 @@ fn nothing(end: usize) -> Behind
     ensures { result ≡ nothing end }
 {
     Behind {
-        some: false,
-        kept: 0,
-        own: 0,
+        header: None,
         from: 0,
         lent: 0,
         rest: end,
@@ -74,10 +77,12 @@ fn behind_new(book: &[u8], end: usize, n: usize, s: Seek) -> Behind
     let at = s.at;
     let more = s.above - book[at] as usize;
     let own = book[at + 1] as usize - more;
-    Behind {
-        some: true,
+    let header = Header {
         kept: s.above as u8,
         own: own as u8,
+    };
+    Behind {
+        header: Some(header),
         from: 0,
         lent: 0,
         rest: at + HEADER_BYTES + more,
@@ -96,13 +101,15 @@ fn behind_gone(book: &[u8], end: usize, at: usize, kept: usize, own: usize) -> B
         return nothing(end);
     }
     let old = book[next] as usize;
-    let new = octets_code::least(kept, old);
+    let new = kept.min(old);
     let lent = old - new;
     let all = lent + book[next + 1] as usize;
-    Behind {
-        some: true,
+    let header = Header {
         kept: new as u8,
         own: all as u8,
+    };
+    Behind {
+        header: Some(header),
         from: from,
         lent: lent,
         rest: next + HEADER_BYTES,
@@ -115,20 +122,30 @@ fn behind_size(b: Behind, end: usize) -> usize
     ensures { result ≡ behind_size end b }
 {
     let runs = b.lent + (end - b.rest);
-    if b.some { HEADER_BYTES + runs } else { runs }
+    match b.header {
+        Some(_) => HEADER_BYTES + runs,
+        None => runs,
+    }
 }
 
-// How a new name is put in: behind the records in front of it comes its own.
-fn plan_with(l: Layout, book: &[u8], n: usize, s: Seek, name: &[u8]) -> Plan
-    requires { Adds l book.now n name.now s }
-    ensures { PlannedWith l book.now n name.now s result }
+// A plan for so many entries: behind the records in front of the place come so many bytes of a new record, and then what
+// stands `behind`.
+fn make_plan(
+    l: Layout,
+    n: usize,
+    count: usize,
+    s: Seek,
+    own: usize,
+    behind: Behind,
+    end: usize,
+) -> Plan
+    requires { PlanRoom l n count s own behind end }
+    ensures { result ≡ plan_of l n count s own behind end }
 {
-    let end = octets_code::read_u32(book, TOTAL_AT) as usize;
     let old = book_layout::records_at(l, n);
-    let new = book_layout::records_at(l, n + 1);
+    let new = book_layout::records_at(l, count);
     let start = new + (s.at - old);
-    let at = start + HEADER_BYTES + (name.len() - s.below);
-    let behind = behind_new(book, end, n, s);
+    let at = start + own;
     let total = at + behind_size(behind, end);
     Plan {
         old: old,
@@ -141,26 +158,25 @@ fn plan_with(l: Layout, book: &[u8], n: usize, s: Seek, name: &[u8]) -> Plan
     }
 }
 
+// How a new name is put in: behind the records in front of it comes its own.
+fn plan_with(l: Layout, book: &[u8], n: usize, s: Seek, name: &[u8]) -> Plan
+    requires { Adds l book.now n name.now s }
+    ensures { PlannedWith l book.now n name.now s result }
+{
+    let end = octets_code::read_u32(book, TOTAL_AT) as usize;
+    let own = HEADER_BYTES + (name.len() - s.below);
+    let behind = behind_new(book, end, n, s);
+    make_plan(l, n, n + 1, s, own, behind, end)
+}
+
 // How a held name is left out: behind the records in front of it comes what stands behind its own.
 fn plan_without(l: Layout, book: &[u8], n: usize, s: Seek, name: &[u8]) -> Plan
     requires { Withdraws l book.now n name.now s }
     ensures { PlannedWithout l book.now n s result }
 {
     let end = octets_code::read_u32(book, TOTAL_AT) as usize;
-    let old = book_layout::records_at(l, n);
-    let new = book_layout::records_at(l, n - 1);
-    let start = new + (s.at - old);
     let behind = behind_gone(book, end, s.at, s.below, name.len() - s.below);
-    let total = start + behind_size(behind, end);
-    Plan {
-        old: old,
-        new: new,
-        start: start,
-        at: start,
-        behind: behind,
-        end: end,
-        total: total,
-    }
+    make_plan(l, n, n - 1, s, 0, behind, end)
 }
 
 // Stores the header, if there is one, at index at. Where it ends.
@@ -168,11 +184,11 @@ fn put_header(dst: &mut [u8], at: usize, b: Behind) -> usize
     requires { at ≤ 65536 }
     ensures { HeaderPut dst.old dst.new at b result }
 {
-    if !b.some {
+    let Some(header) = b.header else {
         return at;
-    }
-    let header = [b.kept, b.own];
-    octets_code::copy(dst, at, &header);
+    };
+    let bytes = [header.kept, header.own];
+    octets_code::copy(dst, at, &bytes);
     at + HEADER_BYTES
 }
 
@@ -189,32 +205,18 @@ fn put_behind(dst: &mut [u8], at: usize, book: &[u8], end: usize, b: Behind)
     octets_code::copy(dst, to + lent, &book[rest..end]);
 }
 
-// Stores the scores of n entries and that of one more, at position i.
-fn put_scores_with(dst: &mut [u8], book: &[u8], n: usize, i: usize, score: u32)
-    requires { ScoreRoom book.now n i × (n < max_entries) }
-    ensures { dst.new ≡ sets dst.old 7 (scores_with book.now n i score) }
+// Stores the scores of n entries, with those from position i to before position `next` given way to so many bytes.
+fn put_scores(dst: &mut [u8], book: &[u8], n: usize, i: usize, own: &[u8], next: usize)
+    requires { ScoresRoom book.now n i own.now next }
+    ensures { dst.new ≡ sets dst.old 7 (scores_spliced book.now n i own.now next) }
 {
     let cut = book_layout::score_start(i);
     octets_code::copy(dst, FRAME_LENGTH, &book[FRAME_LENGTH..cut]);
-    octets_code::write_u32(dst, cut, score);
+    octets_code::copy(dst, cut, own);
     octets_code::copy(
         dst,
-        book_layout::score_start(i + 1),
-        &book[cut..book_layout::score_start(n)],
-    );
-}
-
-// Stores the scores of n entries but that at position i.
-fn put_scores_without(dst: &mut [u8], book: &[u8], n: usize, i: usize)
-    requires { ScoreRoom book.now n (i + 1) }
-    ensures { dst.new ≡ sets dst.old 7 (scores_without book.now n i) }
-{
-    let cut = book_layout::score_start(i);
-    octets_code::copy(dst, FRAME_LENGTH, &book[FRAME_LENGTH..cut]);
-    octets_code::copy(
-        dst,
-        cut,
-        &book[book_layout::score_start(i + 1)..book_layout::score_start(n)],
+        cut + own.len(),
+        &book[book_layout::score_start(next)..book_layout::score_start(n)],
     );
 }
 
@@ -227,16 +229,18 @@ pub fn write_with(
     name: &[u8],
     score: u32,
     dst: &mut [u8],
-) -> Written
+) -> Result<Size, Refusal>
     requires { Adds l book.now n name.now s }
     ensures { Answered (whole_in l (with (entry name.now score) (in_book_in l book.now))
         dst.old) result dst.new }
 {
     let p = plan_with(l, book, n, s, name);
     if dst.len() < p.total {
-        return Written::Refused(7);
+        return Err(Refusal::TooShort);
     }
-    put_scores_with(dst, book, n, s.place, score);
+    let mut own = [0u8; SCORE_BYTES];
+    octets_code::write_u32(&mut own, 0, score);
+    put_scores(dst, book, n, s.place, &own, s.place);
     let old = p.old;
     let cut = s.at;
     octets_code::copy(dst, p.new, &book[old..cut]);
@@ -244,10 +248,10 @@ pub fn write_with(
     book_record_write::put_record(dst, p.start, false, s.place, &name[..below], name);
     put_behind(dst, p.at, book, p.end, p.behind);
     book_write::finish(dst, l, n + 1, p.total);
-    Written::Wrote {
+    Ok(Size {
         entries: n + 1,
         bytes: p.total,
-    }
+    })
 }
 
 // Writes the book without the entry of a held name, where the destination has room. The seek tells where it stands.
@@ -258,23 +262,23 @@ pub fn write_without(
     s: Seek,
     name: &[u8],
     dst: &mut [u8],
-) -> Written
+) -> Result<Size, Refusal>
     requires { Withdraws l book.now n name.now s }
     ensures { Answered (whole_in l (without name.now (in_book_in l book.now))
         dst.old) result dst.new }
 {
     let p = plan_without(l, book, n, s, name);
     if dst.len() < p.total {
-        return Written::Refused(7);
+        return Err(Refusal::TooShort);
     }
-    put_scores_without(dst, book, n, s.place);
+    put_scores(dst, book, n, s.place, &[], s.place + 1);
     let old = p.old;
     let cut = s.at;
     octets_code::copy(dst, p.new, &book[old..cut]);
     put_behind(dst, p.at, book, p.end, p.behind);
     book_write::finish(dst, l, n - 1, p.total);
-    Written::Wrote {
+    Ok(Size {
         entries: n - 1,
         bytes: p.total,
-    }
+    })
 }

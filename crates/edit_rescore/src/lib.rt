@@ -10,7 +10,7 @@ ghost use Rattle.answer.specs.Reports.{Answered};
 ghost use Rattle.book_write.specs.Whole.{whole_book};
 ghost use Rattle.edit_rescore.specs.Rescored.{rescored};
 
-use answer::Written;
+use answer::{Refusal, Size};
 use limits::BLOCK_SIZE;
 
 // Writes the book of n entries and so many bytes with another score at position i, for which there is room: it has as
@@ -27,18 +27,24 @@ fn rescore(book: &[u8], n: usize, i: usize, score: u32, total: usize, dst: &mut 
 }
 
 // Writes the book with another score at a position, where the destination has room.
-pub fn write_score(book: &[u8], n: usize, i: usize, score: u32, dst: &mut [u8]) -> Written
+pub fn write_score(
+    book: &[u8],
+    n: usize,
+    i: usize,
+    score: u32,
+    dst: &mut [u8],
+) -> Result<Size, Refusal>
     requires { Held book.now n × (i < n) }
     ensures { Answered (whole_book (rescored (in_book book.now) i score) dst.old) result
         dst.new }
 {
     let total = book_layout::image_length(book);
     if dst.len() < total {
-        return Written::Refused(7);
+        return Err(Refusal::TooShort);
     }
     rescore(book, n, i, score, total, dst);
-    Written::Wrote {
+    Ok(Size {
         entries: n,
         bytes: total,
-    }
+    })
 }

@@ -14,6 +14,9 @@ use Rattle.octets_code.proofs.Loops.{drop_next}
 use Rattle.entries.specs.Names.{is_pair, is_plain, last_sign}
 use Rattle.entries_laws.proofs.Prefixes.{same_first_lem}
 use Rattle.entries_laws.proofs.Signs.{half_broken, lead_not_pair, micro-pair, ohm-pair}
+use Rattle.entries_laws.specs.Halves.{half_number}
+use Rattle.entries_laws.specs.declared.Half.TheVariants as half
+use Rattle.entries_laws.specs.declared.Half.{Half}
 use Rattle.entries_laws.specs.Signs.{broken_half, half_after, half_step, micro_half, no_half, ohm_half}
 use Rattle.entries_check.specs.Signs.{NoSign, pair_first}
 
@@ -88,11 +91,13 @@ last_short (a ∷ []) h = rw same_first_lem
 last_short (a ∷ b ∷ w) h = absurd (omega arith)
 
 -- no byte closes any other half than that of µ and of Ω
-pub closes_none : (h b : ℕ) → (h ≡ 0 → ⊥) → (h ≡ 1 → ⊥) → (h ≡ 2 → ⊥) → half_step h b ≡ broken_half
-closes_none zero b x y z = absurd (x refl)
-closes_none (suc zero) b x y z = absurd (y refl)
-closes_none (suc (suc zero)) b x y z = absurd (z refl)
-closes_none (suc (suc (suc h))) b x y z = refl
+pub closes_none :
+    (h : Half) (b : ℕ) → (half_number h ≡ no_half → ⊥) → (h ≡ half.Micro → ⊥) → (h ≡ half.Ohm → ⊥)
+    → half_step (half_number h) b ≡ broken_half
+closes_none half.None b x y z = absurd (x refl)
+closes_none half.Micro b x y z = absurd (y refl)
+closes_none half.Ohm b x y z = absurd (z refl)
+closes_none half.Broken b x y z = refl
 
 pub closes_one : (c b : ℕ) → eqb b c ≡ eqb (if eqb b c then no_half otherwise broken_half) no_half
 closes_one c b = by_test (eqb b c) (λ t. rw t) (λ t. rw t)

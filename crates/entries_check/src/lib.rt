@@ -3,13 +3,12 @@
 
 ghost use Rattle.std.specs.Prelude.{◌<◌, ◌≤◌, ◌≡◌, drop, length, eqb};
 ghost use Rattle.entries.specs.Names.{is_name, is_pair, is_plain, is_prefix, last_sign};
+ghost use Rattle.entries_laws.specs.Halves.{half_number};
 ghost use Rattle.entries_laws.specs.Signs.{half_after, half_step, no_half};
 ghost use Rattle.entries_check.specs.Signs.{NoSign, PastPlain, pair_first};
 
-use limits::{
-    BROKEN_HALF, FIRST_PLAIN, LAST_PLAIN, LONGEST_NAME, MICRO_HALF, MICRO_LEAD, MICRO_TAIL,
-    NO_HALF, OHM_HALF, OHM_LEAD, OHM_TAIL,
-};
+use entries_laws::Half;
+use limits::{FIRST_PLAIN, LAST_PLAIN, LONGEST_NAME, MICRO_LEAD, MICRO_TAIL, OHM_LEAD, OHM_TAIL};
 
 // Whether a byte is a sign by itself: 20 to 7E.
 pub fn is_plain(b: u8) -> bool
@@ -47,21 +46,18 @@ fn pair_at(w: &[u8], i: usize) -> bool
 
 // The half of a pair that is open behind a text from an index on at which no sign stands: if the text ends there in the
 // first half of a pair, that half; else no text goes on.
-fn cut_at(w: &[u8], i: usize) -> usize
+fn cut_at(w: &[u8], i: usize) -> Half
     requires { (i < length w.now) × NoSign (drop i w.now) }
-    ensures { result ≡ half_after no_half (drop i w.now) }
+    ensures { half_number result ≡ half_after no_half (drop i w.now) }
 {
     if 1 < w.len() - i {
-        return BROKEN_HALF;
+        return Half::Broken;
     }
-    let x = w[i];
-    if x == MICRO_LEAD {
-        return MICRO_HALF;
+    match w[i] {
+        MICRO_LEAD => Half::Micro,
+        OHM_LEAD => Half::Ohm,
+        _ => Half::Broken,
     }
-    if x == OHM_LEAD {
-        return OHM_HALF;
-    }
-    BROKEN_HALF
 }
 
 // The first index from one on at which no sign of one byte stands, or the end.
@@ -69,20 +65,18 @@ fn past_plain(w: &[u8], from: usize) -> usize
     requires { from ≤ length w.now }
     ensures { PastPlain w.now from result }
 {
-    let mut i = from;
-    while i < w.len() {
+    for i in from..w.len() {
         if !is_plain(w[i]) {
             return i;
         }
-        i += 1;
     }
-    i
+    w.len()
 }
 
-// The half of a pair that is open behind the signs from an index on.
-fn half_from(w: &[u8], from: usize) -> usize
+// The half of a pair that is open behind the signs from an index on. The loop walks by signs, of one byte or two.
+fn half_from(w: &[u8], from: usize) -> Half
     requires { from ≤ length w.now }
-    ensures { result ≡ half_after no_half (drop from w.now) }
+    ensures { half_number result ≡ half_after no_half (drop from w.now) }
 {
     let mut i = past_plain(w, from);
     while i < w.len() {
@@ -91,7 +85,7 @@ fn half_from(w: &[u8], from: usize) -> usize
         }
         i = past_plain(w, i + 2);
     }
-    NO_HALF
+    Half::None
 }
 
 // Whether w is an allowed prefix: 0 to 48 such bytes.
@@ -101,7 +95,7 @@ pub fn is_prefix(w: &[u8]) -> bool
     if LONGEST_NAME < w.len() {
         return false;
     }
-    half_from(w, 0) == NO_HALF
+    half_from(w, 0) == Half::None
 }
 
 // Whether w is an allowed name: 1 to 48 such bytes.
@@ -129,31 +123,29 @@ pub fn last_sign(w: &[u8]) -> usize
 }
 
 // Whether the next byte is the other half of the one that is open.
-fn closes(half: usize, next: u8) -> bool
-    requires { half ≡ no_half → ⊥ }
-    ensures { result ≡ eqb (half_step half next) no_half }
+fn closes(half: Half, next: u8) -> bool
+    requires { half_number half ≡ no_half → ⊥ }
+    ensures { result ≡ eqb (half_step (half_number half) next) no_half }
 {
-    if half == MICRO_HALF {
-        return next == MICRO_TAIL;
+    match half {
+        Half::Micro => next == MICRO_TAIL,
+        Half::Ohm => next == OHM_TAIL,
+        _ => false,
     }
-    if half != OHM_HALF {
-        return false;
-    }
-    next == OHM_TAIL
 }
 
 // The half of a pair that is open behind a part of a text, where `half` was open in front of it.
-pub fn half_after(half: usize, w: &[u8]) -> usize
-    ensures { result ≡ half_after half w.now }
+pub fn half_after(half: Half, w: &[u8]) -> Half
+    ensures { half_number result ≡ half_after (half_number half) w.now }
 {
-    if half == NO_HALF {
+    if half == Half::None {
         return half_from(w, 0);
     }
     if w.len() == 0 {
         return half;
     }
     if !closes(half, w[0]) {
-        return BROKEN_HALF;
+        return Half::Broken;
     }
     half_from(w, 1)
 }

@@ -1,3 +1,4 @@
+pub mod Halves
 pub mod Place
 pub mod Signs
 pub mod Splice

@@ -1,4 +1,4 @@
-// The first seven bytes of books, sheets and tries: tested, and stored. What the checks of the three answer.
+// The first seven bytes of books, sheets and tries: tested, and stored.
 #![tactic(auto)]
 
 ghost use Rattle.std.specs.Prelude.{◌≡◌, ◌<◌, ◌≤◌};
@@ -8,49 +8,32 @@ ghost use Rattle.frame_code.specs.Stored.{put_frame};
 
 use limits::{COUNT_AT, FRAME_LENGTH, MAX_ENTRIES, TOTAL_AT};
 
-// No image, or one of so many entries.
-#[derive(Clone, Copy)]
-pub enum Image {
-    Damaged,
-    Entries(usize),
-}
-
-// Where the parts behind the first seven bytes end.
-#[derive(Clone, Copy)]
-pub enum Ended {
-    Damaged,
-    At(usize),
-}
-
-// No frame of the version asked for, or one that says how many entries and how many bytes in all.
-#[derive(Clone, Copy)]
-pub enum Frame {
-    Damaged,
-    Holds { entries: usize, total: usize },
+// What the first seven bytes say: how many entries, and how many bytes in all.
+#[derive(Clone, Copy, Debug, PartialEq, Eq)]
+pub struct Frame {
+    pub entries: usize,
+    pub total: usize,
 }
 
 // Tests the first seven bytes: there, of this version, not more entries than allowed, not cut off by the buffer.
-pub fn check_frame(buf: &[u8], version: u8) -> Frame
+pub fn check_frame(buf: &[u8], version: u8) -> Option<Frame>
     ensures { result ≡ frame_as version buf.now }
 {
     if buf.len() < FRAME_LENGTH {
-        return Frame::Damaged;
+        return None;
     }
     if buf[0] != version {
-        return Frame::Damaged;
+        return None;
     }
     let entries = octets_code::read_u16(buf, COUNT_AT) as usize;
     if MAX_ENTRIES < entries {
-        return Frame::Damaged;
+        return None;
     }
     let total = octets_code::read_u32(buf, TOTAL_AT) as usize;
     if buf.len() < total {
-        return Frame::Damaged;
+        return None;
     }
-    Frame::Holds {
-        entries: entries,
-        total: total,
-    }
+    Some(Frame { entries, total })
 }
 
 // Stores the first seven bytes of an image of so many bytes in all and n entries.

@@ -17,7 +17,6 @@ ghost use Rattle.script.specs.Run.{run_of};
 ghost use Rattle.abi.specs.Told.{FoundTold, SpanTold, WrittenTold};
 ghost use Rattle.abi.specs.Left.{HeadTold, Left, OfferedLeft, OfferedOver, PanelLeft, RunLeft, head_at};
 
-use answer::HeadLength;
 use limits::COUNT_AT;
 
 // Writes the book of no entries.
@@ -80,7 +79,7 @@ pub extern "C" fn label_book_merge(
 pub extern "C" fn label_book_check(book: &[u8], entries: &mut usize, bytes: &mut usize) -> u8
     ensures { WrittenTold (check_book book.now) result entries.new bytes.new }
 {
-    abi_values::tell_checked(label_book::check(book), entries, bytes)
+    abi_values::tell_written(label_book::check(book), entries, bytes)
 }
 
 // Writes the entry at a position as one answer entry.
@@ -234,12 +233,12 @@ pub extern "C" fn label_book_head(
     *start = 0;
     *length = 0;
     match label_book::head_length(book, bucket) {
-        HeadLength::Refused(n) => n,
-        HeadLength::Bytes(k) => {
+        Ok(size) => {
             *start = head_start(book);
-            *length = k;
+            *length = size;
             0
         }
+        Err(refusal) => u8::from(refusal),
     }
 }
 

@@ -4,7 +4,7 @@
 // at the end the ledger's book. Of standard input and output themselves they promise nothing, since no contract of `io`
 // or `libc` says which bytes a read gives or what a write does with its own: a program that read nothing would keep
 // them too. Where a read or a write fails, the program says so on standard error, prints nothing more and stops
-// reading; the language has no exit status.
+// reading; its exit status is 0 then too.
 #![tactic(auto)]
 
 ghost use Rattle.std.specs.Prelude.{◌≡◌, false, ◌≤◌, length, take};
@@ -20,7 +20,8 @@ use std::io::Read;
 const INPUT_ROOM: usize = 65536;
 
 // Between two reads: the bytes kept of the line begun, whether the second buffer holds the book, and the bytes that the
-// last read gave, none at the input's end; and whether every read and write so far has worked.
+// last read gave, none at the input's end; and whether every read and write so far has worked. That is a flag, and no
+// error passed up by `?`, since `ProgramRan` holds where a write fails too: the lines read are carried out to the last.
 #[derive(Clone, Copy)]
 struct State {
     kept: usize,
@@ -57,11 +58,6 @@ fn read_once(rt: HostRuntime, input: &mut [u8]) -> (usize, bool)
             (0, false)
         }
     }
-}
-
-// Whether there is more to read, as far as the last read tells.
-fn goes_on(got: usize, works: bool) -> bool {
-    works && got > 0
 }
 
 // Feeds a part of the input, all of it, and writes what it prints.
@@ -127,9 +123,9 @@ fn read_part(
     answer_part(rt, &input[..n], t, line, first, second, out)
 }
 
-// Reads to the end of the input. A proved loop has to end, so it counts its reads down from a number that no run uses
-// up. The console afterwards is the one that some bytes lead to. They are all that was read, one read behind the other,
-// but the contract cannot name them: each read overwrites `input`, so that no buffer holds them in the end.
+// Reads to the end of the input. A proved loop has to end, so it makes at most as many reads as no run uses up. The
+// console afterwards is the one that some bytes lead to. They are all that was read, one read behind the other, but the
+// contract cannot name them: each read overwrites `input`, so that no buffer holds them in the end.
 fn read_all(
     rt: HostRuntime,
     input: &mut [u8],
@@ -142,18 +138,17 @@ fn read_all(
     ensures { SomeFed (console_in 0 false line.old first.old second.old)
         result.kept result.turned line.new first.new second.new }
 {
-    let mut reads = u64::MAX;
     let mut s = State {
         kept: 0,
         turned: false,
         got: 0,
         works: true,
     };
-    let mut more = true;
-    while reads > 0 && more {
+    for _ in 0..u64::MAX {
         s = read_part(rt, input, s, line, first, second, out);
-        more = goes_on(s.got, s.works);
-        reads -= 1;
+        if !s.works || s.got == 0 {
+            break;
+        }
     }
     s
 }
@@ -174,7 +169,8 @@ fn run(
     ensures { ProgramRan first.old second.old result.bytes result.turned
         first.new second.new out.new }
 {
-    edit_calls::empty(first);
+    // The buffer has room for it.
+    let _ = edit_calls::empty(first);
     let s = read_all(rt, input, line, first, second, out);
     let f = program_run::finish(s.kept, s.turned, line, first, second, out);
     let n = f.bytes;

@@ -16,14 +16,6 @@ pub const MICRO_TAIL: u8 = 0xB5;
 pub const OHM_LEAD: u8 = 0xCE;
 
 pub const OHM_TAIL: u8 = 0xA9;
-// Which half of a pair is open behind a part of a text: `no_half`, `micro_half`, `ohm_half`, `broken_half`.
-pub const NO_HALF: usize = 0;
-
-pub const MICRO_HALF: usize = 1;
-
-pub const OHM_HALF: usize = 2;
-
-pub const BROKEN_HALF: usize = 3;
 
 // The most entries of a book, a trie or a sheet: `max_entries`.
 pub const MAX_ENTRIES: usize = 1024;
@@ -90,8 +82,8 @@ pub const PAGE_LINE: usize = PAGE_COLUMNS + 1;
 // The columns of a page's line that a name has: `name_columns`.
 pub const NAME_COLUMNS: usize = 28;
 
-// Up to how many names a small table serves for a page: `small_table`. A whole one takes about 1 µs to clear, which is
-// as long as a page of some twenty names.
+// Up to how many names a small table serves for a page. A whole one takes about 1 µs to clear, which is as long as a
+// page of some twenty names.
 pub const SMALL_TABLE: usize = 128;
 
 // The length of each of the program's two buffers: `buffer_length`.

@@ -1,17 +1,14 @@
 -- What lookups by name learn of a book that was checked.
 use Prim.Native.Nat.{◌<◌, ◌≤◌, ℕ}
 use mathlib.Core.Path.{◌∙◌, ◌≡◌, ap, sym}
-use mathlib.Core.Logic.{inl, inr}
 use mathlib.Core.Bool.{Bool, false, true}
 use mathlib.Core.List.{List, [], ◌∷◌}
-use mathlib.Core.Option.{Option, none, some}
+use mathlib.Core.Option as maybe
+use Rattle.std.specs.Prelude.{None, Option, Some}
 use lib.Dec.{ltb}
 use lib.ListN.{length}
 use native.Mathlib.Omega.{arith}
-use denote.Enum.Declared.{tag_of}
-use types.Run.{OneOf}
 use borrow.Author.Tests.{lt-ltb, ltb-true}
-use Rattle.answer.specs.contracts.Found.{the_type}
 use Rattle.octets.specs.Lists.{if◌then◌otherwise◌}
 use Rattle.octets.specs.Octets.{same}
 use Rattle.octets.proofs.Order.{same_eq}
@@ -20,7 +17,7 @@ use Rattle.entries.specs.Entries.{Entry, at, entry, holds, max_entries, names, p
 use Rattle.entries_laws.specs.Place.{is_at, place}
 use Rattle.entries_laws.proofs.Place.{place-absent, place-held, place_most, position_at}
 use Rattle.entries.proofs.Same.{entry_eq}
-use Rattle.answer.specs.Answers.{Answer, FoundCounts, given, refused}
+use Rattle.answer.specs.Answers.{FoundCounts}
 use Rattle.book.specs.Book.{in_book}
 use Rattle.book_laws.specs.Check.{score_at}
 use Rattle.book_laws.specs.Held.{Held}
@@ -29,10 +26,9 @@ use Rattle.book_laws.proofs.Held.{held_stored, held-valid}
 use Rattle.book_seek.specs.Seek.{Seeking}
 use Rattle.book_seek.specs.declared.Seek.{Seek}
 use Rattle.book_seek.proofs.Found.{seeking_place, seeking_same}
-use Rattle.answer.specs.Reports.{found_of}
+use Rattle.answer.specs.Reports.{finding}
 use Rattle.lookup_find.specs.Finding.{found_at}
 use Rattle.answer.specs.declared.Found.{Found}
-use Rattle.answer.specs.declared.Found.TheVariants as found
 
 -- what the search for a name told of a book that was checked: its place, where it stands or where there is a gap
 module _ (b w : List ℕ) {n start : ℕ} {s : Seek} (h : Held b n) (k : Seeking w start (names (in_book b)) s) where
@@ -68,65 +64,48 @@ module _ (b w : List ℕ) {n start : ℕ} {s : Seek} (h : Held b n) (k : Seeking
           let l : i < length (in_book b) = omega (arith, f.1) in
           rw (t, f.0, f.1, seeking_place (in_book b) k, (held_stored h).scored_at i l)
 
--- the answers of finding, by what the search told
+-- what is found, by what the search told
 module _ (b : List ℕ) (s : Seek) where
-  abbrev when : Bool → Answer (Option FoundCounts)
-  when t = given (if t then some (record { position = s.place; score = score_at b s.place }) otherwise none)
+  abbrev when : Bool → maybe.Option FoundCounts
+  when t = if t then maybe.some (record { position = s.place; score = score_at b s.place }) otherwise maybe.none
 
-  pub found_gap : s.same ≡ false → ◌≡◌ {A = Answer (Option FoundCounts)} (given none) (given (found_at b s))
+  pub found_gap : s.same ≡ false → finding None ≡ found_at b s
   found_gap t = ap when (sym t)
 
   pub found_there :
       {score : ℕ} → s.same ≡ true → score ≡ score_at b s.place
-      → ◌≡◌ {A = Answer (Option FoundCounts)} (given (some (record { position = s.place; score = score })))
-      (given (found_at b s))
-  found_there t e = ap (λ x. given (some (record { position = s.place; score = x }))) e ∙ ap when (sym t)
+      → finding (Some (record { position = s.place; score = score })) ≡ found_at b s
+  found_there t e = ap (λ x. maybe.some (record { position = s.place; score = x })) e ∙ ap when (sym t)
 
-score_in : Answer (Option FoundCounts) → ℕ
-score_in (refused n) = 0
-score_in (given none) = 0
-score_in (given (some p)) = p.score
-
-position_in : Answer (Option FoundCounts) → ℕ
-position_in (refused n) = 0
-position_in (given none) = 0
-position_in (given (some p)) = p.position
+score_in : maybe.Option FoundCounts → ℕ
+score_in maybe.none = 0
+score_in (maybe.some p) = p.score
 
 -- a name that is found is the entry at its position
 pub found_entry :
-    (w : List ℕ) (es : List Entry) (i s : ℕ)
-    → ◌≡◌ {A = Answer (Option FoundCounts)} (given (some (record { position = i; score = s }))) (given (found_in w es))
-    → (holds w es ≡ true) × (entry w s ≡ at es (position w es))
+    (w : List ℕ) (es : List Entry) {f : Found} → finding (Some f) ≡ found_in w es
+    → (holds w es ≡ true) × (entry w f.score ≡ at es (position w es))
 unfolding found_in score_in
-found_entry w es i s h =
+found_entry w es {f} h =
     by_test (holds w es)
     (λ t. (t, here t (rw t at h)))
-    (λ t. let y : ◌≡◌ {A = Answer (Option FoundCounts)} (given (some (record { position = i; score = s })))
-    (given none) = rw
-    t at h in let z : ◌≡◌ {A = ℕ} 0 1 = cc in absurd (omega arith))
+    (λ t. absurd (some_none (rw t at h)))
   where
-    here : holds w es ≡ true → ◌≡◌ {A = Answer (Option FoundCounts)} (given (some (record { position = i; score = s })))
-        (given (some (record { position = position w es; score = (at es (position w es)).score })))
-        → entry w s ≡ at es (position w es)
+    some_none : finding (Some f) ≡ maybe.none → ⊥
+    some_none e = cc
+
+    here : holds w es ≡ true
+        → finding (Some f)
+        ≡ maybe.some (record { position = position w es; score = (at es (position w es)).score })
+        → entry w f.score ≡ at es (position w es)
     here t e =
-        let q : s ≡ (at es (position w es)).score = ap score_in e in
-        entry_eq (entry w s) (at es (position w es)) (sym (position_at w es t).1) q
+        let q : f.score ≡ (at es (position w es)).score = ap score_in e in
+        entry_eq (entry w f.score) (at es (position w es)) (sym (position_at w es t).1) q
 
-found_not : (w : List ℕ) (es : List Entry)
-    → ◌≡◌ {A = Answer (Option FoundCounts)} (given none) (given (found_in w es))
-    → holds w es ≡ false
+-- and where none is found, it is absent
+pub found_not : (w : List ℕ) (es : List Entry) → finding None ≡ found_in w es → holds w es ≡ false
 unfolding found_in
-found_not w es h =
-    by_test (holds w es)
-    (λ t. let y : ◌≡◌ {A = Answer (Option FoundCounts)} (given none)
-    (given (some (record { position = position w es; score = (at es (position w es)).score }))) = rw t at h in
-    let z : ◌≡◌ {A = ℕ} 0 1 = cc in absurd (omega arith))
-    (λ t. t)
-
--- an answer to finding in a book that was checked, and no position: the name is absent
-pub not_found : (w : List ℕ) (es : List Entry) (f : Found) → found_of f ≡ given (found_in w es)
-    → OneOf (0 ∷ 2 ∷ []) (tag_of the_type f) → holds w es ≡ false
-not_found w es (found.Refused n) e t = let z : ◌≡◌ {A = ℕ} 0 1 = cc in absurd (omega arith)
-not_found w es (found.At i s) e (inl t) = absurd (omega arith)
-not_found w es (found.At i s) e (inr t) = absurd (omega arith)
-not_found w es found.Absent e t = found_not w es e
+found_not w es h = by_test (holds w es) (λ t. absurd (none_some (rw t at h))) (λ t. t)
+  where
+    none_some : {p : FoundCounts} → finding None ≡ maybe.some p → ⊥
+    none_some e = cc

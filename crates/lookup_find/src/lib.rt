@@ -3,23 +3,22 @@
 
 ghost use Rattle.std.specs.Prelude.{◌≡◌, ◌≤◌};
 ghost use Rattle.entries.specs.Entries.{max_entries};
-ghost use Rattle.answer.specs.Answers.{given};
-ghost use Rattle.answer.specs.Reports.{found_of};
+ghost use Rattle.answer.specs.Reports.{finding};
 ghost use Rattle.lookup_find.specs.Finding.{found_at};
 
 use answer::Found;
 use book_seek::Seek;
 
 // The position and score of the name that was sought in a book.
-pub fn find_in(book: &[u8], s: Seek) -> Found
+pub fn find_in(book: &[u8], s: Seek) -> Option<Found>
     requires { s.place ≤ max_entries }
-    ensures { found_of result ≡ given (found_at book.now s) }
+    ensures { finding result ≡ found_at book.now s }
 {
     if !s.same {
-        return Found::Absent;
+        return None;
     }
-    Found::At {
+    Some(Found {
         position: s.place,
         score: book_layout::score_at(book, s.place),
-    }
+    })
 }

@@ -11,16 +11,17 @@ use Rattle.book.specs.Book.{in_book}
 use Rattle.book.proofs.Checks.{read_not_old}
 use Rattle.book_laws.specs.Held.{Held}
 use Rattle.lookup.specs.Lookups.{has_head, head_length, head_name}
-use Rattle.book_check.specs.Checked.{CheckedAs}
-use Rattle.book_check.specs.declared.Checked.{Checked}
+use Rattle.book_check.specs.Checked.{Declined}
+use Rattle.answer.specs.Reports.{number_of}
+use Rattle.answer.specs.declared.Refusal.{Refusal}
 use Rattle.book_check.proofs.Refusing.{refused_first}
 
-module _ (b : List ℕ) (j : ℕ) {key : List ℕ} {r : Checked} (c : CheckedAs b key r) (h : r.refusal ≡ 0 → ⊥) where
-  pub length-refused : refused r.refusal ≡ head_length b j
+module _ (b : List ℕ) (j : ℕ) {r : Refusal} (c : Declined b r) where
+  pub length-refused : refused (number_of r) ≡ head_length b j
   unfolding head_length
   length-refused =
       let es = in_book b in
-      sym (refused_first c h (6 when not (has_head es j) ∷ []) (length (at es 0).name))
+      sym (refused_first c (6 when not (has_head es j) ∷ []) (length (at es 0).name))
 
   -- then the part is empty
   pub head_refused : [] ≡ head_name b j

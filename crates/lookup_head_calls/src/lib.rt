@@ -7,19 +7,16 @@ ghost use Rattle.entries.specs.Entries.{at, max_entries};
 ghost use Rattle.book.specs.Book.{in_book, records_at, today};
 ghost use Rattle.book_laws.specs.Held.{Held};
 ghost use Rattle.lookup.specs.Lookups.{head_length, head_name};
-ghost use Rattle.answer.specs.Reports.{length_of};
+ghost use Rattle.answer.specs.Reports.{count_of};
 
-use answer::HeadLength;
+use answer::Refusal;
 use limits::HEADER_BYTES;
 
 // Whether a bucket of a book of n names has a head.
 fn has_head(n: usize, bucket: usize) -> bool
     ensures { (result ≡ (eqb bucket 0 && ltb 0 n)) × (result ≡ true → 0 < n) }
 {
-    if bucket != 0 {
-        return false;
-    }
-    0 < n
+    bucket == 0 && 0 < n
 }
 
 // Where the head name of a book of n entries begins: behind the common byte and the length of the first record, which
@@ -45,10 +42,9 @@ fn first_name<'a>(book: &'a [u8], n: usize) -> &'a [u8]
 pub fn head<'a>(book: &'a [u8], bucket: usize) -> &'a [u8]
     ensures { result.now ≡ head_name book.now bucket }
 {
-    let c = book_check::check(book, &[]);
-    if c.refusal != 0 {
+    let Ok(c) = book_check::check(book, &[]) else {
         return &book[0..0];
-    }
+    };
     if has_head(c.n, bucket) {
         return first_name(book, c.n);
     }
@@ -56,15 +52,12 @@ pub fn head<'a>(book: &'a [u8], bucket: usize) -> &'a [u8]
 }
 
 // The length of that name, or the refusal.
-pub fn head_length(book: &[u8], bucket: usize) -> HeadLength
-    ensures { length_of result ≡ head_length book.now bucket }
+pub fn head_length(book: &[u8], bucket: usize) -> Result<usize, Refusal>
+    ensures { count_of result ≡ head_length book.now bucket }
 {
-    let c = book_check::check(book, &[]);
-    if c.refusal != 0 {
-        return HeadLength::Refused(c.refusal);
-    }
+    let c = book_check::check(book, &[])?;
     if !has_head(c.n, bucket) {
-        return HeadLength::Refused(6);
+        return Err(Refusal::NoSuchPlace);
     }
-    HeadLength::Bytes(first_name(book, c.n).len())
+    Ok(first_name(book, c.n).len())
 }

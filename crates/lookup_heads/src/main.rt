@@ -15,6 +15,7 @@ fn read_full(rt: HostRuntime, book: &mut [u8]) -> io::Result<usize>
     ensures { IfOk result (λ n. n ≤ length book.new) }
 {
     let mut done = 0;
+    // It walks by what each read gives.
     while done < book.len() {
         let n = rt.stdin().read(&mut book[done..])?;
         if n == 0 {
@@ -28,11 +29,9 @@ fn read_full(rt: HostRuntime, book: &mut [u8]) -> io::Result<usize>
 // Prints what `head` hands out for each bucket.
 fn print_heads(rt: HostRuntime, book: &[u8]) -> io::Result<()> {
     let end = [b'\n'];
-    let mut bucket = 0;
-    while bucket < BUCKETS {
+    for bucket in 0..BUCKETS {
         rt.write_all(lookup_head_calls::head(book, bucket))?;
         rt.write_all(&end)?;
-        bucket += 1;
     }
     Ok(())
 }

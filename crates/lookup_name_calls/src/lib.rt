@@ -6,58 +6,45 @@ ghost use Rattle.std.specs.Prelude.{◌≡◌};
 ghost use Rattle.lookup.specs.Lookups.{find, name_of, prefix_range};
 ghost use Rattle.answer.specs.Reports.{Answered, found_of, span_of};
 
-use answer::{Found, Span, Written};
+use answer::{Found, Refusal, Size, Span};
 
 // The position and score of a name, or that it is absent.
-pub fn find(book: &[u8], name: &[u8]) -> Found
+pub fn find(book: &[u8], name: &[u8]) -> Result<Option<Found>, Refusal>
     ensures { found_of result ≡ find book.now name.now }
 {
-    let c = book_check::check(book, name);
-    if c.refusal != 0 {
-        return Found::Refused(c.refusal);
-    }
+    let c = book_check::check(book, name)?;
     if !entries_check::is_name(name) {
-        return Found::Refused(2);
+        return Err(Refusal::NotAllowed);
     }
-    lookup_find::find_in(book, c.seek)
+    Ok(lookup_find::find_in(book, c.seek))
 }
 
 // Writes the given name with its score as one answer entry.
-pub fn name_of(book: &[u8], name: &[u8], dst: &mut [u8]) -> Written
+pub fn name_of(book: &[u8], name: &[u8], dst: &mut [u8]) -> Result<Size, Refusal>
     ensures { Answered (name_of book.now name.now dst.old) result
         dst.new }
 {
-    let c = book_check::check(book, name);
-    if c.refusal != 0 {
-        return Written::Refused(c.refusal);
-    }
-    if !entries_check::is_name(name) {
-        return Written::Refused(2);
-    }
-    let Found::At { position: _, score } = lookup_find::find_in(book, c.seek) else {
-        return Written::Refused(4);
+    let Some(found) = find(book, name)? else {
+        return Err(Refusal::NotHeld);
     };
-    answer_write::write_entry(name, score, dst)
+    answer_write::write_entry(name, found.score, dst)
 }
 
 // The first position that a prefix begins, 0 if there is none, and how many it begins.
-pub fn prefix_range(book: &[u8], prefix: &[u8]) -> Span
+pub fn prefix_range(book: &[u8], prefix: &[u8]) -> Result<Span, Refusal>
     ensures { span_of result ≡ prefix_range book.now prefix.now }
 {
-    let c = book_check::check(book, prefix);
-    if c.refusal != 0 {
-        return Span::Refused(c.refusal);
-    }
+    let c = book_check::check(book, prefix)?;
     if !entries_check::is_prefix(prefix) {
-        return Span::Refused(2);
+        return Err(Refusal::NotAllowed);
     }
     let first = c.seek.place;
     let end = c.seek.past;
     if end <= first {
-        return Span::Range { first: 0, count: 0 };
+        return Ok(Span { first: 0, count: 0 });
     }
-    Span::Range {
-        first: first,
+    Ok(Span {
+        first,
         count: end - first,
-    }
+    })
 }

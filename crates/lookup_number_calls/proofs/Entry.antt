@@ -17,7 +17,9 @@ use Rattle.book.proofs.Checks.{read_not_old}
 use Rattle.book_laws.proofs.Held.{held_stored}
 use Rattle.answer.specs.Reports.{Answered}
 use Rattle.answer_write.specs.Entry.{one_entry}
-use Rattle.answer.specs.declared.Written.{Written}
+use Rattle.answer.specs.declared.Refusal.{Refusal}
+use Rattle.answer.specs.declared.Size.{Size}
+use Rattle.std.specs.Prelude.{Result}
 use Rattle.answer.proofs.Answers.{answered_as}
 
 name_at-entry :
@@ -27,7 +29,7 @@ unfolding name_at writing_image writing
 name_at-entry b i dst h l = rw (read_not_old b h, h, lt-leb (length (in_book b)) i l)
 
 pub at_position :
-    (b u dst : List ℕ) {left : List ℕ} {n : ℕ} (i s : ℕ) {r : Written} → Held b n → i < n → u ≡ (at (in_book b) i).name
+    (b u dst : List ℕ) {left : List ℕ} {n : ℕ} (i s : ℕ) {r : Result Size Refusal} → Held b n → i < n → u ≡ (at (in_book b) i).name
     → s ≡ score_at b i
     → Answered (one_entry (entry u s) dst) r left → Answered (name_at b i dst) r left
 at_position b u dst {left} {n} i s h l e z a =

@@ -4,36 +4,26 @@
 
 ghost use Rattle.std.specs.Prelude.{◌≡◌};
 ghost use Rattle.lookup.specs.Lookups.{check_book, name_at};
-ghost use Rattle.answer.specs.Reports.{Answered, checked_of};
+ghost use Rattle.answer.specs.Reports.{Answered, written_of};
 
-use answer::{Checked, Written};
+use answer::{Refusal, Size};
 
 // Checks the book at the front of a buffer: how many entries it has, and how many bytes its image.
-pub fn check(book: &[u8]) -> Checked
-    ensures { checked_of result ≡ check_book book.now }
+pub fn check(book: &[u8]) -> Result<Size, Refusal>
+    ensures { written_of result ≡ check_book book.now }
 {
-    let c = book_check::check(book, &[]);
-    if c.refusal != 0 {
-        return Checked::Refused(c.refusal);
-    }
-    let total = book_layout::image_length(book);
-    Checked::Holds {
-        entries: c.n,
-        bytes: total,
-    }
+    let entries = book_check::check(book, &[])?.n;
+    let bytes = book_layout::image_length(book);
+    Ok(Size { entries, bytes })
 }
 
 // Writes the entry at a position as one answer entry.
-pub fn name_at(book: &[u8], position: usize, dst: &mut [u8]) -> Written
+pub fn name_at(book: &[u8], position: usize, dst: &mut [u8]) -> Result<Size, Refusal>
     ensures { Answered (name_at book.now position dst.old) result dst.new }
 {
-    let c = book_check::check(book, &[]);
-    if c.refusal != 0 {
-        return Written::Refused(c.refusal);
-    }
-    let n = c.n;
+    let n = book_check::check(book, &[])?.n;
     if n <= position {
-        return Written::Refused(6);
+        return Err(Refusal::NoSuchPlace);
     }
     let cursor = book_name::name_at(book, n, position);
     let len = cursor.len;

@@ -1,40 +1,67 @@
 -- Merge: from the book of all entries chosen, or the refusal, to its definition.
-use Prim.Native.Nat.{max, ℕ}
-use mathlib.Core.Path.{◌∙◌, ◌≡◌, refl, sym}
+use Prim.Native.Nat.{ℕ}
+use mathlib.Core.Path.{◌∙◌, ◌≡◌, ap, sym}
 use mathlib.Core.Bool.{false, true}
-use mathlib.Core.List.{List, [], ◌∷◌}
+use mathlib.Core.List.{List}
 use lib.Dec.{ltb}
 use lib.ListN.{length}
 use borrow.Author.Tests.{le-ltb}
 use Rattle.entries.specs.Entries.{max_entries}
-use Rattle.answer.specs.Answers.{◌when◌, writing, writing_image}
-use Rattle.book.specs.Book.{book_image}
+use Rattle.answer.specs.Answers.{Answer, WrittenCounts, given, refused, writing, writing_image}
 use Rattle.book.specs.Checks.{is_old}
 use Rattle.book.proofs.Checks.{read_not_old}
-use Rattle.book_check.specs.Checked.{CheckedAs}
-use Rattle.book_check.specs.declared.Checked.{Checked}
-use Rattle.book_check.proofs.Refusing.{refused_image_two}
-use Rattle.answer.specs.Reports.{Answered}
+use Rattle.book_check.specs.Checked.{Declined}
+use Rattle.answer.specs.Reports.{Answered, number_of}
 use Rattle.book_write.specs.Whole.{whole_book}
 use Rattle.answer.proofs.Answers.{answered_as}
 use Rattle.merge.specs.Joined.{merge_books, merged_entries}
 use Rattle.merge_calls.specs.Merging.{Both, PassTold}
 use Rattle.merge_calls.proofs.Whole.{counted_few}
 use Rattle.merge_calls.specs.declared.MergePass.{MergePass}
-use Rattle.answer.specs.declared.Written.{Written}
-use Rattle.answer.specs.declared.Written.TheVariants as written
+use Rattle.answer.specs.declared.Refusal.{Refusal}
+use Rattle.answer.specs.declared.Refusal.TheVariants as refusal
+use Rattle.answer.specs.declared.Size.{Size}
+use Rattle.std.specs.Prelude.{Err, Result}
+use Rattle.book.specs.Book.{is_book}
+use Rattle.octets.proofs.Tests.{by_test}
 
 -- 10 covers both, and then 1
-pub merge_refused :
-    {one other key key' : List ℕ} {r s : Checked} → CheckedAs one key r → CheckedAs other key' s → {t : ℕ}
-    → t ≡ max r.refusal s.refusal → (t ≡ 0 → ⊥) → (dst : List ℕ)
-    → Answered (merge_books one other dst) (written.Refused t) dst
-unfolding merge_books
-merge_refused {one} {other} c d {t} e h dst =
-    answered_as
-    (refused_image_two c d t e h (5 when ltb max_entries (length (merged_entries one other)) ∷ [])
-    (merged_entries one other) (book_image (merged_entries one other)) dst)
-    (record { answer = refl; left = refl })
+module _ (one other dst : List ℕ) where
+  pub first_old : is_old one ≡ true → Answered (merge_books one other dst) (Err refusal.OldVersion) dst
+  unfolding merge_books writing_image writing
+  first_old t = record { answer = rw t; left = rw t }
+
+  pub second_old :
+      is_old one ≡ false → is_old other ≡ true → Answered (merge_books one other dst) (Err refusal.OldVersion) dst
+  unfolding merge_books writing_image writing
+  second_old t u = record { answer = rw (t, u); left = rw (t, u) }
+
+-- a book that is no old one is declined as damaged
+damaged :
+    {book : List ℕ} {r : Refusal} → Declined book r → is_old book ≡ false
+    → (is_book book ≡ false) × ◌≡◌ {A = Answer WrittenCounts} (refused (number_of r)) (refused 1)
+damaged {book} {r} c o =
+    by_test (is_book book)
+    (λ t. let z : ◌≡◌ {A = Answer ℕ} (given 0) (refused (number_of r)) = rw (o, t) at c.refusal in cc)
+    (λ t.
+    let z : ◌≡◌ {A = Answer ℕ} (refused 1) (refused (number_of r)) = rw (o, t) at c.refusal in
+    let y : number_of r ≡ 1 = cc in
+    (t, ap refused y))
+
+module _
+    (one other : List ℕ) (o : is_old one ≡ false) (p : is_old other ≡ false) (dst : List ℕ) {r : Refusal}
+  where
+    pub first_damaged : Declined one r → Answered (merge_books one other dst) (Err r) dst
+    unfolding merge_books writing_image writing
+    first_damaged c =
+        let z = damaged c o in
+        record { answer = z.1 ∙ rw (o, p, z.0); left = rw (o, p, z.0) }
+
+    pub second_damaged : is_book one ≡ true → Declined other r → Answered (merge_books one other dst) (Err r) dst
+    unfolding merge_books writing_image writing
+    second_damaged h c =
+        let z = damaged c p in
+        record { answer = z.1 ∙ rw (o, p, h, z.0); left = rw (o, p, h, z.0) }
 
 module _ {one : List ℕ} {n : ℕ} {other : List ℕ} {m : ℕ} (b : Both one n other m) {r : MergePass}
     (c : PassTold one other max_entries 0 r) (dst : List ℕ) where
@@ -45,7 +72,7 @@ module _ {one : List ℕ} {n : ℕ} {other : List ℕ} {m : ℕ} (b : Both one n
   second_new = read_not_old other b.other.is_it
 
   -- 5: there are more
-  pub too_many : r.more ≡ true → Answered (merge_books one other dst) (written.Refused 5) dst
+  pub too_many : r.more ≡ true → Answered (merge_books one other dst) (Err refusal.Full) dst
   unfolding merge_books writing_image writing
   too_many t =
       let u : ltb max_entries (length (merged_entries one other)) ≡ true = sym c.more ∙ t in
@@ -54,7 +81,7 @@ module _ {one : List ℕ} {n : ℕ} {other : List ℕ} {m : ℕ} (b : Both one n
         left = rw (first_new, second_new, b.one.is_it, b.other.is_it, u);
       }
 
-  pub merged : r.more ≡ false → {w : Written} {left : List ℕ}
+  pub merged : r.more ≡ false → {w : Result Size Refusal} {left : List ℕ}
       → Answered (whole_book (merged_entries one other) dst) w left
       → Answered (merge_books one other dst) w left
   unfolding merge_books writing_image writing

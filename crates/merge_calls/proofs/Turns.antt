@@ -1,14 +1,13 @@
 -- The loop of `pass`: to pass the entries that are left of both books gives what to pass all of them at first gives.
 use Prim.Native.Nat.{◌+◌, ◌-◌, ◌<◌, ◌≤◌, suc, ℕ}
 use mathlib.Core.Path.{◌∙◌, ◌≡◌, refl, sym}
-use mathlib.Core.Logic.{◌⊎◌, inl, inr}
-use mathlib.Core.Bool.{Bool, false, false≢true, true}
+use mathlib.Core.Bool.{Bool, false}
 use mathlib.Core.List.{List, [], ◌++◌, ◌∷◌}
-use lib.Dec.{leb, ltb}
+use lib.Dec.{ltb}
 use lib.ListN.{length, take}
 use lib.Seq.{take-nil}
 use native.Mathlib.Omega.{arith}
-use borrow.Author.Tests.{le-ltb, leb-false, leb-true, lt-ltb, ltb-false, ltb-true}
+use borrow.Author.Tests.{le-ltb, lt-ltb, ltb-false, ltb-true}
 use Rattle.octets.proofs.Tests.{by_test}
 use Rattle.entries.specs.Entries.{Entry, entry}
 use Rattle.book.specs.declared.Layout.{Layout}
@@ -17,9 +16,9 @@ use Rattle.book_laws.specs.Cursor.{cursor_of}
 use Rattle.book_append.specs.Append.{AppendDone, Fits, cursor_behind}
 use Rattle.book_append.proofs.Left.{Left, all_passed, next_fits, rest_left}
 use Rattle.merge.specs.Joined.{joined, merged_entries}
-use Rattle.merge_read.specs.Turns.{Loaded, TookNext, entries_left}
+use Rattle.merge_read.specs.Turns.{Loaded, Took, entries_left}
 use Rattle.merge_read.proofs.Turning.{left_none, left_some}
-use Rattle.merge_calls.specs.Merging.{PassDone, PassRoom, goes_on}
+use Rattle.merge_calls.specs.Merging.{PassDone, PassRoom}
 use Rattle.book_laws.specs.declared.Cursor.{Cursor}
 use Rattle.merge_read.specs.declared.NextInBook.{NextInBook}
 use Rattle.merge_read.specs.declared.NextOfBoth.{NextOfBoth}
@@ -39,26 +38,6 @@ pub record PassLeft
   pub total : length (merged_entries first second) ≡ w.index + length (rest first second x y)
   pub passing : Left today store count (cursor_behind at 0 []) (take count (merged_entries first second)) d₀ w
       (take (count - w.index) (rest first second x y)) d
-
--- what the loop's test tells
-goes : (i count a b : ℕ) → goes_on i count a b ≡ true → (i < count) × (0 < a + b)
-goes i count a b g =
-    by_test (leb count i)
-    (λ t. absurd (false≢true (rw t at g)))
-    (λ t.
-    let l = leb-false count i t in
-    by_test (ltb 0 a)
-    (λ u. (l, omega (arith, ltb-true 0 a u)))
-    (λ u. (l, omega (arith, ltb-true 0 b (rw (t, u) at g)))))
-
-goes_not : (i count a b : ℕ) → goes_on i count a b ≡ false → (count ≤ i) ⊎ (a + b ≡ 0)
-goes_not i count a b g =
-    by_test (leb count i)
-    (λ t. inl (leb-true count i t))
-    (λ t.
-    by_test (ltb 0 a)
-    (λ u. absurd (false≢true (sym (rw (t, u) at g))))
-    (λ u. inr (omega (arith, ltb-false 0 a u, ltb-false 0 b (rw (t, u) at g)))))
 
 module _
     {first : List ℕ} {n : ℕ} {second : List ℕ} {m : ℕ} {d : List ℕ} {count at : ℕ} {store : Bool}
@@ -110,66 +89,48 @@ module _
     {first second d₀ : List ℕ} {count at : ℕ} {store : Bool} {x : NextInBook} {a : List ℕ} {y : NextInBook}
     {b d : List ℕ} {w : Cursor} (v : PassLeft first second d₀ count at store x a y b d w)
   where
-    abbrev told : Bool → MergePass
-    told more = record { entries = w.index; end = w.at; more = more }
+    abbrev told : ℕ → Bool → MergePass
+    told passed more = record { entries = passed; end = w.at; more = more }
 
     -- nothing is left to pass
     done :
-        {more : Bool} → take (count - w.index) (rest first second x y) ≡ []
+        {passed : ℕ} {more : Bool} → passed ≡ w.index → take (count - w.index) (rest first second x y) ≡ []
         → more ≡ ltb count (length (merged_entries first second))
-        → PassDone first second d₀ d count at store (told more)
-    done e more =
+        → PassDone first second d₀ d count at store (told passed more)
+    done all e more =
         let p = all_passed v.passing e in
         record {
           told = record { entries = omega (arith, p.went.index); end = p.went.end; more = more };
           bytes = p.bytes;
         }
 
-    -- whether entries are left, once none is to be passed
-    more_left : (count ≤ w.index) ⊎ (x.len + y.len ≡ 0)
-        → ltb 0 (x.len + y.len) ≡ ltb count (length (merged_entries first second))
-    more_left (inl h) =
+    -- none is left: the pass ends early
+    pub left_none_next : rest first second x y ≡ [] → PassDone first second d₀ d count at store (told w.index false)
+    left_none_next e =
+        let z : length (rest first second x y) ≡ 0 = rw e in
+        done refl (rw e (take-nil (count - w.index)))
+        (sym (le-ltb count (length (merged_entries first second)) (omega (arith, v.total, v.order))))
+
+    -- or as many have been passed as were to be
+    pub left_end : count ≤ w.index → PassDone first second d₀ d count at store (told count (ltb 0 (x.len + y.len)))
+    left_end h =
         let t = v.total in
         let o = v.order in
-        by_test (ltb 0 (x.len + y.len))
+        let z : count - w.index ≡ 0 = omega arith in
+        done (omega arith) (rw z)
+        (by_test (ltb 0 (x.len + y.len))
         (λ s.
         let k = left_some v.of_first v.of_second (ltb-true 0 (x.len + y.len) s) in
         s ∙ sym (lt-ltb count (length (merged_entries first second)) (omega arith)))
         (λ s.
         let z : x.len + y.len ≡ 0 = omega (arith, ltb-false 0 (x.len + y.len) s) in
         let e : length (rest first second x y) ≡ 0 = rw (left_none v.of_first v.of_second z) in
-        s ∙ sym (le-ltb count (length (merged_entries first second)) (omega arith)))
-    more_left (inr z) =
-        let e : length (rest first second x y) ≡ 0 = rw (left_none v.of_first v.of_second z) in
-        le-ltb 0 (x.len + y.len) (omega arith)
-        ∙ sym (le-ltb count (length (merged_entries first second)) (omega (arith, v.total, v.order)))
-
-    none_left : (count ≤ w.index) ⊎ (x.len + y.len ≡ 0) → take (count - w.index) (rest first second x y) ≡ []
-    none_left (inl h) = let z : count - w.index ≡ 0 = omega arith in rw z
-    none_left (inr z) = rw (left_none v.of_first v.of_second z) (take-nil (count - w.index))
-
-    pub left_end : goes_on w.index count x.len y.len ≡ false
-        → PassDone first second d₀ d count at store (told (ltb 0 (x.len + y.len)))
-    left_end g = let h = goes_not w.index count x.len y.len g in done (none_left h) (more_left h)
+        s ∙ sym (le-ltb count (length (merged_entries first second)) (omega arith))))
 
     -- one turn
-    pub left_below : goes_on w.index count x.len y.len ≡ true → w.index < count
-    left_below g = (goes w.index count x.len y.len g).0
-
     module _
-        {a₁ b₁ name : List ℕ} {r : NextOfBoth} (t : TookNext first x a₁ second y b₁ name r)
-        (g : goes_on w.index count x.len y.len ≡ true)
+        {a₁ b₁ name : List ℕ} {r : NextOfBoth} (t : Took first x a₁ second y b₁ name r) (under : w.index < count)
       where
-        some : 0 < r.len
-        some =
-            let k = left_some v.of_first v.of_second (goes w.index count x.len y.len g).1 in
-            by_test (ltb 0 r.len)
-            (λ s. ltb-true 0 r.len s)
-            (λ s.
-            let z : r.len ≡ 0 = omega (arith, ltb-false 0 r.len s) in
-            let e : length (rest first second x y) ≡ 0 = rw (t.none z) in
-            absurd (omega arith))
-
         abbrev this : List Entry
         this = entry (take r.len name) r.score ∷ []
 
@@ -177,8 +138,7 @@ module _
         behind = take (count - (w.index + 1)) (rest first second r.first r.second)
 
         split : take (count - w.index) (rest first second x y) ≡ this ++ behind
-        split = let z : count - w.index ≡ suc (count - (w.index + 1)) = omega (arith, left_below g) in
-            rw (z, t.some some)
+        split = let z : count - w.index ≡ suc (count - (w.index + 1)) = omega arith in rw (z, t.next)
 
         pub left_fits : {l : Layout} → l ≡ today → Fits l store count w this d
         left_fits e = rw e (next_fits v.passing this behind split)
@@ -190,12 +150,11 @@ module _
             let p : AppendDone today store count w this d u new = rw e at put in
             let i = p.went.index in
             let z : count - u.index ≡ count - (w.index + 1) = omega arith in
-            let l : length (rest first second x y) ≡ suc (length (rest first second r.first r.second)) = rw
-            (t.some some) in
+            let l : length (rest first second x y) ≡ suc (length (rest first second r.first r.second)) = rw t.next in
             record {
               of_first = t.of_first;
               of_second = t.of_second;
-              order = omega (arith, left_below g);
+              order = omega arith;
               total = omega (arith, v.total);
               passing = rw z (rest_left v.passing this behind split p);
             }

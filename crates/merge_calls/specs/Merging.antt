@@ -1,6 +1,5 @@
 -- A pass over the entries chosen from two books: what it asks and what it leaves.
-use Rattle.std.specs.Prelude.{ℕ, ◌≡◌, Bool, false, true, List, [], leb, ltb, length, take}
-use Rattle.octets.specs.Lists.{if◌then◌otherwise◌}
+use Rattle.std.specs.Prelude.{ℕ, ◌≡◌, Bool, List, [], ltb, length, take}
 use Rattle.entries.specs.Entries.{Entry, names}
 use Rattle.book.specs.Records.{records}
 use Rattle.book.specs.Book.{today}
@@ -12,10 +11,6 @@ use Rattle.merge_calls.specs.declared.MergePass.{MergePass}
 -- the bytes of the records of entries
 abbrev pub records_length : List Entry → ℕ
 records_length es = length (records today.heads 0 [] (names es))
-
--- a pass of at most count entries goes on behind so many, where the books' next names have a and b bytes
-abbrev pub goes_on : ℕ → ℕ → ℕ → ℕ → Bool
-goes_on index count a b = if leb count index then false otherwise if ltb 0 a then true otherwise ltb 0 b
 
 -- two books that were checked
 pub record Both (first : List ℕ) (n : ℕ) (second : List ℕ) (m : ℕ) : Type 0 where

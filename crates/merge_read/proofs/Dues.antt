@@ -2,7 +2,7 @@
 -- it.
 use Prim.Native.Nat.{◌<◌, ℕ}
 use mathlib.Core.Path.{◌∙◌, ◌≡◌, ap, refl, sym}
-use mathlib.Core.Bool.{Bool, ◌||◌, false, false≢true, true}
+use mathlib.Core.Bool.{Bool, ◌||◌, false, false≢true, not, true}
 use mathlib.Core.List.{List, [], ◌∷◌}
 use lib.Dec.{eqb, ltb}
 use lib.ListN.{drop, length}
@@ -48,18 +48,16 @@ due_same w v h =
     (λ u. let q = below_total w v u b in absurd (false≢true (sym t ∙ rw q (same_refl v))))))
 
 -- where one is not, the other is if it is there at all
-pub due_other : (w v : List ℕ) → is_due w v ≡ false → is_due v w ≡ ltb 0 (length v)
+pub due_other : (w v : List ℕ) → is_due w v ≡ false → is_due v w ≡ not (eqb (length v) 0)
 due_other w v h =
     by_test (eqb (length v) 0)
-    (λ e. let z = eqb-true (length v) 0 e in rw e (sym (le-ltb 0 (length v) (omega arith))))
+    (λ e. rw e)
     (λ e.
-    let k = eqb-false (length v) 0 e in
-    let there = lt-ltb 0 (length v) (omega arith) in
     by_test (eqb (length w) 0)
-    (λ n. rw (e, n, there))
+    (λ n. rw (e, n))
     (λ n.
     let b : below v w ≡ true = not-false (below v w) (rw (n, e) at h) in
-    rw (e, n, there, below_asym v w b)))
+    rw (e, n, below_asym v w b)))
 
 abbrev all_names : List Entry → Bool
 all_names es = all (λ e. is_name e.name) es

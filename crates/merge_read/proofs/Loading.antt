@@ -12,7 +12,7 @@ use Rattle.book_laws.specs.Held.{Held}
 use Rattle.book_read.specs.Record.{Inside, Read}
 use Rattle.book_read.proofs.Reading.{Given, Reading, read_inside, read_start, read_turn}
 use Rattle.merge_read.specs.Turns.{Loaded, RecordStands}
-use Rattle.book_read.specs.declared.Parts.{Parts}
+use Rattle.book_laws.specs.declared.Parts.{Parts}
 use Rattle.merge_read.specs.declared.NextInBook.{NextInBook}
 
 abbrev next_of : ℕ → ℕ → ℕ → ℕ → NextInBook

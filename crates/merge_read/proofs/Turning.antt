@@ -18,7 +18,7 @@ use Rattle.book.specs.Book.{in_book}
 use Rattle.book_laws.specs.Check.{score_at}
 use Rattle.book_laws.proofs.Held.{held_few, held_stored, held-valid}
 use Rattle.merge.specs.Joined.{joined}
-use Rattle.merge_read.specs.Turns.{Chosen, Loaded, TookNext, entries_left, is_due, steps}
+use Rattle.merge_read.specs.Turns.{Chosen, Loaded, Took, entries_left, is_due, steps}
 use Rattle.merge_read.proofs.Dues.{due_some, due_turn, due_of, none_due}
 use Rattle.merge_read.proofs.Loading.{at_left, at_past}
 use Rattle.merge_read.specs.declared.Choice.{Choice}
@@ -91,6 +91,10 @@ module _
     ended h = none_due (entries_left first x) (entries_left second y) (allowed l) (allowed k)
         (rw (due_left l k p, due_left k l q) at h)
 
+    -- so it is told
+    pub none_next : (f || s) ≡ false → joined (entries_left first x) (entries_left second y) ≡ []
+    none_next h = let e = ended h in rw (e.0, e.1)
+
     ended_both : (f || s) ≡ false → (x.len ≡ 0) × (y.len ≡ 0)
     ended_both h =
         let i : length (take x.len a) ≡ 0 = rw (← head_name_lem l, (ended h).0) in
@@ -141,21 +145,6 @@ module _
     {name : List ℕ} {r : Choice} (c : Chosen first x.index (take x.len a) second y.index (take y.len b) f
     name r)
   where
-    -- no entry is due: no name is chosen
-    ended_long : (f || s) ≡ false → r.len ≡ 0
-    ended_long h =
-        let e = (ended_both l k p q h).1 in
-        let d = c.long in
-        by_test f (λ t. absurd (false≢true (sym h ∙ rw t))) (λ t. (rw t at d) ∙ loaded_size k ∙ e)
-
-    -- one is due: it has a name
-    turned_long : (f || s) ≡ true → 0 < r.len
-    turned_long h =
-        let d = c.long in
-        by_test f
-        (λ t. rw (rw t at d) (due_some (take x.len a) (take y.len b) (sym p ∙ t)))
-        (λ t. rw (rw t at d) (due_some (take y.len b) (take x.len a) (sym q ∙ (rw t at h))))
-
     chosen : (f || s) ≡ true → (if f then at (entries_left first x) 0 otherwise at (entries_left second y) 0) ≡ entry
         (take r.len name)
         r.score
@@ -179,17 +168,15 @@ module _
         ) (due_next l k p q h)
 
     pub turned :
-        {g d : NextInBook} {a₁ b₁ : List ℕ} → Loaded first g a₁ × (g.index ≡ x.index + steps f)
+        {g d : NextInBook} {a₁ b₁ : List ℕ} → (f || s) ≡ true → Loaded first g a₁ × (g.index ≡ x.index + steps f)
         → Loaded second d b₁
         × (d.index ≡ y.index + steps s)
-        → TookNext first x a₁ second y b₁ name (record { first = g; second = d; len = r.len; score = r.score })
-    turned i j =
+        → Took first x a₁ second y b₁ name (record { first = g; second = d; len = r.len; score = r.score })
+    turned h i j =
         record {
           of_first = i.0;
           of_second = j.0;
           small = let z = c.long in by_test f (λ t. omega (arith, rw t at z, loaded_short l))
               (λ t. omega (arith, rw t at z, loaded_short k));
-          none = λ z. by_test (f || s) (λ t. absurd (omega (arith, turned_long t))) (λ t. let e = ended l k p q t in
-              rw (e.0, e.1));
-          some = λ z. by_test (f || s) (λ t. rw (i.1, j.1) (turned_on t)) (λ t. absurd (omega (arith, ended_long t)));
+          next = rw (i.1, j.1) (turned_on h);
         }

@@ -1,5 +1,6 @@
 -- Two books read side by side: the next entry of each, which of them comes next of both, and what is left behind it.
 use Rattle.std.specs.Prelude.{◌+◌, ◌<◌, ◌≤◌, ℕ, ◌≡◌, Bool, false, not, true, List, [], ◌∷◌, eqb, drop, length, take}
+use Rattle.std.specs.Prelude.{None, Option, Some}
 use Rattle.octets.specs.Lists.{if◌then◌otherwise◌}
 use Rattle.octets.specs.Octets.{below}
 use Rattle.entries.specs.Entries.{Entry, at, entry}
@@ -49,16 +50,19 @@ pub record Chosen (first : List ℕ) (i : ℕ) (w second : List ℕ) (j : ℕ) (
 abbrev pub entries_left : List ℕ → NextInBook → List Entry
 entries_left book c = drop c.index (in_book book)
 
--- r has the entry that came next of both books, and the next ones behind it; its length is 0 where none was left
-pub record TookNext
+-- r has the entry that came next of both books, and the next ones behind it
+pub record Took
     (first : List ℕ) (x : NextInBook) (a second : List ℕ) (y : NextInBook) (b name : List ℕ)
     (r : NextOfBoth) : Type 0
   where
     pub of_first : Loaded first r.first a
     pub of_second : Loaded second r.second b
     pub small : r.len ≤ longest_name
-    pub none : r.len ≡ 0 → joined (entries_left first x) (entries_left second y) ≡ []
-    pub some :
-        0 < r.len
-        → joined (entries_left first x) (entries_left second y) ≡ entry (take r.len name) r.score
+    pub next :
+        joined (entries_left first x) (entries_left second y) ≡ entry (take r.len name) r.score
         ∷ joined (entries_left first r.first) (entries_left second r.second)
+
+-- the entry that came next, or none, where none was left
+abbrev pub TookNext : List ℕ → NextInBook → List ℕ → List ℕ → NextInBook → List ℕ → List ℕ → Option NextOfBoth → Type 0
+TookNext first x a second y b name None = joined (entries_left first x) (entries_left second y) ≡ []
+TookNext first x a second y b name (Some r) = Took first x a second y b name r

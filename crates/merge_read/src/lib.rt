@@ -9,8 +9,9 @@ ghost use Rattle.merge_read.specs.Turns.{Chosen, Loaded, RecordStands, TookNext,
 
 use limits::BOOK_HEADS;
 
-// The next entry of a book of n: its position, where the record behind it begins, the length of its name, 0 where no
-// entry is left.
+// The next entry of a book of n: its position, where the record behind it begins, the length of its name. Where no entry
+// is left the length is 0, which no name has, and no Option: the next names of both books are compared as slices, and
+// two Options of slices would be taken apart at each of the tests that now ask whether one is empty.
 #[derive(Clone, Copy)]
 pub struct NextInBook {
     pub n: usize,
@@ -43,9 +44,9 @@ fn next_name(book: &[u8], n: usize, index: usize, at: usize, name: &mut [u8]) ->
 {
     if n <= index {
         return NextInBook {
-            n: n,
-            index: index,
-            at: at,
+            n,
+            index,
+            at,
             len: 0,
         };
     }
@@ -53,10 +54,10 @@ fn next_name(book: &[u8], n: usize, index: usize, at: usize, name: &mut [u8]) ->
     let end = at + (p.start + p.own);
     let len = p.kept + p.own;
     NextInBook {
-        n: n,
-        index: index,
+        n,
+        index,
         at: end,
-        len: len,
+        len,
     }
 }
 
@@ -84,10 +85,10 @@ fn move_on(book: &[u8], c: NextInBook, name: &mut [u8], due: bool) -> NextInBook
 fn is_due(name: &[u8], other: &[u8]) -> bool
     ensures { result ≡ is_due name.now other.now }
 {
-    if name.len() == 0 {
+    if name.is_empty() {
         return false;
     }
-    if other.len() == 0 {
+    if other.is_empty() {
         return true;
     }
     !octets_code::is_below(other, name)
@@ -102,7 +103,7 @@ fn is_due_too(other: &[u8], name: &[u8], due: bool) -> bool
     if due {
         return octets_code::equal(other, name);
     }
-    0 < other.len()
+    !other.is_empty()
 }
 
 // The next entry of the first book, named a, where that is due, else of the second, named b; its name is copied to the
@@ -136,8 +137,7 @@ fn choose(
     }
 }
 
-// The entry that comes next of both books, their next names in a and b; its name to the front of name. Its length is 0
-// where none is left.
+// The entry that comes next of both books, their next names in a and b, if one is left; its name to the front of name.
 pub fn next_entry(
     first: &[u8],
     x: NextInBook,
@@ -146,7 +146,7 @@ pub fn next_entry(
     y: NextInBook,
     b: &mut [u8],
     name: &mut [u8],
-) -> NextOfBoth
+) -> Option<NextOfBoth>
     requires { Loaded first.now x a.old × Loaded second.now y b.old
         × (length name.old ≡ longest_name) }
     ensures { TookNext first.now x a.new second.now y b.new
@@ -158,11 +158,14 @@ pub fn next_entry(
     let t = &b[..v];
     let first_due = is_due(s, t);
     let second_due = is_due_too(t, s, first_due);
+    if !first_due && !second_due {
+        return None;
+    }
     let e = choose(first, x.index, s, second, y.index, t, first_due, name);
-    NextOfBoth {
+    Some(NextOfBoth {
         first: move_on(first, x, a, first_due),
         second: move_on(second, y, b, second_due),
         len: e.len,
         score: e.score,
-    }
+    })
 }

@@ -1,11 +1,13 @@
 -- Counts of low bytes: of lists one after the other, of a front, of one more byte; and that a list that counts none has
 -- none anywhere.
-use Prim.Native.Nat.{◌+◌, ◌<◌, ◌≤◌, suc, zero, ℕ}
+use Rattle.std.specs.Simd.{first_chunks}
+use Prim.Native.Nat.{◌*◌, ◌+◌, ◌<◌, ◌≤◌, suc, zero, ℕ}
 use mathlib.Core.Path.{◌∙◌, ◌≡◌, ap, refl}
 use mathlib.Core.List.{List, [], ◌++◌, ◌∷◌}
-use lib.ListN.{drop, get_or, length, length-take, take}
-use lib.Seq.{take-add, take-suc}
+use lib.ListN.{drop, get_or, length, take, take-append-drop}
+use lib.Seq.{drop-drop, take-add, take-suc}
 use native.Mathlib.Numerals.{add-one}
+use native.Mathlib.Nat.{suc-mul, zero-mul}
 use native.Mathlib.Omega.{arith}
 use borrow.Author.Tests.{ltb-false}
 use Rattle.octets.proofs.Count.{count-append}
@@ -59,5 +61,21 @@ low_few (x ∷ w) =
     (λ t. let z : low_count (x ∷ w) ≡ 1 + low_count w = rw t at c in omega arith)
     (λ t. let z : low_count (x ∷ w) ≡ 0 + low_count w = rw t at c in omega arith)
 
-pub low_front : (n : ℕ) (w : List ℕ) → low_count (take n w) ≤ n
-low_front n w = omega (arith, low_few (take n w), length-take n w)
+-- the i-th of k stretches of n bytes, and the front that ends behind it
+chunk_at : (n k : ℕ) (w : List ℕ) (i : ℕ) → i < k → get_or (first_chunks n k w) i [] ≡ take n (drop (i * n) w)
+chunk_at n zero w i h = absurd (omega arith)
+chunk_at n (suc k) w zero h = rw (zero-mul n)
+chunk_at n (suc k) w (suc i) h =
+    chunk_at n k (drop n w) i (omega arith)
+    ∙ ap (take n) (drop-drop (i * n) n w ∙ ap (λ m. drop m w) (omega (arith, suc-mul i n)))
+
+pub low_next :
+    (n k : ℕ) (w : List ℕ) (i : ℕ) → i < k
+    → low_count (take ((i + 1) * n) w) ≡ low_count (take (i * n) w) + low_count (get_or (first_chunks n k w) i [])
+low_next n k w i h =
+    let e : (i + 1) * n ≡ i * n + n = omega (arith, suc-mul i n) in
+    rw (chunk_at n k w i h, e) (low_both (i * n) n w)
+
+-- a front and what is behind it
+pub low_all : (i : ℕ) (w : List ℕ) → low_count (take i w) + low_count (drop i w) ≡ low_count w
+low_all i w = rw (← low_append (take i w) (drop i w), take-append-drop)

@@ -2,7 +2,7 @@
 // which is the largest.
 #![tactic(auto)]
 
-ghost use Rattle.std.specs.Prelude.{◌≡◌, ◌+◌, ◌≤◌, drop, length, take};
+ghost use Rattle.std.specs.Prelude.{◌≡◌, ◌≤◌, length};
 ghost use Rattle.octets_count.specs.Counts.{Tops, low_count, low_of, stretch};
 
 use limits::FIRST_PLAIN;
@@ -14,27 +14,17 @@ const STRETCH: usize = 128;
 pub fn low(x: u8) -> u8
     ensures { (result ≡ low_of x) × (result ≤ 1) }
 {
-    if x < FIRST_PLAIN { 1 } else { 0 }
+    u8::from(x < FIRST_PLAIN)
 }
 
-// The larger of two bytes.
-fn larger(a: u8, b: u8) -> u8
-    ensures { (a ≤ result) × (b ≤ result) }
+// How many bytes of a stretch are below 20: a count that fits a byte, so that 16 are counted at once.
+fn lows_of_stretch(s: &[u8]) -> u8
+    requires { length s.now ≤ stretch }
+    ensures { result ≡ low_count s.now }
 {
-    if a < b { b } else { a }
-}
-
-// How many bytes of the stretch from index at on are below 20: a count that fits a byte, so that 16 are counted at
-// once.
-fn lows_of_stretch(s: &[u8], at: usize) -> u8
-    requires { at + stretch ≤ length s.now }
-    ensures { result ≡ low_count (take stretch (drop at s.now)) }
-{
-    let mut count = 0u8;
-    let mut j = 0;
-    while j < STRETCH {
-        count += low(s[at + j]);
-        j += 1;
+    let mut count = 0;
+    for x in s {
+        count += low(*x);
     }
     count
 }
@@ -43,15 +33,10 @@ fn lows_of_stretch(s: &[u8], at: usize) -> u8
 pub fn lows(s: &[u8]) -> usize
     ensures { result ≡ low_count s.now }
 {
-    let mut count = 0;
-    let mut i = 0;
-    while STRETCH <= s.len() - i {
-        count += lows_of_stretch(s, i) as usize;
-        i += STRETCH;
-    }
-    while i < s.len() {
-        count += low(s[i]) as usize;
-        i += 1;
+    let (stretches, rest) = s.as_chunks::<STRETCH>();
+    let mut count = lows_of_stretch(rest) as usize;
+    for one in stretches {
+        count += lows_of_stretch(one) as usize;
     }
     count
 }
@@ -60,11 +45,9 @@ pub fn lows(s: &[u8]) -> usize
 pub fn top(s: &[u8]) -> u8
     ensures { Tops s.now result }
 {
-    let mut most = 0u8;
-    let mut i = 0;
-    while i < s.len() {
-        most = larger(most, s[i]);
-        i += 1;
+    let mut most = 0;
+    for x in s {
+        most = most.max(*x);
     }
     most
 }

@@ -11,9 +11,10 @@ pub fn put_decimal(dst: &mut [u8], end: usize, v: u32) -> usize
 {
     let mut at = end - 1;
     let mut rest = v;
+    // A `while`: it walks down the number that is left, and no library method writes digits that end at an index.
     while 10 <= rest {
         dst[at] = b'0' + (rest % 10) as u8;
-        rest = rest / 10;
+        rest /= 10;
         at -= 1;
     }
     dst[at] = b'0' + rest as u8;

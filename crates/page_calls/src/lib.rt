@@ -1,73 +1,57 @@
 // A page for the wall: a book laid out as lines.
 #![tactic(auto)]
 
-ghost use Rattle.std.specs.Prelude.{◌≤◌, length};
+ghost use Rattle.std.specs.Prelude.{◌*◌, ◌≤◌};
 ghost use Rattle.answer.specs.Reports.{Answered};
 ghost use Rattle.book_laws.specs.Held.{Held};
 ghost use Rattle.book_table.specs.Table.{TableRoom};
+ghost use Rattle.entries.specs.Entries.{max_entries};
+ghost use Rattle.entries.specs.Names.{longest_name};
 ghost use Rattle.page.specs.Page.{write_page};
-ghost use Rattle.page_calls.specs.Small.{small_table};
 
-use answer::Written;
+use answer::{Refusal, Size};
 use limits::{LONGEST_NAME, MAX_ENTRIES, SMALL_TABLE};
 
-// Unpacks a book that was checked into a table, measures its page and, where there is room, writes it.
-fn lay_out(
+// The bytes of the names in a small table, and in a whole one.
+const SMALL_NAMES: usize = LONGEST_NAME * SMALL_TABLE;
+
+const ALL_NAMES: usize = LONGEST_NAME * MAX_ENTRIES;
+
+// Unpacks a book that was checked into a table of so many rows, measures its page and, where there is room, writes it.
+// The bytes of the rows' names are a parameter of their own, since none can be computed from another.
+fn lay_out<const ROWS: usize, const NAMES: usize>(
     book: &[u8],
     n: usize,
-    names: &mut [u8],
-    lens: &mut [u8],
-    scores: &mut [u32],
     dst: &mut [u8],
-) -> Written
-    requires { Held book.now n × TableRoom n (length names.old) (length lens.old) (length scores.old) }
+) -> Result<Size, Refusal>
+    requires { Held book.now n × TableRoom n NAMES ROWS ROWS × (ROWS ≤ max_entries)
+        × (NAMES ≤ longest_name * max_entries) }
     ensures { Answered (write_page book.now dst.old) result dst.new }
 {
-    book_table::unpack(book, n, names, lens, scores);
+    let mut names = [0; NAMES];
+    let mut lens = [0; ROWS];
+    let mut scores = [0; ROWS];
+    book_table::unpack(book, n, &mut names, &mut lens, &mut scores);
     let total = page_write::page_size(&lens[..n]);
     if dst.len() < total {
-        return Written::Refused(7);
+        return Err(Refusal::TooShort);
     }
-    page_write::write(names, &lens[..n], scores, dst);
-    Written::Wrote {
+    page_write::write(&names, &lens[..n], &scores, dst);
+    Ok(Size {
         entries: n,
         bytes: total,
-    }
-}
-
-// Lays out a book of few names, in a small table.
-fn lay_out_few(book: &[u8], n: usize, dst: &mut [u8]) -> Written
-    requires { Held book.now n × (n ≤ small_table) }
-    ensures { Answered (write_page book.now dst.old) result dst.new }
-{
-    let mut names = [0; LONGEST_NAME * SMALL_TABLE];
-    let mut lens = [0; SMALL_TABLE];
-    let mut scores = [0; SMALL_TABLE];
-    lay_out(book, n, &mut names, &mut lens, &mut scores, dst)
-}
-
-// Lays out a book of any number of names.
-fn lay_out_many(book: &[u8], n: usize, dst: &mut [u8]) -> Written
-    requires { Held book.now n }
-    ensures { Answered (write_page book.now dst.old) result dst.new }
-{
-    let mut names = [0; LONGEST_NAME * MAX_ENTRIES];
-    let mut lens = [0; MAX_ENTRIES];
-    let mut scores = [0; MAX_ENTRIES];
-    lay_out(book, n, &mut names, &mut lens, &mut scores, dst)
+    })
 }
 
 // Writes the page of a book: the heading, then the lines of each entry, in rank.
-pub fn page(book: &[u8], dst: &mut [u8]) -> Written
+pub fn page(book: &[u8], dst: &mut [u8]) -> Result<Size, Refusal>
     ensures { Answered (write_page book.now dst.old) result dst.new }
 {
-    let c = book_check::check(book, &[]);
-    if c.refusal != 0 {
-        return Written::Refused(c.refusal);
-    }
+    let c = book_check::check(book, &[])?;
     let n = c.n;
     if n <= SMALL_TABLE {
-        return lay_out_few(book, n, dst);
+        lay_out::<SMALL_TABLE, SMALL_NAMES>(book, n, dst)
+    } else {
+        lay_out::<MAX_ENTRIES, ALL_NAMES>(book, n, dst)
     }
-    lay_out_many(book, n, dst)
 }

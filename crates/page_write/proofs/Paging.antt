@@ -44,7 +44,8 @@ rank_at {es} {n} {order} r l i h =
 pub record Paging (es : List Entry) (dst₀ dst : List ℕ) (to i : ℕ) : Type 0 where
   pub upto : i ≤ length es
   pub long : length dst ≡ length dst₀
-  pub left : sets dst to (concat_map on_page (drop i (by_rank es))) ≡ sets dst₀ line_bytes (concat_map on_page (by_rank es))
+  pub left :
+      sets dst to (concat_map on_page (drop i (by_rank es))) ≡ sets dst₀ line_bytes (concat_map on_page (by_rank es))
   pub ends : to + length (concat_map on_page (drop i (by_rank es))) ≡ length (page_image es)
 
 heading_bytes : 0 + length (ended heading) ≡ line_bytes
@@ -69,11 +70,15 @@ module _
     es = entries names lens scores
 
     module _ (h : i < length lens) where
+      -- the row in its place of rank
       abbrev row : ℕ
-      row = get_or order i 0
+      row = get_or (take (length lens) order) i 0
+
+      row_is : row ≡ get_or order i 0
+      row_is = get_or-take (length lens) order i 0 h
 
       pub row_low : row < length lens
-      row_low = r.inside i h
+      row_low = rw row_is (r.inside i h)
 
       -- the row's bytes, as the code takes them
       abbrev bytes : List ℕ
@@ -95,13 +100,15 @@ module _
       here_is : at (by_rank es) i ≡ here
       here_is =
           rank_at r l i h
+          ∙ ap (at es) (sym row_is)
           ∙ entries_at names lens scores row row_low
           ∙ ap (λ w. entry w (get_or scores row 0))
           (sym
           (ap (take (get_or lens row 0)) (part_bytes names (row * longest_name) longest_name)
           ∙ take-take (get_or lens row 0) longest_name (drop (row * longest_name) names) (z.short row row_low)))
 
-      page_next : concat_map on_page (drop i (by_rank es)) ≡ on_page here ++ concat_map on_page (drop (suc i) (by_rank es))
+      page_next :
+          concat_map on_page (drop i (by_rank es)) ≡ on_page here ++ concat_map on_page (drop (suc i) (by_rank es))
       page_next =
           ap (concat_map on_page)
           (drop-cons (by_rank es) i no_entry

@@ -4,21 +4,24 @@ use mathlib.Core.Path.{◌∙◌, ◌≡◌, ap, refl, sym}
 use mathlib.Core.List.{List, [], ◌++◌, ◌∷◌, append_assoc, append-nil, map}
 use lib.Dec.{leb, ltb}
 use lib.ListN.{get_or-append, drop, drop_of_length-le, get_or, get_or-replicate, length, length-append, length-drop}
-use lib.ListN.{replicate-append-replicate, set, take}
-use lib.Seq.{drop-cons, drop-drop, drop-length, get_or-append-add, get_or-take, length-take-le, sets, take_all, take-take}
+use lib.ListN.{replicate, replicate-append-replicate, set, take}
+use lib.Seq.{drop_at, drop-cons, drop-length, get_or-append-add, get_or-take, length-take-le, sets, take_all}
+use lib.Seq.{take_at, take-take}
 use native.Mathlib.Numerals.{add-one}
 use native.Mathlib.Omega.{arith}
+use borrow.Rule.Slice.PartMut.{put_mid}
 use borrow.Author.Tests.{leb-false, leb-true, ltb-false, ltb-true}
 use Rattle.octets.specs.Decimal.{decimal}
 use Rattle.octets.specs.Lists.{concat_map, if◌then◌otherwise◌}
 use Rattle.octets.specs.Text.{line_feed}
 use Rattle.octets.proofs.Decimal.{decimal_most}
 use Rattle.octets.proofs.Lists.{drop-take, take_snoc}
-use Rattle.octets.proofs.Stores.{part_bytes, sets-append, sets-inside}
+use Rattle.octets.proofs.Stores.{sets-append, sets-inside}
 use Rattle.octets.proofs.Tests.{by_test}
 use Rattle.octets_laws.specs.Printed.{Printed}
 use Rattle.octets_laws.proofs.Printed.{put_append}
 use Rattle.octets_code.proofs.Loops.{drop_next}
+use Rattle.octets_code.proofs.Methods.{sets_part}
 use Rattle.octets_decimal.specs.Digits.{Numbered}
 use Rattle.entries.specs.Entries.{entry}
 use Rattle.page.specs.Page.{ended, entry_lines, first_line, further_line, line_bytes, name_columns, on_page, padded}
@@ -55,21 +58,16 @@ count_end {lens} {lines} {i} k h =
 two-spaces : (a b c : ℕ) → a + b ≡ c → spaces a ++ spaces b ≡ spaces c
 two-spaces a b c e = replicate-append-replicate a b 0x20 ∙ ap spaces e
 
--- the spaces of a blank line: all of them, one, none
-pub blank_start : (d : List ℕ) (at : ℕ) → sets d (at + 0) (spaces page_columns) ≡ sets d at (spaces page_columns)
-blank_start d at = let z : at + 0 ≡ at = omega arith in rw z
-
-pub blank_on : (d : List ℕ) (at j : ℕ) → j < page_columns
-    → sets (set d (at + j) 0x20) (at + (j + 1)) (spaces (page_columns - (j + 1)))
-    ≡ sets d (at + j) (spaces (page_columns - j))
-blank_on d at j h =
-    let z : page_columns - j ≡ suc (page_columns - (j + 1)) = omega arith in
-    let y : at + (j + 1) ≡ suc (at + j) = omega arith in
-    rw (z, y)
-
-pub blank_end : (d : List ℕ) (at : ℕ) {j : ℕ} → j ≤ page_columns → page_columns ≤ j
-    → d ≡ sets d (at + j) (spaces (page_columns - j))
-blank_end d at {j} h k = let z : page_columns - j ≡ 0 = omega arith in rw z
+-- the part of a line that was filled with spaces
+pub blank_filled :
+    (d part : List ℕ) (at : ℕ) → at + page_columns ≤ length d
+    → part ≡ replicate (length (take (at + page_columns - at) (drop at d))) 0x20
+    → put_mid at (at + page_columns - at) d part ≡ sets d at (spaces page_columns)
+blank_filled d part at h e =
+    let n : length (take (at + page_columns - at) (drop at d)) ≡ page_columns =
+    length-take-le (at + page_columns - at) (drop at d) (omega (arith, length-drop at d)) ∙ omega arith in
+    let p : part ≡ take page_columns (spaces page_columns) = rw n at e in
+    rw p (sets_part d at page_columns (spaces page_columns) (omega arith) (omega arith))
 
 -- the columns of a row's first n bytes, and spaces behind them: a byte of them, a turn that puts it in, the end
 column_at :
@@ -133,7 +131,8 @@ columns_put d at part h =
 
 pub line_put :
     (d : List ℕ) (at : ℕ) (part : List ℕ) → length part ≤ name_columns
-    → sets (set (sets d at (spaces page_columns)) (at + page_columns) 10) at part ≡ sets d at (ended (further_line part))
+    → sets (set (sets d at (spaces page_columns)) (at + page_columns) 10) at part
+    ≡ sets d at (ended (further_line part))
 line_put d at part h =
     let n = length part in
     let behind = spaces (page_columns - n) ++ line_feed in
@@ -226,84 +225,75 @@ drop_least w =
     let e : min name_columns (length w) ≡ name_columns = omega arith in
     rw e)
 
--- further lines written up to index `from` of what is left of a name: the rest of them, written now, gives all
-pub record Going (rest dst₀ dst : List ℕ) (at end from : ℕ) : Type 0 where
-  pub upto : from ≤ length rest
+-- further lines written up to what is left of a name's rest: the lines of that, written now, give all
+pub record Going (rest dst₀ dst left : List ℕ) (at end : ℕ) : Type 0 where
   pub long : length dst ≡ length dst₀
-  pub left : sets dst end (further (drop from rest)) ≡ sets dst₀ at (further rest)
-  pub ends : end + length (further (drop from rest)) ≡ at + length (further rest)
+  pub lines : sets dst end (further left) ≡ sets dst₀ at (further rest)
+  pub ends : end + length (further left) ≡ at + length (further rest)
 
-pub go_start : (rest dst : List ℕ) (at : ℕ) → Going rest dst dst at at 0
-go_start rest dst at = record { upto = omega arith; long = refl; left = refl; ends = refl }
+pub go_start : {rest left : List ℕ} (dst : List ℕ) (at : ℕ) → left ≡ rest → Going rest dst dst left at at
+go_start dst at e = rw e (record { long = refl; lines = refl; ends = refl })
 
-module _ {rest dst₀ dst : List ℕ} {at end from : ℕ} (k : Going rest dst₀ dst at end from) where
-  module _ (h : from < length rest) where
-    abbrev line : List ℕ
-    line = ended (further_line (take name_columns (drop from rest)))
+module _ {rest dst₀ dst left : List ℕ} {at end : ℕ} (k : Going rest dst₀ dst left at end) where
+  -- the next part of it
+  module _
+      (part next : List ℕ) (h : 0 < length left) (e : left ≡ part ++ next)
+      (m : length part ≡ min name_columns (length left))
+    where
+      part_is : take name_columns left ≡ part
+      part_is =
+          sym (take_least left)
+          ∙ ap (λ n. take n left) (sym m)
+          ∙ ap (take (length part)) e
+          ∙ take_at part next (length part) refl
 
-    go_next : further (drop from rest) ≡ line ++ further (drop (from + min name_columns (length rest - from)) rest)
-    go_next =
-        let left = drop from rest in
-        let l = length-drop from rest in
-        further_next left (omega arith)
-        ∙ ap (λ w. line ++ further w)
-        (sym (drop_least left)
-        ∙ ap (λ n. drop (min name_columns n) left) l
-        ∙ drop-drop (min name_columns (length rest - from)) from rest)
+      next_is : drop name_columns left ≡ next
+      next_is =
+          sym (drop_least left)
+          ∙ ap (λ n. drop n left) (sym m)
+          ∙ ap (drop (length part)) e
+          ∙ drop_at part next (length part) refl
 
-    line_long : length line ≡ line_bytes
-    line_long =
-        let w = take name_columns (drop from rest) in
-        omega (arith, length-append (further_line w) line_feed, further_long w (part_short (drop from rest)))
+      abbrev line : List ℕ
+      line = ended (further_line part)
 
-    pub go_room : at + length (further rest) ≤ length dst₀ → end + line_bytes ≤ length dst
-    go_room r = omega (
-      arith,
-      k.ends,
-      k.long,
-      ap length go_next,
-      line_long,
-      length-append line (further (drop (from + min name_columns (length rest - from)) rest)),
-    )
+      go_next : further left ≡ line ++ further next
+      go_next = further_next left h ∙ (λ i. ended (further_line (part_is i)) ++ further (next_is i))
 
-    -- the part that the code takes
-    part_is : {m : ℕ} → m ≡ min name_columns (length rest - from)
-        → take (from + m - from) (drop from rest) ≡ take name_columns (drop from rest)
-    part_is {m} e =
-        part_bytes rest from m
-        ∙ ap (λ n. take n (drop from rest)) (e ∙ ap (min name_columns) (sym (length-drop from rest)))
-        ∙ take_least (drop from rest)
+      pub part_fits : length part ≤ name_columns
+      part_fits = omega (arith, m)
 
-    pub part_fits : {m : ℕ} → m ≡ min name_columns (length rest - from)
-        → length (take (from + m - from) (drop from rest)) ≤ name_columns
-    part_fits e = rw (part_is e) (part_short (drop from rest))
+      line_long : length line ≡ line_bytes
+      line_long = omega (arith, length-append (further_line part) line_feed, further_long part part_fits)
 
-    pub go_on : {m : ℕ} {out : List ℕ} → m ≡ min name_columns (length rest - from) → length out ≡ length dst
-        → out ≡ sets dst end (ended (further_line (take (from + m - from) (drop from rest))))
-        → Going rest dst₀ out at (end + line_bytes) (from + m)
-    go_on {m} {out} q l f =
-        let more = further (drop (from + min name_columns (length rest - from)) rest) in
-        let e : out ≡ sets dst end line = rw (part_is q) at f in
-        rw q
-        (record {
-          upto = omega arith;
-          long = l ∙ k.long;
-          left =
-              ap (λ i. sets out i more) (ap (λ n. end + n) (sym line_long))
-              ∙ rw e (sets-append dst line more end)
-              ∙ ap (sets dst end) (sym go_next)
-              ∙ k.left;
-          ends = omega (arith, k.ends, ap length go_next, line_long, length-append line more);
-        })
+      pub go_room : at + length (further rest) ≤ length dst₀ → end + line_bytes ≤ length dst
+      go_room r = omega (arith, k.ends, k.long, ap length go_next, line_long, length-append line (further next))
 
-  pub go_end : at + length (further rest) ≤ length dst₀ → length rest ≤ from → Printed dst₀ at (further rest) end dst
+      pub go_on : {out : List ℕ} → length out ≡ length dst → out ≡ sets dst end line
+          → Going rest dst₀ out next at (end + line_bytes)
+      go_on {out} l f =
+          record {
+            long = l ∙ k.long;
+            lines =
+                ap (λ i. sets out i (further next)) (ap (λ n. end + n) (sym line_long))
+                ∙ rw f (sets-append dst line (further next) end)
+                ∙ ap (sets dst end) (sym go_next)
+                ∙ k.lines;
+            ends = omega (arith, k.ends, ap length go_next, line_long, length-append line (further next));
+          }
+
+  pub go_end : at + length (further rest) ≤ length dst₀ → length left ≡ 0 → Printed dst₀ at (further rest) end dst
   go_end r h =
-      let z : further (drop from rest) ≡ [] = ap further (drop_of_length-le rest {i = from} h) ∙ further-none in
+      let z : further left ≡ [] = ap further (length_zero left h) ∙ further-none in
       record {
-        stored = rw z at k.left;
+        stored = rw z at k.lines;
         ends = omega (arith, k.ends, ap length z);
         inside = omega (arith, k.ends, ap length z);
       }
+    where
+      length_zero : (w : List ℕ) → length w ≡ 0 → w ≡ []
+      length_zero [] h = refl
+      length_zero (x ∷ w) h = absurd (omega arith)
 
 -- the lines of an entry whose name is the first bytes of a row, where there is room for them
 module _
@@ -355,7 +345,8 @@ module _
           let blank : set mid (at + page_columns) 10 ≡ sets dst at (ended (further_line (take name_columns whole))) =
           ap (λ x. set x (at + page_columns) 10) (m ∙ ap (λ w. sets dst at (padded page_columns w)) first_is)
           ∙ columns_put dst at (take name_columns whole) (part_short whole) in
-          let s₁ : Numbered (sets dst at (ended (further_line (take name_columns whole)))) (at + page_columns) v r scored =
+          let s₁ :
+          Numbered (sets dst at (ended (further_line (take name_columns whole)))) (at + page_columns) v r scored =
           rw blank at s in
           let one : Printed dst at line₁ (at + line_bytes) scored =
           record {

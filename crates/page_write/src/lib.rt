@@ -9,8 +9,8 @@ ghost use Rattle.octets_laws.specs.Printed.{Printed};
 ghost use Rattle.entries.specs.Entries.{entry, max_entries};
 ghost use Rattle.entries_sort.specs.Ranked.{Ranked};
 ghost use Rattle.book_table.specs.Table.{Table, entries};
-ghost use Rattle.page.specs.Page.{ended, further_line, heading, line_bytes, name_columns, on_page, page_columns, page_image};
-ghost use Rattle.page.specs.Page.{padded, spaces};
+ghost use Rattle.page.specs.Page.{ended, further_line, heading, line_bytes, name_columns, on_page, padded};
+ghost use Rattle.page.specs.Page.{page_columns, page_image};
 ghost use Rattle.page_write.specs.Lines.{Pageable, further, page_bytes};
 
 use limits::{LONGEST_NAME, MAX_ENTRIES, NAME_COLUMNS, PAGE_COLUMNS, PAGE_LINE, SMALL_TABLE};
@@ -21,24 +21,10 @@ pub fn page_size(lens: &[u8]) -> usize
     ensures { result ≡ page_bytes lens.now }
 {
     let mut lines = 1;
-    let mut i = 0;
-    while i < lens.len() {
-        lines += (lens[i] as usize + (NAME_COLUMNS - 1)) / NAME_COLUMNS;
-        i += 1;
+    for len in lens {
+        lines += (*len as usize + (NAME_COLUMNS - 1)) / NAME_COLUMNS;
     }
     lines * PAGE_LINE
-}
-
-// Fills the columns of a line with spaces.
-fn put_blank(dst: &mut [u8], at: usize)
-    requires { at + page_columns ≤ length dst.old }
-    ensures { dst.new ≡ sets dst.old at (spaces page_columns) }
-{
-    let mut j = 0;
-    while j < PAGE_COLUMNS {
-        dst[at + j] = b' ';
-        j += 1;
-    }
 }
 
 // Writes a line with a part of a name and no score.
@@ -46,7 +32,7 @@ fn put_line(dst: &mut [u8], at: usize, part: &[u8])
     requires { (at + line_bytes ≤ length dst.old) × (length part.now ≤ name_columns) }
     ensures { dst.new ≡ sets dst.old at (ended (further_line part.now)) }
 {
-    put_blank(dst, at);
+    dst[at..at + PAGE_COLUMNS].fill(b' ');
     dst[at + PAGE_COLUMNS] = b'\n';
     octets_code::copy(dst, at, part);
 }
@@ -57,12 +43,9 @@ fn put_further(dst: &mut [u8], at: usize, rest: &[u8]) -> usize
     ensures { Printed dst.old at (further rest.now) result dst.new }
 {
     let mut end = at;
-    let mut from = 0;
-    while from < rest.len() {
-        let to = from + octets_code::least(NAME_COLUMNS, rest.len() - from);
-        put_line(dst, end, &rest[from..to]);
+    for part in rest.chunks(NAME_COLUMNS) {
+        put_line(dst, end, part);
         end += PAGE_LINE;
-        from = to;
     }
     end
 }
@@ -81,10 +64,8 @@ fn put_columns(dst: &mut [u8], at: usize, row: &[u8], n: u8)
     ensures { dst.new ≡ sets dst.old at (padded page_columns (take n row.now)) }
 {
     let mut line = [0; PAGE_COLUMNS];
-    let mut j = 0;
-    while j < PAGE_COLUMNS {
+    for j in 0..PAGE_COLUMNS {
         line[j] = column(row[j], j as u8, n);
-        j += 1;
     }
     octets_code::copy(dst, at, &line);
 }
@@ -96,7 +77,7 @@ fn put_entry(dst: &mut [u8], at: usize, row: &[u8], len: usize, score: u32) -> u
     ensures { Printed dst.old at (on_page (entry (take len row.now) score)) result
         dst.new }
 {
-    let first = octets_code::least(NAME_COLUMNS, len);
+    let first = NAME_COLUMNS.min(len);
     put_columns(dst, at, row, first as u8);
     dst[at + PAGE_COLUMNS] = b'\n';
     octets_decimal::put_decimal(dst, at + PAGE_COLUMNS, score);
@@ -123,32 +104,24 @@ fn put_page(names: &[u8], lens: &[u8], scores: &[u32], order: &[u16], dst: &mut 
 {
     put_heading(dst);
     let mut at = PAGE_LINE;
-    let mut i = 0;
-    while i < lens.len() {
-        let row = order[i] as usize;
+    for ranked in &order[..lens.len()] {
+        let row = *ranked as usize;
         let from = row * LONGEST_NAME;
         let to = from + LONGEST_NAME;
         at = put_entry(dst, at, &names[from..to], lens[row] as usize, scores[row]);
-        i += 1;
     }
 }
 
-// Sorts the rows into rank and writes their page, for which there is room; order and other have a place for each row.
-fn write_ranked(
-    names: &[u8],
-    lens: &[u8],
-    scores: &[u32],
-    order: &mut [u16],
-    other: &mut [u16],
-    dst: &mut [u8],
-)
-    requires { Pageable names.now lens.now scores.now dst.old
-        × (length lens.now ≤ length order.old) × (length lens.now ≤ length other.old) }
+// Sorts the rows into rank, of which there are at most so many, and writes their page, for which there is room.
+fn write_ranked<const ROWS: usize>(names: &[u8], lens: &[u8], scores: &[u32], dst: &mut [u8])
+    requires { Pageable names.now lens.now scores.now dst.old × (length lens.now ≤ ROWS) × (ROWS ≤ max_entries) }
     ensures { dst.new ≡ overwrite dst.old
         (page_image (entries names.now lens.now scores.now)) }
 {
-    entries_sort::sort_first(scores, lens.len(), order, other);
-    put_page(names, lens, scores, order, dst);
+    let mut order = [0; ROWS];
+    let mut other = [0; ROWS];
+    entries_sort::sort_first(scores, lens.len(), &mut order, &mut other);
+    put_page(names, lens, scores, &order, dst);
 }
 
 // Writes the page of the table's entries, for which there is room.
@@ -158,12 +131,8 @@ pub fn write(names: &[u8], lens: &[u8], scores: &[u32], dst: &mut [u8])
         (page_image (entries names.now lens.now scores.now)) }
 {
     if lens.len() <= SMALL_TABLE {
-        let mut order = [0; SMALL_TABLE];
-        let mut other = [0; SMALL_TABLE];
-        write_ranked(names, lens, scores, &mut order, &mut other, dst);
-        return;
+        write_ranked::<SMALL_TABLE>(names, lens, scores, dst);
+    } else {
+        write_ranked::<MAX_ENTRIES>(names, lens, scores, dst);
     }
-    let mut order = [0; MAX_ENTRIES];
-    let mut other = [0; MAX_ENTRIES];
-    write_ranked(names, lens, scores, &mut order, &mut other, dst);
 }

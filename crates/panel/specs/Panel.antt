@@ -1,6 +1,7 @@
 -- The panel's typing state and its keys (document 01, "Sheet, finding, panel, program"; document 02, requests b
 -- and c).
-use Rattle.std.specs.Prelude.{◌+◌, ◌-◌, min, ℕ, Bool, ◌&&◌, ◌||◌, not, List, [], ◌++◌, ◌∷◌, eqb, leb, ltb, length, replicate, take, ◌≡◌}
+use Rattle.std.specs.Prelude.{◌+◌, ◌-◌, min, ℕ, Bool, ◌&&◌, ◌||◌, not, List, [], ◌++◌, ◌∷◌, eqb, leb, ltb, length, replicate}
+use Rattle.std.specs.Prelude.{Result, take, ◌≡◌}
 use Rattle.octets.specs.Lists.{any, if◌then◌otherwise◌}
 use Rattle.entries.specs.Completion.{completion}
 use Rattle.entries.specs.Entries.{Entry, at, holds, position}
@@ -9,8 +10,8 @@ use Rattle.answer.specs.Answers.{Answer, Check, ◌when◌, on_answer, unless}
 use Rattle.book.specs.Book.{in_book}
 use Rattle.book.specs.Checks.{book_checks}
 use Rattle.panel.specs.declared.Panel.{Panel}
-use Rattle.answer.specs.declared.Pressed.{Pressed}
-use Rattle.answer.specs.Reports.{pressed_of}
+use Rattle.answer.specs.declared.Refusal.{Refusal}
+use Rattle.answer.specs.Reports.{count_of}
 
 -- what a key works on: the typed text and the highlighted row
 pub record Typing : Type 0 where
@@ -158,6 +159,6 @@ press book p key =
     record { answer = answer; panel = on_answer answer p new }
 
 -- a key answers r and leaves the panel `left`, as its definition says
-pub record PressedAs (o : AfterKey) (r : Pressed) (left : Panel) : Type 0 where
-  pub answer : pressed_of r ≡ o.answer
+pub record PressedAs (o : AfterKey) (r : Result ℕ Refusal) (left : Panel) : Type 0 where
+  pub answer : count_of r ≡ o.answer
   pub leaves : left ≡ o.panel

@@ -6,19 +6,12 @@ ghost use Rattle.entries.specs.Entries.{names};
 ghost use Rattle.book.specs.Book.{in_book, records_at, today};
 ghost use Rattle.book_laws.specs.Held.{Held};
 ghost use Rattle.book_seek.specs.Seek.{Seeking};
-ghost use Rattle.panel.specs.Panel.{PressedAs, panel_of, press, typed_in, typing_after};
-ghost use Rattle.panel_keys.specs.Keys.{Ready, refusal};
+ghost use Rattle.panel.specs.Panel.{panel_of, press, typed_in, typing_after};
+ghost use Rattle.panel_keys.specs.Keys.{Ready, SteppedAs};
 
-use answer::Pressed;
+use answer::Refusal;
 use book_seek::Seek;
 use limits::LONGEST_NAME;
-
-// The panel and the answer after a key.
-#[derive(Clone, Copy)]
-pub struct KeyDone {
-    pub panel: panel::Panel,
-    pub answer: Pressed,
-}
 
 // The panel after a key. What is offered before it is looked at only where the key depends on it.
 // Where the text before it stands in the book was found before.
@@ -40,44 +33,23 @@ fn act(book: &[u8], n: usize, p: panel::Panel, seek: Seek, key: u8) -> panel::Pa
     panel_show::show(book, n, p, panel_rows::row_at(rows, to))
 }
 
-// A refusal, which leaves the panel as it was.
-fn refuse(p: panel::Panel, number: u8) -> KeyDone
-    ensures { result ≡ refusal p number }
-{
-    KeyDone {
-        panel: p,
-        answer: Pressed::Refused(number),
-    }
-}
-
 // A key, over a panel by value: the checks in the table's order, then what the key does. The text is sought in the book
 // before it is checked itself, so no more of it than there is.
-pub fn step_in(book: &[u8], p: panel::Panel, key: u8) -> KeyDone
-    ensures { PressedAs (press book.now p key) result.answer result.panel }
+pub fn step_in(book: &[u8], p: panel::Panel, key: u8) -> Result<panel::Panel, Refusal>
+    ensures { SteppedAs (press book.now p key) result }
 {
-    let text = p.text;
-    let len = octets_code::least(p.len, LONGEST_NAME);
-    let c = book_check::check(book, &text[..len]);
-    let refusal = c.refusal;
-    let seek = c.seek;
-    if refusal != 0 {
-        return refuse(p, refusal);
-    }
+    let c = book_check::check(book, &p.text[..p.len.min(LONGEST_NAME)])?;
     if !panel_typing::is_typed(p) {
-        return refuse(p, 2);
+        return Err(Refusal::NotAllowed);
     }
     if !panel_typing::is_held(p) {
-        return refuse(p, 2);
+        return Err(Refusal::NotAllowed);
     }
     if !panel_typing::is_listed(key) {
-        return refuse(p, 8);
+        return Err(Refusal::NoSuchKey);
     }
     if panel_typing::is_full(p.len, key) {
-        return refuse(p, 9);
+        return Err(Refusal::TextFull);
     }
-    let after = act(book, c.n, p, seek, key);
-    KeyDone {
-        panel: after,
-        answer: Pressed::Rows(after.rows),
-    }
+    Ok(act(book, c.n, p, c.seek, key))
 }

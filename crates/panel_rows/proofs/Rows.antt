@@ -5,16 +5,18 @@ use mathlib.Core.Logic.{inl, inr}
 use mathlib.Core.Bool.{◌&&◌, false, false≢true, true}
 use mathlib.Core.List.{List, [], ◌∷◌, map}
 use lib.Dec.{eqb, ltb}
-use lib.ListN.{drop, drop_of_length-le, get_or, length, length-map, length-take, take}
+use lib.ListN.{get_or, length, length-map, length-take, take}
 use lib.Seq.{get_or-take, length-take-le}
 use native.Mathlib.Omega.{arith}
-use borrow.Author.Tests.{eq-eqb, eqb-false, eqb-true, le-ltb, lt-ltb, ltb-true, ne_eqb}
-use Rattle.octets.specs.Lists.{◌∈◌}
+use borrow.Author.Tests.{le-ltb, lt-ltb, ltb-false, ltb-true}
+use Rattle.std.specs.Prelude.{None, Option, Some, cond}
+use Rattle.std.specs.Option.{unwrap_or}
+use Rattle.std.proofs.lemmas.List.Recursion.{is_position_or_len}
+use Rattle.octets.specs.Lists.{◌∈◌, if◌then◌otherwise◌}
 use Rattle.octets.specs.Octets.{same}
 use Rattle.octets.proofs.Lists.{get_in, sort-length}
 use Rattle.octets.proofs.Order.{same_eq}
 use Rattle.octets.proofs.Tests.{and_true_both, by_test, suc_ltb}
-use Rattle.octets_code.proofs.Loops.{drop_next}
 use Rattle.entries.specs.Completion.{completion, matches, max_count}
 use Rattle.entries.specs.Entries.{Entry, at, by_rank, holds, named, names, no_entry, outranks, position}
 use Rattle.entries.specs.Entries.{rising}
@@ -31,7 +33,7 @@ use Rattle.completion.proofs.Machine.{machine-inside, machine_promise}
 use Rattle.completion_turn.specs.declared.Progress.{Progress}
 use Rattle.completion_turn.specs.Turns.{so_far}
 use Rattle.completion_book.specs.Offers.{Offers, entries_at}
-use Rattle.completion_book.proofs.Answering.{begun-some}
+use Rattle.completion_book.proofs.Answering.{match_is, match_range}
 use Rattle.panel.specs.Panel.{offered_for, panel_count, row_with}
 use Rattle.panel_rows.specs.declared.Row.{Row}
 use Rattle.panel_rows.specs.Rows.{OnRow, Rows, row_at, row_of}
@@ -54,14 +56,13 @@ module _ {w : List ℕ} {start : ℕ} (es : List Entry) (r : rising es ≡ true)
       place-absent w es r (λ l. rw (← e) (rw (lt-ltb s.place (length es) (omega (arith, e))) at a))
 
 -- what the machine offers are the rows
-module _ (es : List Entry) (w : List ℕ) (r : rising es ≡ true) (s : Progress)
-    (long : length s.offered ≡ max_count) (o : Offers es w panel_count s) where
+module _ (es : List Entry) (w : List ℕ) (r : rising es ≡ true) (s : Progress) (o : Offers es w panel_count s) where
   listed : entries_at es (so_far s) ≡ offered_for es w
   listed = rw o.offered (machine_promise es w panel_count r).completes
 
   pub rows_offered : Rows es w s
   rows_offered =
-      let a = length-take-le s.count s.offered (omega (arith, o.few, long)) in
+      let a = length-take-le s.count s.offered (omega (arith, o.few, o.places)) in
       let b = length-map (so_far s) (at es) in
       let l = ap length listed in
       record {
@@ -88,15 +89,23 @@ module _ (es : List Entry) (w : List ℕ) (s : Progress) (a : Rows es w s) (long
   here : 0 < s.count → at es (get_or s.offered i 0) ≡ at (offered_for es w) i
   here some = rw (← found some, ← a.offered) (sym (at_mapped es (so_far s) i (shown some)))
 
+  in_row : {j : ℕ} → i < s.count → Some (get_or s.offered i 0) ≡ Some j → j < length es
+  in_row {j} l e =
+      let z : get_or s.offered i 0 ≡ j = cc in
+      let some : 0 < s.count = omega arith in
+      rw (← z) (a.inside (get_or s.offered i 0) (rw (found some) at (get_in 0 (so_far s) i (shown some))))
+
   on_row_at : OnRow es w (row_at s i)
   on_row_at =
       record {
         rows = a.count;
-        inside = λ some.
-            a.inside (get_or s.offered i 0) (rw (found some) at (get_in 0 (so_far s) i (shown some)));
-        name = by_test (eqb s.count 0)
-            (λ t. rw t (sym (no_entry_lem (offered_for es w) i (sym a.count ∙ eqb-true s.count 0 t))))
-            (λ t. let some = eqb-false s.count 0 t in rw t (ap (λ e. e.name) (here (omega (arith, some)))));
+        inside = λ j e. by_test (ltb i s.count) (λ t. in_row (ltb-true i s.count t) (rw t at e))
+            (λ t. let z : ◌≡◌ {A = Option ℕ} None (Some j) = rw t at e in cc);
+        name = by_test (ltb i s.count)
+            (λ t. let some = ltb-true i s.count t in rw t (ap (λ e. e.name) (here (omega (arith, some)))))
+            (λ t.
+            let none = ltb-false i s.count t in
+            rw t (sym (no_entry_lem (offered_for es w) i (omega (arith, none, on, a.count)))));
       }
 
   pub on_row_of : {r : Row} → r ≡ row_at s i → OnRow es w r
@@ -113,12 +122,12 @@ rows_counted es w =
 
 -- the first row, from the text's two places
 module _ (es : List Entry) (w : List ℕ) {first end : ℕ} (f : first ≡ place false w es) (e : end ≡ place true w es) where
-  pub first_none : end ≤ first → OnRow es w (record { number = 0; rows = 0; position = 0 })
+  pub first_none : end ≤ first → OnRow es w (record { number = 0; rows = 0; position = None })
   first_none h =
       let none : length (offered_for es w) ≡ 0 = omega (arith, f, e, rows_counted es w) in
       record {
         rows = sym none;
-        inside = λ some. absurd (omega arith);
+        inside = λ i e. let z : ◌≡◌ {A = Option ℕ} None (Some i) = e in cc;
         name = sym (no_entry_lem (offered_for es w) 0 none);
       }
 
@@ -126,7 +135,8 @@ module _ (es : List Entry) (w : List ℕ) {first end : ℕ} (f : first ≡ place
     -- the best of the range is offered first
     offers_best_lem : (machine es w 1).offered ≡ r.best ∷ []
     unfolding machine
-    offers_best_lem = rw (begun-some es w ri f e l o)
+    offers_best_lem =
+        let m : match_range es w ≡ r ∷ [] = match_is es w ri ∙ rw (← f, ← e) o in rw m
 
     first_of : (l : List Entry) → at (take 1 l) 0 ≡ at (take panel_count l) 0
     first_of [] = refl
@@ -139,37 +149,54 @@ module _ (es : List Entry) (w : List ℕ) {first end : ℕ} (f : first ≡ place
         ∙ first_of (by_rank (matches w es))
 
     pub first_some : {rows : ℕ} → rows ≡ min panel_count (end - first)
-        → OnRow es w (record { number = 0; rows = rows; position = r.best })
+        → OnRow es w (record { number = 0; rows = rows; position = Some r.best })
     first_some {rows} n =
         record {
           rows = omega (arith, n, f, e, rows_counted es w);
-          inside = λ some. machine-inside es w 1 ri r.best (rw offers_best_lem (inl refl));
-          name = rw (ne_eqb rows 0 (λ z. omega (arith, n))) (ap (λ x. x.name) best_first);
+          inside = λ i q. let z : r.best ≡ i = cc in
+              rw (← z) (machine-inside es w 1 ri r.best (rw offers_best_lem (inl refl)));
+          name = ap (λ x. x.name) best_first;
         }
 
--- the row of a position, looked for from row i on: it is there, it is not, all are passed
-module _ (p : ℕ) (is : List ℕ) (i : ℕ) where
-  pub row_here : i < length is → get_or is i 0 ≡ p → row_of p (drop i is) ≡ 0
-  row_here h e = rw (drop_next is i h, eq-eqb (get_or is i 0) p e)
+-- the row of a position; the number of rows if it is in none of them
+abbrev row_in : ℕ → List ℕ → ℕ
+row_in i [] = 0
+row_in i (j ∷ js) = if eqb j i then 0 otherwise suc (row_in i js)
 
-  pub row_next : i < length is → (get_or is i 0 ≡ p → ⊥) → row_of p (drop i is) ≡ suc (row_of p (drop (i + 1) is))
-  row_next h n = rw (drop_next is i h, ne_eqb (get_or is i 0) p n)
+row_in_is : (i : ℕ) (is : List ℕ) → row_of i is ≡ cond (ltb (row_in i is) (length is)) (Some (row_in i is)) None
+row_in_is i is =
+    ap (λ n. cond (ltb n (length is)) (Some n) None) (sym (is_position_or_len (row_in i) (λ j. eqb j i) refl step is))
+  where
+    step : (j : ℕ) (js : List ℕ) → row_in i (j ∷ js) ≡ cond (eqb j i) 0 (1 + row_in i js)
+    step j js = by_test (eqb j i) (λ t. rw t refl) (λ t. rw t (omega arith))
 
-  pub row_end : length is ≤ i → row_of p (drop i is) ≡ 0
-  row_end h = rw (drop_of_length-le is {i = i} h)
+row_is : (i : ℕ) (is : List ℕ) {row : ℕ} → row_of i is ≡ Some row → (row ≡ row_in i is) × (row < length is)
+row_is i is {row} e =
+    by_test (ltb (row_in i is) (length is))
+    (λ t.
+    let s : Some (row_in i is) ≡ Some row = rw t at (sym (row_in_is i is) ∙ e) in
+    let q : row ≡ row_in i is = cc in
+    (q, rw q (ltb-true (row_in i is) (length is) t)))
+    (λ t. let s : ◌≡◌ {A = Option ℕ} None (Some row) = rw t at (sym (row_in_is i is) ∙ e) in cc)
+
+no_row : (i : ℕ) (is : List ℕ) → row_of i is ≡ None → length is ≤ row_in i is
+no_row i is e =
+    by_test (ltb (row_in i is) (length is))
+    (λ t. let s : Some (row_in i is) ≡ None = rw t at (sym (row_in_is i is) ∙ e) in cc)
+    (λ t. ltb-false (row_in i is) (length is) t)
 
 -- a name that the book holds is on the row of its position
 module _ (w : List ℕ) (es : List Entry) (r : rising es ≡ true) (h : holds w es ≡ true) where
   on_row_lem : (is : List ℕ) → ((i : ℕ) → i ∈ is → i < length es)
-      → (holds w (map (at es) is) ≡ ltb (row_of (position w es) is) (length is))
-      × (position w (map (at es) is) ≡ row_of (position w es) is)
+      → (holds w (map (at es) is) ≡ ltb (row_in (position w es) is) (length is))
+      × (position w (map (at es) is) ≡ row_in (position w es) is)
   on_row_lem [] m = (refl, refl)
   on_row_lem (j ∷ is) m =
       let e = named-at w es r h j (m j (inl refl)) in
       let ih = on_row_lem is (λ i l. m i (inr l)) in
       by_test (eqb j (position w es))
       (λ t. rw (e, t) (sym (lt-ltb 0 (suc (length is)) (omega arith)), refl))
-      (λ t. rw (e, t) (ih.0 ∙ sym (suc_ltb (row_of (position w es) is) (length is)), ap suc ih.1))
+      (λ t. rw (e, t) (ih.0 ∙ sym (suc_ltb (row_in (position w es) is) (length is)), ap suc ih.1))
 
 -- one that it does not hold is on no row
 off_rows : (w : List ℕ) (es : List Entry) → holds w es ≡ false → (is : List ℕ) → ((i : ℕ) → i ∈ is → i < length es)
@@ -182,24 +209,31 @@ off_rows w es h (j ∷ is) m =
     absurd (false≢true (sym h ∙ (rw (same_eq (at es j).name w t) at z))))
     (λ t. rw t (off_rows w es h is (λ i l. m i (inr l))))
 
--- the row that has a name, among those offered for a text
-module _ (held : List ℕ) (es : List Entry) (w : List ℕ) (other : ℕ) (s : Progress) (a : Rows es w s) where
-  pub row_absent : holds held es ≡ false → other ≡ row_with held (offered_for es w) other
-  row_absent h = rw (← a.offered) (rw (off_rows held es h (so_far s) a.inside))
+-- the row that has a name that was sought, among those offered for a text
+module _ (held : List ℕ) (es : List Entry) (w : List ℕ) (other : ℕ) {s : Progress} (a : Rows es w s)
+    (r : rising es ≡ true) {start : ℕ} {sought : Seek} (g : Seeking held start (names es) sought) where
+  pub row_absent : sought.same ≡ false → other ≡ row_with held (offered_for es w) other
+  row_absent t = rw (← a.offered) (rw (off_rows held es (sought_absent es r g t) (so_far s) a.inside))
 
-  module _ (long : length s.offered ≡ max_count) (r : rising es ≡ true) (h : holds held es ≡ true) {row : ℕ}
-      (e : row ≡ row_of (position held es) (so_far s)) where
-    rows : length (so_far s) ≡ s.count
-    rows = length-take-le s.count s.offered (omega (arith, a.few, long))
+  module _ (t : sought.same ≡ true) {o : Option ℕ} (looked : o ≡ row_of sought.place (so_far s)) where
+    row : row_of (position held es) (so_far s) ≡ o
+    row = sym (looked ∙ ap (λ i. row_of i (so_far s)) (sought_held es r g t).1)
 
-    abbrev on : holds held (map (at es) (so_far s)) ≡ ltb row (length (so_far s))
-    on = rw e (on_row_lem held es r h (so_far s) a.inside).0
+    on : (holds held (map (at es) (so_far s)) ≡ ltb (row_in (position held es) (so_far s)) (length (so_far s)))
+        × (position held (map (at es) (so_far s)) ≡ row_in (position held es) (so_far s))
+    on = on_row_lem held es r (sought_held es r g t).0 (so_far s) a.inside
 
-    pub row_found : row < s.count → row ≡ row_with held (offered_for es w) other
-    row_found l =
-        rw (← a.offered)
-        (rw (on, lt-ltb row (length (so_far s)) (omega (arith, rows)))
-        (e ∙ sym (on_row_lem held es r h (so_far s) a.inside).1))
+    row_found : {i : ℕ} → o ≡ Some i → i ≡ row_with held (offered_for es w) other
+    row_found e =
+        let here = row_is (position held es) (so_far s) (row ∙ e) in
+        rw (← a.offered) (rw (on.0, ← here.0, lt-ltb _ (length (so_far s)) here.1) (here.0 ∙ sym on.1))
 
-    pub row_none : s.count ≤ row → other ≡ row_with held (offered_for es w) other
-    row_none l = rw (← a.offered) (rw (on, le-ltb row (length (so_far s)) (omega (arith, rows))))
+    row_none : o ≡ None → other ≡ row_with held (offered_for es w) other
+    row_none e = rw (← a.offered) (rw (on.0, le-ltb (row_in (position held es) (so_far s)) (length (so_far s)) (no_row (position held es) (so_far s) (row ∙ e))))
+
+    pub row_or : {i : ℕ} → i ≡ unwrap_or o other → i ≡ row_with held (offered_for es w) other
+    row_or {i} e = go o refl
+      where
+        go : (q : Option ℕ) → o ≡ q → i ≡ row_with held (offered_for es w) other
+        go None q = e ∙ rw q (row_none q)
+        go (Some j) q = e ∙ rw q (row_found q)

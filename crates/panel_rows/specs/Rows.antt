@@ -1,5 +1,6 @@
 -- The rows of a panel as positions in the book.
-use Rattle.std.specs.Prelude.{◌<◌, ◌≤◌, suc, ℕ, ◌≡◌, List, [], ◌∷◌, eqb, get_or, length}
+use Rattle.std.specs.Prelude.{◌<◌, ◌≤◌, ℕ, ◌≡◌, None, Option, Some, List, [], eqb, get_or, length, ltb}
+use Rattle.std.specs.List.{position}
 use Rattle.octets.specs.Lists.{◌∈◌, if◌then◌otherwise◌}
 use Rattle.entries.specs.Completion.{max_count}
 use Rattle.entries.specs.Entries.{Entry, at, names}
@@ -26,19 +27,24 @@ RowsAll book n seek s =
 
 -- one of the rows
 abbrev pub row_at : Progress → ℕ → Row
-row_at s i = record { number = i; rows = s.count; position = get_or s.offered i 0 }
+row_at s i =
+    record {
+      number = i;
+      rows = s.count;
+      position = if ltb i s.count then Some (get_or s.offered i 0) otherwise None;
+    }
 
 -- its name, the empty one without rows
-abbrev pub row_name : List Entry → Row → List ℕ
-row_name es r = if eqb r.rows 0 then [] otherwise (at es r.position).name
+abbrev pub row_name : List Entry → Option ℕ → List ℕ
+row_name es None = []
+row_name es (Some i) = (at es i).name
 
 -- a row of those offered for a text
 pub record OnRow (es : List Entry) (w : List ℕ) (r : Row) : Type 0 where
   pub rows : r.rows ≡ length (offered_for es w)
-  pub inside : 0 < r.rows → r.position < length es
-  pub name : row_name es r ≡ highlighted es (typing w r.number)
+  pub inside : (i : ℕ) → r.position ≡ Some i → i < length es
+  pub name : row_name es r.position ≡ highlighted es (typing w r.number)
 
--- the row of a position; the number of rows if it is in none of them
-abbrev pub row_of : ℕ → List ℕ → ℕ
-row_of i [] = 0
-row_of i (j ∷ js) = if eqb j i then 0 otherwise suc (row_of i js)
+-- the row of a position, if it is in one of them
+abbrev pub row_of : ℕ → List ℕ → Option ℕ
+row_of i js = position (λ j. eqb j i) js

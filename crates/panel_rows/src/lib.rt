@@ -14,12 +14,12 @@ ghost use Rattle.panel_rows.specs.Rows.{OnRow, Rows, RowsAll, row_at, row_of};
 use book_seek::Seek;
 use limits::PANEL_COUNT;
 
-// A row: its number, how many rows there are, and the position of its name, of no account without rows.
+// A row: its number, how many rows there are, and the position of its name, none without rows.
 #[derive(Clone, Copy)]
 pub struct Row {
     pub number: usize,
     pub rows: usize,
-    pub position: usize,
+    pub position: Option<usize>,
 }
 
 // The first row of the panel's text; for the others nothing is looked at.
@@ -27,23 +27,21 @@ pub fn first_row(book: &[u8], n: usize, p: panel::Panel) -> Row
     requires { Held book.now n × (p.len ≤ longest_name) }
     ensures { OnRow (in_book book.now) (typed_in p) result × (result.number ≡ 0) }
 {
-    let len = p.len;
-    let text = p.text;
-    let found = book_skip::seek(book, book_layout::today(), n, &text[..len]);
+    let found = book_skip::seek(book, book_layout::today(), n, &p.text[..p.len]);
     let first = found.place;
     let end = found.past;
     if end <= first {
         return Row {
             number: 0,
             rows: 0,
-            position: 0,
+            position: None,
         };
     }
     let all = completion_turn::open_range(book, n, first, end);
     Row {
         number: 0,
-        rows: octets_code::least(PANEL_COUNT, end - first),
-        position: all.best,
+        rows: PANEL_COUNT.min(end - first),
+        position: Some(all.best),
     }
 }
 
@@ -60,26 +58,18 @@ pub fn row_at(s: completion_turn::Progress, number: usize) -> Row
     requires { number < max_count }
     ensures { result ≡ row_at s number }
 {
-    let offered = s.offered;
     Row {
-        number: number,
+        number,
         rows: s.count,
-        position: offered[number],
+        position: (number < s.count).then_some(s.offered[number]),
     }
 }
 
-// The row of a position; the number of rows if it is in none of them.
-fn row_of(rows: &[usize], position: usize) -> usize
+// The row of a position, if it is in one of them.
+fn row_of(rows: &[usize], position: usize) -> Option<usize>
     ensures { result ≡ row_of position rows.now }
 {
-    let mut i = 0;
-    while i < rows.len() {
-        if rows[i] == position {
-            return i;
-        }
-        i += 1;
-    }
-    i
+    rows.iter().position(|row| *row == position)
 }
 
 // The row that has the held name; another row if the name is not offered.
@@ -93,17 +83,9 @@ pub fn held_row(
     requires { Held book.now n × Rows (in_book book.now) (typed_in p) s × (p.held_len ≤ longest_name) }
     ensures { result ≡ row_with (held_in p) (offered_for (in_book book.now) (typed_in p)) other }
 {
-    let held = p.held;
-    let len = p.held_len;
-    let found = book_skip::seek(book, book_layout::today(), n, &held[..len]);
+    let found = book_skip::seek(book, book_layout::today(), n, &p.held[..p.held_len]);
     if !found.same {
         return other;
     }
-    let offered = s.offered;
-    let count = s.count;
-    let row = row_of(&offered[..count], found.place);
-    if row < count {
-        return row;
-    }
-    other
+    row_of(s.so_far(), found.place).unwrap_or(other)
 }

@@ -1,7 +1,7 @@
 // The panel as a key leaves it: on one of its rows, whose name is held.
 #![tactic(auto)]
 
-ghost use Rattle.std.specs.Prelude.{◌≡◌, ◌<◌, ◌≤◌, length, take};
+ghost use Rattle.std.specs.Prelude.{◌≡◌, ℕ, ◌<◌, ◌≤◌, Some, length, take};
 ghost use Rattle.entries.specs.Names.{longest_name};
 ghost use Rattle.book.specs.Book.{in_book};
 ghost use Rattle.book_laws.specs.Held.{Held};
@@ -12,7 +12,7 @@ ghost use Rattle.panel_show.specs.Shown.{TextIs, text_of};
 
 use limits::LONGEST_NAME;
 
-// 48 bytes of which the first `len` are a text.
+// 48 bytes of which the first `len` are a text: an array with its length, as in the panel that C lends.
 #[derive(Clone, Copy)]
 struct Text {
     bytes: [u8; LONGEST_NAME],
@@ -24,33 +24,25 @@ fn cleared(t: Text) -> Text
     requires { t.len ≤ longest_name }
     ensures { result ≡ text_of (take t.len t.bytes) }
 {
-    let len = t.len;
-    let mut bytes = t.bytes;
-    let zeros = [0; LONGEST_NAME];
-    octets_code::copy(&mut bytes, len, &zeros);
-    Text {
-        bytes: bytes,
-        len: len,
-    }
+    let mut c = t;
+    c.bytes[t.len..].fill(0);
+    c
 }
 
 // The name on a row, with any bytes behind it; without rows the empty one.
 fn name_on(book: &[u8], n: usize, r: panel_rows::Row) -> Text
-    requires { Held book.now n × (0 < r.rows → r.position < length (in_book book.now)) }
-    ensures { TextIs (row_name (in_book book.now) r) result }
+    requires { Held book.now n × ((i : ℕ) → r.position ≡ Some i → i < length (in_book book.now)) }
+    ensures { TextIs (row_name (in_book book.now) r.position) result }
 {
-    if r.rows == 0 {
+    let Some(position) = r.position else {
         return Text {
             bytes: [0; LONGEST_NAME],
             len: 0,
         };
-    }
-    let c = book_name::name_at(book, n, r.position);
-    let name = c.name;
-    Text {
-        bytes: name,
-        len: c.len,
-    }
+    };
+    let c = book_name::name_at(book, n, position);
+    let bytes = c.name;
+    Text { bytes, len: c.len }
 }
 
 // The panel with the name on a row as its text.

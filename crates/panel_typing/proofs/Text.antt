@@ -1,10 +1,9 @@
 -- The typed text of a panel of 48 bytes, after a sign is appended or erased.
-use Prim.Native.Nat.{◌+◌, ◌-◌, ◌<◌, ◌≤◌, suc, ℕ}
+use Prim.Native.Nat.{◌+◌, ◌-◌, ◌<◌, ◌≤◌, ℕ}
 use mathlib.Core.Path.{◌≡◌}
-use mathlib.Core.List.{[], ◌++◌, ◌∷◌, append_assoc}
-use lib.ListN.{length, length-set, set, take}
-use lib.Seq.{length-take-le, take-suc-set, take-take}
-use native.Mathlib.Numerals.{add-one}
+use mathlib.Core.List.{List, ◌++◌}
+use lib.ListN.{drop, length, length-append}
+use lib.Seq.{length-take-le, sets, sets-eq, take-take, take_at}
 use native.Mathlib.Omega.{arith}
 use Rattle.entries.specs.Names.{last_sign, longest_name}
 use Rattle.entries_laws.proofs.Prefixes.{last_within}
@@ -17,24 +16,18 @@ module _ (p : Panel) (long : length p.text ≡ longest_name) where
   typed_length h = length-take-le p.len p.text (omega (arith, long))
 
   -- whatever else is in the panel q
-  pub appends_to : (q : Panel) (key : ℕ) → p.len < longest_name → q.text ≡ set p.text p.len key
-      → q.len ≡ p.len + 1 → Typed (typed_in p ++ (key ∷ [])) q
-  appends_to q key h t n =
-      let z : q.len ≡ suc p.len = omega arith in
+  pub appends_sign : (q : Panel) (sign : List ℕ) → p.len + length sign ≤ longest_name
+      → q.text ≡ sets p.text p.len sign → q.len ≡ p.len + length sign → Typed (typed_in p ++ sign) q
+  appends_sign q sign h t n =
+      let behind = drop (p.len + length sign) p.text in
+      let l : length (typed_in p ++ sign) ≡ p.len + length sign = omega (
+        arith,
+        length-append (typed_in p) sign,
+        typed_length (omega arith),
+      ) in
       record {
-        holds = rw (z, t) (take-suc-set p.text p.len key (omega (arith, long)));
-        short = omega arith;
-      }
-
-  pub appends-pair : (q : Panel) (a b : ℕ) → p.len + 1 < longest_name
-      → q.text ≡ set (set p.text p.len a) (p.len + 1) b → q.len ≡ p.len + 2
-      → Typed (typed_in p ++ (a ∷ b ∷ [])) q
-  appends-pair q a b h t n =
-      let z : q.len ≡ suc (suc p.len) = omega arith in
-      let one = set p.text p.len a in
-      let two = take-suc-set one (suc p.len) b (omega (arith, long, length-set p.text p.len a)) in
-      record {
-        holds = rw (z, t, add-one p.len, two, take-suc-set p.text p.len a (omega (arith, long)), append_assoc);
+        holds = rw (n, t, sets-eq sign p.text p.len (omega (arith, long)))
+            (take_at (typed_in p ++ sign) behind (p.len + length sign) l);
         short = omega arith;
       }
 

@@ -2,7 +2,7 @@
 // to the text and to a row number.
 #![tactic(auto)]
 
-ghost use Rattle.std.specs.Prelude.{◌≡◌, false, true, [], ◌++◌, ◌∷◌, length, ◌+◌, ◌-◌, ◌<◌, ◌≤◌, min};
+ghost use Rattle.std.specs.Prelude.{◌≡◌, false, true, ◌++◌, length, ◌+◌, ◌-◌, ◌<◌, ◌≤◌, min};
 ghost use Rattle.entries.specs.Names.{longest_name};
 ghost use Rattle.panel.specs.Panel.{appends, is_held, is_listed, is_typed, key_bytes, typed_in, without_last};
 ghost use Rattle.panel_typing.specs.Typing.{Typed, changed_text, changes_text, is_full, moved_row, takes};
@@ -16,117 +16,67 @@ use limits::{
 pub fn is_typed(p: panel::Panel) -> bool
     ensures { result ≡ is_typed p }
 {
-    let len = p.len;
-    if LONGEST_NAME < len {
-        return false;
-    }
-    let text = p.text;
-    entries_check::is_prefix(&text[..len])
+    p.len <= LONGEST_NAME && entries_check::is_prefix(&p.text[..p.len])
 }
 
 // Whether the held name has length 0 or is an allowed one.
 pub fn is_held(p: panel::Panel) -> bool
     ensures { result ≡ is_held p }
 {
-    let len = p.held_len;
-    if len == 0 {
+    if p.held_len == 0 {
         return true;
     }
-    if LONGEST_NAME < len {
-        return false; // longer than any name
-    }
-    let held = p.held;
-    entries_check::is_name(&held[..len])
+    p.held_len <= LONGEST_NAME && entries_check::is_name(&p.held[..p.held_len])
 }
 
 // Whether a key appends: 20 to 7E, 80, 81.
 fn appends(key: u8) -> bool
     ensures { result ≡ appends key }
 {
-    if entries_check::is_plain(key) {
-        return true;
-    }
-    if key == KEY_MICRO {
-        return true;
-    }
-    key == KEY_OHM
+    entries_check::is_plain(key) || key == KEY_MICRO || key == KEY_OHM
 }
 
 // The bytes of the sign that a key appends.
 fn sign_length(key: u8) -> usize
     ensures { result ≡ length (key_bytes key) }
 {
-    if key == KEY_MICRO {
-        return 2; // µ
+    match key {
+        KEY_MICRO => 2,
+        KEY_OHM => 2,
+        _ => 1,
     }
-    if key == KEY_OHM {
-        return 2; // Ω
-    }
-    1
 }
 
 // Whether a key is listed.
 pub fn is_listed(key: u8) -> bool
     ensures { result ≡ is_listed key }
 {
-    if appends(key) {
-        return true;
-    }
-    if key == KEY_ERASE {
-        return true;
-    }
-    if key == KEY_TAKE {
-        return true;
-    }
-    // counted again, up, down
-    key <= KEY_DOWN
+    // counted again, up and down are the keys up to `KEY_DOWN`
+    appends(key) || key == KEY_ERASE || key == KEY_TAKE || key <= KEY_DOWN
 }
 
 // Whether a key appends more bytes than are left of 48.
 pub fn is_full(len: usize, key: u8) -> bool
     ensures { result ≡ is_full len key }
 {
-    if !appends(key) {
-        return false;
-    }
-    LONGEST_NAME - sign_length(key) < len
+    appends(key) && LONGEST_NAME - sign_length(key) < len
 }
 
 // Whether a key appends a sign, or erases one that is there: whatever the rows, the first is highlighted then.
 pub fn changes_text(len: usize, key: u8) -> bool
     ensures { result ≡ changes_text len key }
 {
-    if appends(key) {
-        return true;
-    }
-    if key != KEY_ERASE {
-        return false;
-    }
-    len != 0
+    appends(key) || (key == KEY_ERASE && len != 0)
 }
 
-// Appends a sign of one byte to the text.
-fn append_byte(p: panel::Panel, byte: u8) -> panel::Panel
-    requires { p.len < longest_name }
-    ensures { Typed (typed_in p ++ (byte ∷ [])) result }
+// Appends a sign to the text.
+fn append_sign(p: panel::Panel, sign: &[u8]) -> panel::Panel
+    requires { p.len + length sign.now ≤ longest_name }
+    ensures { Typed (typed_in p ++ sign.now) result }
 {
-    let len = p.len;
     let mut q = p;
-    q.text[len] = byte;
-    q.len = len + 1;
-    q
-}
-
-// Appends a sign of two bytes to the text.
-fn append_pair(p: panel::Panel, lead: u8, tail: u8) -> panel::Panel
-    requires { p.len + 1 < longest_name }
-    ensures { Typed (typed_in p ++ (lead ∷ tail ∷ [])) result }
-{
-    let len = p.len;
-    let mut q = p;
-    q.text[len] = lead;
-    q.text[len + 1] = tail;
-    q.len = len + 2;
+    octets_code::copy(&mut q.text, p.len, sign);
+    q.len = p.len + sign.len();
     q
 }
 
@@ -135,13 +85,11 @@ fn append(p: panel::Panel, key: u8) -> panel::Panel
     requires { p.len + length (key_bytes key) ≤ longest_name }
     ensures { Typed (typed_in p ++ key_bytes key) result }
 {
-    if key == KEY_MICRO {
-        return append_pair(p, MICRO_LEAD, MICRO_TAIL);
+    match key {
+        KEY_MICRO => append_sign(p, &[MICRO_LEAD, MICRO_TAIL]),
+        KEY_OHM => append_sign(p, &[OHM_LEAD, OHM_TAIL]),
+        _ => append_sign(p, &[key]),
     }
-    if key == KEY_OHM {
-        return append_pair(p, OHM_LEAD, OHM_TAIL);
-    }
-    append_byte(p, key)
 }
 
 // Erases the last sign of the text.
@@ -149,11 +97,9 @@ fn erase(p: panel::Panel) -> panel::Panel
     requires { (0 < p.len) × (p.len ≤ longest_name) }
     ensures { Typed (without_last (typed_in p)) result }
 {
-    let len = p.len;
-    let text = p.text;
-    let last = entries_check::last_sign(&text[..len]);
+    let last = entries_check::last_sign(&p.text[..p.len]);
     let mut q = p;
-    q.len = len - last;
+    q.len = p.len - last;
     q
 }
 
@@ -172,33 +118,14 @@ pub fn change_text(p: panel::Panel, key: u8) -> panel::Panel
 pub fn takes(key: u8, rows: usize) -> bool
     ensures { result ≡ takes key rows }
 {
-    if key != KEY_TAKE {
-        return false;
-    }
-    rows != 0
+    key == KEY_TAKE && rows != 0
 }
 
 // A row number past the last, lowered to it.
 pub fn lower(row: usize, rows: usize) -> usize
     ensures { result ≡ min row (rows - 1) }
 {
-    if row < rows {
-        return row;
-    }
-    if rows == 0 {
-        return 0;
-    }
-    rows - 1
-}
-
-// The row above, stopping at the first.
-fn up(row: usize) -> usize
-    ensures { result ≡ row - 1 }
-{
-    if row == 0 {
-        return 0;
-    }
-    row - 1
+    row.min(rows.saturating_sub(1))
 }
 
 // The row that a key moves to from one of the rows: 01 up, 02 down, stopping at the ends; the others stay.
@@ -206,11 +133,9 @@ pub fn moved(key: u8, row: usize, rows: usize) -> usize
     requires { row ≤ rows - 1 }
     ensures { (result ≡ moved_row key row rows) × (result ≤ rows - 1) }
 {
-    if key == KEY_UP {
-        return up(row);
+    match key {
+        KEY_UP => row.saturating_sub(1),
+        KEY_DOWN => lower(row + 1, rows),
+        _ => row,
     }
-    if key == KEY_DOWN {
-        return lower(row + 1, rows);
-    }
-    row
 }

@@ -12,7 +12,6 @@ use Rattle.book.specs.Book.{in_book}
 use Rattle.book.specs.Checks.{book_checks}
 use Rattle.completion.specs.Complete.{bad_count}
 use Rattle.completion.specs.Machine.{machine}
-use Rattle.answer.specs.declared.Completion.TheVariants as answer
 
 -- `top` on the book in a buffer
 unfoldable pub top_of : List ℕ → ℕ → List ℕ → List ℕ

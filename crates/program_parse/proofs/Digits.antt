@@ -8,17 +8,11 @@ use lib.ListN.{drop, drop_of_length-le, get_or, length}
 use native.Mathlib.Nat.{pow-le-pow_right}
 use native.Mathlib.Numerals.{add-one}
 use native.Mathlib.Omega.{arith}
-use borrow.Author.Tests.{le-leb, leb-false, leb-true, lt-leb}
+use borrow.Author.Tests.{leb-false, leb-true}
 use Rattle.octets.specs.Decimal.{value_on}
 use Rattle.octets_code.proofs.Loops.{drop_next}
 use Rattle.octets.proofs.Tests.{and_true_both, by_test}
 use Rattle.program.specs.Program.{digits, front, is_digit}
-
-pub digit_low : (b : ℕ) → b < 48 → is_digit b ≡ false
-digit_low b h = rw (lt-leb 48 b h)
-
-pub digit_rest : (b : ℕ) → 48 ≤ b → is_digit b ≡ leb b 57
-digit_rest b h = rw (le-leb 48 b h)
 
 digit_range : (b : ℕ) → is_digit b ≡ true → (48 ≤ b) × (b ≤ 57)
 digit_range b h =

@@ -1,56 +1,41 @@
 // The program's command lines: what a line asks for.
 #![tactic(auto)]
 
-ghost use Rattle.std.specs.Prelude.{◌≡◌, ◌≤◌, drop, length};
+ghost use Rattle.std.specs.Prelude.{◌≡◌, ◌≤◌, length};
 ghost use Rattle.octets.specs.Decimal.{value_on};
-ghost use Rattle.program.specs.Program.{command_of, digits, is_digit, numbered};
-ghost use Rattle.program_parse.specs.Parsing.{Asks, make_of, number_as};
+ghost use Rattle.program.specs.Program.{command_of, digits};
+ghost use Rattle.program_parse.specs.Parsing.{Asks, number_as};
 
-use limits::{MOST_DIGITS, NUMBERS_END};
+use limits::MOST_DIGITS;
 
 // The bytes of a command's word and the space behind it.
 const WORD_LENGTH: usize = 4;
-// The same with the space behind a number.
-const NUMBER_OVERHEAD: usize = WORD_LENGTH + 1;
 
-// A number at the front of bytes and how many digits it has, or that there is none of the form.
+// A number at the front of bytes, and how many bytes it takes with the space behind it.
 #[derive(Clone, Copy)]
-enum Number {
-    Value { value: u32, digits: usize },
-    Missing,
+struct Number {
+    value: u32,
+    length: usize,
 }
 
 // What a line asks for; `rest` is where the name or prefix begins.
 #[derive(Clone, Copy)]
-pub enum ParsedLine {
+pub enum Command {
     Set { score: u32, rest: usize },
     Top { k: u32, rest: usize },
     Withdraw { rest: usize },
-    Bad,
-}
-
-// Whether a byte is a decimal digit.
-fn is_digit(b: u8) -> bool
-    ensures { result ≡ is_digit b }
-{
-    if b < b'0' {
-        return false;
-    }
-    b <= b'9'
 }
 
 // How many digits s begins with.
 fn count_digits(s: &[u8]) -> usize
     ensures { result ≡ length (digits s.now) }
 {
-    let mut i = 0;
-    while i < s.len() {
-        if !is_digit(s[i]) {
+    for (i, b) in s.iter().enumerate() {
+        if !b.is_ascii_digit() {
             return i;
         }
-        i += 1;
     }
-    i
+    s.len()
 }
 
 // The value of the n digits that s begins with, at most 10.
@@ -59,71 +44,53 @@ fn value_of(s: &[u8], n: usize) -> u64
     ensures { result ≡ value_on 0 (digits s.now) }
 {
     let mut v: u64 = 0;
-    let mut i = 0;
-    while i < n {
-        v = v * 10 + (s[i] - b'0') as u64;
-        i += 1;
+    for b in &s[..n] {
+        v = v * 10 + u64::from(*b - b'0');
     }
     v
 }
 
 // The number at the front of s: 1 to 10 digits, below 4,294,967,296, and a space behind them.
-fn number_at_front(s: &[u8]) -> Number
+fn number_at_front(s: &[u8]) -> Option<Number>
     ensures { result ≡ number_as s.now }
 {
     let n = count_digits(s);
     if n < 1 {
-        return Number::Missing;
+        return None;
     }
     if MOST_DIGITS < n {
-        return Number::Missing;
+        return None;
     }
-    let v = value_of(s, n);
-    if NUMBERS_END <= v {
-        return Number::Missing;
-    }
+    let value = u32::try_from(value_of(s, n)).ok()?;
     if !octets_code::starts_with(&s[n..], b" ") {
-        return Number::Missing;
+        return None;
     }
-    Number::Value {
-        value: v as u32,
-        digits: n,
-    }
+    Some(Number {
+        value: value,
+        length: n + 1,
+    })
 }
 
-// A line that begins with `set ` or `top `: a number and a space, then the rest of it.
-fn numbered(line: &[u8], top: bool) -> ParsedLine
-    requires { 4 ≤ length line.now }
-    ensures { Asks line.now (numbered (make_of top) (drop 4 line.now)) result }
-{
-    let Number::Value { value, digits } = number_at_front(&line[WORD_LENGTH..]) else {
-        return ParsedLine::Bad;
-    };
-    let rest = digits + NUMBER_OVERHEAD;
-    if top {
-        return ParsedLine::Top {
-            k: value,
-            rest: rest,
-        };
-    }
-    ParsedLine::Set {
-        score: value,
-        rest: rest,
-    }
-}
-
-// What a line asks for.
-pub fn parse(line: &[u8]) -> ParsedLine
+// What a line asks for, if for anything.
+pub fn parse(line: &[u8]) -> Option<Command>
     ensures { Asks line.now (command_of line.now) result }
 {
     if octets_code::starts_with(line, b"set ") {
-        return numbered(line, false);
+        let n = number_at_front(&line[WORD_LENGTH..])?;
+        return Some(Command::Set {
+            score: n.value,
+            rest: WORD_LENGTH + n.length,
+        });
     }
     if octets_code::starts_with(line, b"top ") {
-        return numbered(line, true);
+        let n = number_at_front(&line[WORD_LENGTH..])?;
+        return Some(Command::Top {
+            k: n.value,
+            rest: WORD_LENGTH + n.length,
+        });
     }
     if octets_code::starts_with(line, b"del ") {
-        return ParsedLine::Withdraw { rest: WORD_LENGTH };
+        return Some(Command::Withdraw { rest: WORD_LENGTH });
     }
-    ParsedLine::Bad
+    None
 }

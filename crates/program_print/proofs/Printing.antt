@@ -3,7 +3,7 @@ use Prim.Native.Nat.{◌*◌, ◌+◌, ◌-◌, ◌<◌, ◌≤◌, suc, ℕ}
 use mathlib.Core.Path.{◌∙◌, ◌≡◌, ap, refl, sym}
 use mathlib.Core.Bool.{true}
 use mathlib.Core.List.{List, [], ◌++◌, ◌∷◌, append_assoc, append-nil}
-use lib.ListN.{drop, drop_of_length-le, get_or, length, length-append, set, take}
+use lib.ListN.{drop, drop_of_length-le, get_or, length, length-append, take}
 use lib.Seq.{drop_at, drop-cons, length-take-le, sets, sets-eq, take_all}
 use native.Mathlib.Numerals.{add-one}
 use native.Mathlib.Omega.{arith}

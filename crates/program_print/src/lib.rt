@@ -55,14 +55,12 @@ pub fn put_entry_lines(answer: &[u8], n: usize, out: &mut [u8]) -> usize
 {
     let mut at = 0;
     let mut end = 0;
-    let mut i = 0;
-    while i < n {
+    for _ in 0..n {
         let start = at + 1;
         let stop = start + answer[at] as usize;
         let score = octets_code::read_u32(answer, stop);
         end = put_entry_line(out, end, &answer[start..stop], score);
         at = stop + SCORE_BYTES;
-        i += 1;
     }
     end
 }

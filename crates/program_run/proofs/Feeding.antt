@@ -7,6 +7,10 @@ use lib.Dec.{eqb, leb}
 use lib.ListN.{get_or, length, length-append, length-take, take}
 use lib.Seq.{length-take-le, sets, take_all, take-append-add, take-suc}
 use native.Mathlib.Numerals.{add-one}
+use Rattle.std.proofs.Common.{Option, ◌≢◌}
+use Rattle.std.specs.List.{AllWithin, HoldsAt}
+use Rattle.std.specs.Option.{MatchOption, unwrap_or}
+use Rattle.std.proofs.lemmas.Iterator.{index_from_first}
 use native.Mathlib.Omega.{arith}
 use borrow.Author.Tests.{eq-eqb, eqb-true, leb-false, leb-true, ne_eqb, not-false, not-true}
 use Rattle.octets.specs.Lists.{all}
@@ -21,11 +25,17 @@ use Rattle.program_step.specs.Step.{StepDone}
 use Rattle.program_step.specs.declared.LineReport.{LineReport}
 use Rattle.program.proofs.Cutting.{after-append, said_append, take_twice}
 
-pub feed_byte : (x : ℕ) → x ≡ 10 → in_line x ≡ false
-feed_byte x e = rw (eq-eqb x 10 e)
-
-pub line_byte : (x : ℕ) → (x ≡ 10 → ⊥) → in_line x ≡ true
-line_byte x h = rw (ne_eqb x 10 h)
+-- the first line feed, or the end, ends the line
+pub line_first :
+    (s : List ℕ) (r : Option ℕ)
+    → MatchOption r (AllWithin (λ x. x ≢ 10) s 0 (length s))
+    (λ i. (i < length s) × HoldsAt (λ x. x ≡ 10) s i × AllWithin (λ x. x ≢ 10) s 0 i)
+    → unwrap_or r (length s) ≡ length (line_of s)
+line_first s r h =
+    sym (index_from_first (λ l. length (line_of l)) (λ x. x ≡ 10) (λ x. x ≢ 10) refl
+    (λ x xs e. rw (eq-eqb x 10 e))
+    (λ x xs n. rw (ne_eqb x 10 n, add-one (length (line_of xs))))
+    s r h)
 
 -- at most m of a list: as many as there are, or m
 take_least : (m : ℕ) (xs : List ℕ) → take (min (length xs) m) xs ≡ take m xs

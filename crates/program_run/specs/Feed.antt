@@ -1,5 +1,5 @@
 -- Input fed in parts, at any places: the line begun, of which 64 bytes are kept, and the two buffers.
-use Rattle.std.specs.Prelude.{◌+◌, ◌<◌, ◌≤◌, ℕ, ◌≡◌, List, ◌++◌, length, take}
+use Rattle.std.specs.Prelude.{◌<◌, ◌≤◌, ℕ, ◌≡◌, List, ◌++◌, length, take}
 use Rattle.octets_laws.specs.Printed.{Printed}
 use Rattle.script.specs.Run.{bench}
 use Rattle.program.specs.Program.{front}

@@ -22,14 +22,7 @@ pub struct Fed {
 fn line_length(s: &[u8]) -> usize
     ensures { result ≡ length (line_of s.now) }
 {
-    let mut i = 0;
-    while i < s.len() {
-        if s[i] == b'\n' {
-            return i;
-        }
-        i += 1;
-    }
-    i
+    s.iter().position(|b| *b == b'\n').unwrap_or(s.len())
 }
 
 // Adds a part to the line begun, of which the first 64 bytes are kept: how many are kept now.
@@ -37,7 +30,7 @@ fn keep(line: &mut [u8], kept: usize, part: &[u8]) -> usize
     requires { (kept ≤ kept_bytes) × (kept_bytes ≤ length line.old) }
     ensures { LineKept line.old kept part.now result line.new }
 {
-    let n = octets_code::least(part.len(), KEPT_BYTES - kept);
+    let n = part.len().min(KEPT_BYTES - kept);
     octets_code::copy(line, kept, &part[..n]);
     kept + n
 }
@@ -64,7 +57,7 @@ pub fn feed(
             used: end,
             bytes: 0,
             kept: n,
-            turned: turned,
+            turned,
         };
     }
     let s = program_step::step(&line[..n], turned, first, second, out);
@@ -91,10 +84,7 @@ pub fn finish(
         result first.new second.new out.new }
 {
     if kept == 0 {
-        return program_step::LineReport {
-            bytes: 0,
-            turned: turned,
-        };
+        return program_step::LineReport { bytes: 0, turned };
     }
     program_step::step(&line[..kept], turned, first, second, out)
 }

@@ -36,27 +36,23 @@ use Rattle.program.specs.Program.{refused_line, top_lines}
 use Rattle.program_print.specs.Printing.{Laid, offered_lines}
 use Rattle.program_step.specs.Step.{Printable, answer_lines, answer_room}
 use Rattle.program.specs.Console.{top_of}
-use Rattle.answer.specs.declared.Completion.{Completion}
-use Rattle.answer.specs.declared.Completion.TheVariants as answer
+use Rattle.std.proofs.Common.{Err, Ok, Result}
+use Rattle.answer.specs.Reports.{number_of}
+use Rattle.answer.specs.declared.Offered.{Offered}
+use Rattle.answer.specs.declared.Refusal.{Refusal}
 
--- the lines by the answer's kind
-module _ (bytes : List ℕ) {c : Completion} {out : List ℕ} {m : ℕ} {left : List ℕ} where
-  pub refused-line :
-      {n : ℕ} → c ≡ answer.Refused n → Printed out 0 (text "no " ++ decimal n ++ line_feed) m left
-      → Printed out 0 (answer_lines c bytes) m left
-  unfolding refused_line
-  refused-line e p = rw e p
+-- the lines of what was offered
+pub offered_lines_lem :
+    (bytes : List ℕ) (c : Offered) {out : List ℕ} {m : ℕ} {left : List ℕ} {e : ℕ} {mid : List ℕ}
+    → Printed out 0 (offered_lines (sheet_from c.offered bytes)) e mid
+    → Printed mid e (text "looks " ++ decimal c.looks ++ line_feed) m left → Printed out 0 (answer_lines (Ok c) bytes) m left
+unfolding top_lines
+offered_lines_lem bytes c p q = put_append p q
 
-  pub offered_lines_lem :
-      {n size looks e : ℕ} {mid : List ℕ} → c ≡ answer.Offered n size looks
-      → Printed out 0 (offered_lines (sheet_from n bytes)) e mid
-      → Printed mid e (text "looks " ++ decimal looks ++ line_feed) m left → Printed out 0 (answer_lines c bytes) m left
-  unfolding top_lines
-  offered_lines_lem e p q = rw e (put_append p q)
-
+-- what was offered can be printed
 pub offered_printable :
-    {c : Completion} {n size looks : ℕ} (bytes : List ℕ) → c ≡ answer.Offered n size looks → Printable c bytes
-    → Laid n bytes × (looks ≤ most_looks max_count)
+    {r : Result Offered Refusal} {c : Offered} (bytes : List ℕ) → r ≡ Ok c → Printable r bytes
+    → Laid c.offered bytes × (c.looks ≤ most_looks max_count)
 offered_printable bytes e p = rw e at p
 
 -- the entries of a completion are allowed, and at most k
@@ -69,21 +65,22 @@ completion_sound es p k v =
 
 -- a refused completion
 refused-lines :
-    (c : Completion) (bytes : List ℕ) (n : ℕ) → offered_of c ≡ refused n → Printable c bytes
+    (c : Result Offered Refusal) (bytes : List ℕ) (n : ℕ) → offered_of c ≡ refused n → Printable c bytes
     × (answer_lines c bytes ≡ refused_line n)
-refused-lines (answer.Refused m) bytes n e = let z : m ≡ n = cc in (tt, ap refused_line z)
-refused-lines (answer.Offered m size looks) bytes n e = let z : ◌≡◌ {A = ℕ} 0 1 = cc in absurd (omega arith)
+refused-lines (Err r) bytes n e = let z : number_of r ≡ n = cc in (tt, ap refused_line z)
+refused-lines (Ok c) bytes n e = cc
 
 -- an answered one: its bytes are read back as the entries offered
 given_lines :
-    (c : Completion) (l : List Entry) (looks : ℕ) (rest : List ℕ) → offered_of c ≡ given (offered_as l looks)
-    → all is_entry l ≡ true
+    (c : Result Offered Refusal) (l : List Entry) (looks : ℕ) (rest : List ℕ)
+    → offered_of c ≡ given (offered_as l looks) → all is_entry l ≡ true
     → length l ≤ max_count → looks ≤ most_looks max_count → Printable c (entries_bytes l ++ rest)
     × (answer_lines c (entries_bytes l ++ rest) ≡ top_lines l looks)
-given_lines (answer.Refused m) l looks rest e s f g = let z : ◌≡◌ {A = ℕ} 0 1 = cc in absurd (omega arith)
-given_lines (answer.Offered m size seen) l looks rest e s f g =
+given_lines (Err r) l looks rest e s f g = cc
+given_lines (Ok c) l looks rest e s f g =
+    let m = c.offered in
     let x : m ≡ length l = ap (λ o. (counts none_offered o).offered) e in
-    let y : seen ≡ looks = ap (λ o. (counts none_offered o).looks) e in
+    let y : c.looks ≡ looks = ap (λ o. (counts none_offered o).looks) e in
     let q : sheet_from (length l) (entries_bytes l
     ++ rest) ≡ l = sheet_from_of l rest (all_imp is_entry (λ f. is_score f.score) score_of_lem l s) in
     let r : sheet_from m (entries_bytes l ++ rest) ≡ l = rw x q in (
@@ -95,7 +92,7 @@ given_lines (answer.Offered m size seen) l looks rest e s f g =
     score_of_lem e h = (and_true_both (is_name e.name) (is_score e.score) h).1
 
 -- whole: with room for every answer, 7 does not apply
-module _ (book p dst : List ℕ) (k : ℕ) (room : length dst ≡ answer_room) {c : Completion} {left : List ℕ}
+module _ (book p dst : List ℕ) (k : ℕ) (room : length dst ≡ answer_room) {c : Result Offered Refusal} {left : List ℕ}
     (done : Completed (complete_book book p k dst k) c left)
   where
     abbrev l : List Entry

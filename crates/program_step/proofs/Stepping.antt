@@ -10,7 +10,8 @@ use Rattle.program.specs.Program.{bad, bad_line, command_of, top}
 use Rattle.program_parse.specs.Parsing.{Asks, command_as, rest_of}
 use Rattle.program_step.specs.Step.{StepDone}
 use Rattle.program.specs.Console.{top_of}
-use Rattle.program_parse.specs.declared.ParsedLine.{ParsedLine}
+use Rattle.std.proofs.Common.{Option}
+use Rattle.program_parse.specs.declared.Command.{Command}
 use Rattle.program_step.specs.declared.LineReport.{LineReport}
 
 -- the book that `top` reads
@@ -26,12 +27,12 @@ module _ {one two out : List ℕ} {k : ℕ} (p : List ℕ) {m : ℕ} {left : Lis
   top_first e q = rw e (record { bench = refl; printed = q })
 
 -- the step of what was parsed is the line's
-module _ {line : List ℕ} {c : ParsedLine} (a : Asks line (command_of line) c) where
-  pub rest_inside : {d : ParsedLine} → c ≡ d → rest_of d ≤ length line
+module _ {line : List ℕ} {c : Option Command} (a : Asks line (command_of line) c) where
+  pub rest_inside : {d : Option Command} → c ≡ d → rest_of d ≤ length line
   rest_inside e = rw e at a.within
 
   pub step_as :
-      {d : ParsedLine} {b : Bench} {out : List ℕ} {r : LineReport} {one two left : List ℕ} → c ≡ d
+      {d : Option Command} {b : Bench} {out : List ℕ} {r : LineReport} {one two left : List ℕ} → c ≡ d
       → StepDone (command_as line d) b out r one two left → StepDone (command_of line) b out r one two left
   step_as e q = rw (← a.means, e) q
 

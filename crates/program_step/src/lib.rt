@@ -3,15 +3,18 @@
 
 ghost use Rattle.std.specs.Prelude.{◌≤◌, length};
 ghost use Rattle.octets_laws.specs.Printed.{Printed};
-ghost use Rattle.answer.specs.Reports.{written_of};
+ghost use Rattle.answer.specs.Reports.{number_of, written_of};
 ghost use Rattle.script_step.specs.Calls.{Small, edit_of};
 ghost use Rattle.script.specs.Run.{bench};
-ghost use Rattle.program.specs.Program.{command_of, edit, edit_line, top};
+ghost use Rattle.program.specs.Program as program;
+ghost use Rattle.program.specs.Program.{command_of, edit_line, refused_line, top};
 ghost use Rattle.program_step.specs.Step.{Printable, StepDone, answer_lines, line_room};
 ghost use Rattle.program.specs.Console.{top_of};
 
-use answer::{Completion, Written};
+use answer::{Offered, Refusal, Size};
 use limits::{ENTRY_ROOM, MAX_COUNT};
+use program_parse::Command;
+use script_step::Edit;
 
 // What a line printed: how many bytes, and whether the second buffer holds the book afterwards.
 #[derive(Clone, Copy)]
@@ -21,55 +24,58 @@ pub struct LineReport {
 }
 
 // Prints an edit's answer.
-fn print_edit(w: Written, out: &mut [u8]) -> usize
-    requires { Small (written_of w) × (line_room ≤ length out.old) }
-    ensures { Printed out.old 0 (edit_line (written_of w)) result out.new }
+fn print_edit(answer: Result<Size, Refusal>, out: &mut [u8]) -> usize
+    requires { Small (written_of answer) × (line_room ≤ length out.old) }
+    ensures { Printed out.old 0 (edit_line (written_of answer)) result
+        out.new }
 {
-    match w {
-        Written::Refused(n) => program_print::put_counted(out, 0, b"no ", n as u32),
-        Written::Wrote { entries, bytes: _ } => {
-            program_print::put_counted(out, 0, b"ok ", entries as u32)
-        }
+    match answer {
+        Ok(size) => program_print::put_counted(out, 0, b"ok ", size.entries as u32),
+        Err(refusal) => put_refusal(out, refusal),
     }
+}
+
+// Prints the number of a refusal.
+fn put_refusal(out: &mut [u8], refusal: Refusal) -> usize
+    requires { line_room ≤ length out.old }
+    ensures { Printed out.old 0 (refused_line (number_of refusal)) result
+        out.new }
+{
+    program_print::put_counted(out, 0, b"no ", u32::from(u8::from(refusal)))
 }
 
 // An edit made and its answer printed.
 fn step_edit(
-    set: bool,
+    edit: Edit,
     name: &[u8],
-    score: u32,
     turned: bool,
     first: &mut [u8],
     second: &mut [u8],
     out: &mut [u8],
 ) -> LineReport
     requires { line_room ≤ length out.old }
-    ensures { StepDone (edit (edit_of set name.now score))
+    ensures { StepDone (program.edit (edit_of edit name.now))
         (bench first.old second.old turned) out.old
         result first.new second.new out.new }
 {
-    let w = script_step::perform(set, name, score, turned, first, second);
+    let answer = script_step::perform(edit, name, turned, first, second);
     LineReport {
-        bytes: print_edit(w, out),
-        turned: script_step::turned_after(turned, w),
+        bytes: print_edit(answer, out),
+        turned: script_step::turned_after(turned, answer),
     }
 }
 
 // Prints the answer of a completion: the entries offered, which lie at the front of `answer`, and the looks.
-fn print_top(c: Completion, answer: &[u8], out: &mut [u8]) -> usize
+fn print_top(c: Result<Offered, Refusal>, answer: &[u8], out: &mut [u8]) -> usize
     requires { Printable c answer.now × (line_room ≤ length out.old) }
     ensures { Printed out.old 0 (answer_lines c answer.now) result out.new }
 {
     match c {
-        Completion::Refused(n) => program_print::put_counted(out, 0, b"no ", n as u32),
-        Completion::Offered {
-            offered,
-            bytes: _,
-            looks,
-        } => {
-            let end = program_print::put_entry_lines(answer, offered, out);
-            program_print::put_counted(out, end, b"looks ", looks as u32)
+        Ok(counts) => {
+            let end = program_print::put_entry_lines(answer, counts.offered, out);
+            program_print::put_counted(out, end, b"looks ", counts.looks as u32)
         }
+        Err(refusal) => put_refusal(out, refusal),
     }
 }
 
@@ -101,12 +107,12 @@ fn step_top(
     if turned {
         return LineReport {
             bytes: top_from(second, prefix, k, out),
-            turned: turned,
+            turned,
         };
     }
     LineReport {
         bytes: top_from(first, prefix, k, out),
-        turned: turned,
+        turned,
     }
 }
 
@@ -123,20 +129,18 @@ pub fn step(
         out.old
         result first.new second.new out.new }
 {
-    let c = program_parse::parse(line);
-    match c {
-        program_parse::ParsedLine::Set { score, rest } => {
-            step_edit(true, &line[rest..], score, turned, first, second, out)
+    match program_parse::parse(line) {
+        Some(Command::Set { score, rest }) => {
+            let edit = Edit::Set { score };
+            step_edit(edit, &line[rest..], turned, first, second, out)
         }
-        program_parse::ParsedLine::Withdraw { rest } => {
-            step_edit(false, &line[rest..], 0, turned, first, second, out)
+        Some(Command::Withdraw { rest }) => {
+            step_edit(Edit::Withdraw, &line[rest..], turned, first, second, out)
         }
-        program_parse::ParsedLine::Top { k, rest } => {
-            step_top(&line[rest..], k, turned, first, second, out)
-        }
-        program_parse::ParsedLine::Bad => LineReport {
+        Some(Command::Top { k, rest }) => step_top(&line[rest..], k, turned, first, second, out),
+        None => LineReport {
             bytes: program_print::put_bad(out),
-            turned: turned,
+            turned,
         },
     }
 }

@@ -1,11 +1,12 @@
 -- A history run on two lent buffers (document 01, "The ledger"): "empty" into the first, then every call of a script,
 -- its answers kept.
-use Rattle.std.specs.Prelude.{◌*◌, ℕ, Bool, ◌||◌, false, not, List, [], ◌∷◌, eqb, ltb, length}
+use Rattle.std.specs.Prelude.{◌*◌, ℕ, Bool, ◌||◌, false, not, Result, List, [], ◌∷◌, eqb, ltb, length}
 use Rattle.octets.specs.Lists.{concat_map, if◌then◌otherwise◌}
 use Rattle.octets.specs.Octets.{overwrite}
 use Rattle.answer.specs.Answers.{Answer, Check, Outcome, PlayedCounts, WrittenCounts, ◌when◌, on_answer, unless}
 use Rattle.answer.specs.Reports.{played_of}
 use Rattle.answer.specs.declared.Played.{Played}
+use Rattle.answer.specs.declared.Refusal.{Refusal}
 use Rattle.edit.specs.Edits.{empty_book}
 use Rattle.ledger.specs.History.{Buffers, call}
 use Rattle.ledger.specs.Ledger.{Edit}
@@ -89,5 +90,5 @@ run_of script a b out =
     }
 
 -- the call that runs it returned r and left these bytes
-abbrev pub finish_of : Played → List ℕ → List ℕ → List ℕ → Finish
+abbrev pub finish_of : Result Played Refusal → List ℕ → List ℕ → List ℕ → Finish
 finish_of r a b out = record { answer = played_of r; first = a; second = b; out = out }

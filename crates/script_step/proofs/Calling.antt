@@ -10,7 +10,7 @@ use lib.ListN.{drop, get_or, length, length-append, set, take}
 use lib.Seq.{sets}
 use native.Mathlib.Numerals.{add-one}
 use native.Mathlib.Omega.{arith}
-use borrow.Author.Tests.{not-false}
+use borrow.Author.Tests.{ne_eqb, not-false}
 use Rattle.octets.specs.Lists.{if◌then◌otherwise◌}
 use Rattle.octets.specs.Octets.{be, number_at}
 use Rattle.octets.proofs.Coding.{length-be}
@@ -33,8 +33,10 @@ use Rattle.answer.specs.Reports.{Answered, written_of}
 use Rattle.script_step.specs.Calls.{Called, Performed, Small, Tells, edit_of}
 use Rattle.script.specs.Run.{Bench, bench, bench_step, buffers}
 use Rattle.script.specs.Script.{answer_bytes, call_at, call_name}
-use Rattle.answer.specs.declared.Written.{Written}
-use Rattle.answer.specs.declared.Written.TheVariants as written
+use Rattle.std.proofs.Common.{Err, Ok, Result}
+use Rattle.answer.specs.declared.Refusal.{Refusal}
+use Rattle.answer.specs.declared.Size.{Size}
+use Rattle.script_step.specs.declared.Edit.TheVariants as edit
 use Rattle.script_step.specs.declared.AnswerNumbers.{AnswerNumbers}
 
 -- a book that is written has few entries and bytes
@@ -81,37 +83,33 @@ withdraw_small book w dst (given x) h =
     small_of after x (valid-without w es v) (given_is cs (reported after) x h)
 
 -- a call by its kind
-module _ (w book dst : List ℕ) (s : ℕ) {t : Bool} {r : Written} {left : List ℕ} where
-  pub set_called : t ≡ true → s < 4294967296 → Answered (set_entry book w s dst) r left
-      → Called (edit_of t w s) (buffers book dst) r left
-  set_called e l a =
-      rw e (record { answered = a; small = set_small book w dst s (score_fits_lem s l) (written_of r) (sym a.answer) })
+module _ (w book dst : List ℕ) {r : Result Size Refusal} {left : List ℕ} where
+  pub set_called :
+      (s : ℕ) → s < 4294967296 → Answered (set_entry book w s dst) r left
+      → Called (edit_of (edit.Set s) w) (buffers book dst) r left
+  set_called s l a =
+      record { answered = a; small = set_small book w dst s (score_fits_lem s l) (written_of r) (sym a.answer) }
 
-  pub withdraw_called : t ≡ false → Answered (withdraw_entry book w dst) r left
-      → Called (edit_of t w s) (buffers book dst) r left
-  withdraw_called e a = rw e (record {
-    answered = a;
-    small = withdraw_small book w dst (written_of r) (sym a.answer);
-  })
+  pub withdraw_called : Answered (withdraw_entry book w dst) r left
+      → Called (edit_of edit.Withdraw w) (buffers book dst) r left
+  withdraw_called a = record { answered = a; small = withdraw_small book w dst (written_of r) (sym a.answer) }
 
--- the call at the front of bytes, taken apart
-pub call-parts :
-    (bs : List ℕ) {w : List ℕ} {s : ℕ} {t : Bool} → t ≡ eqb (get_or bs 0 0) 0 → w ≡ call_name bs → s ≡ number_at 4 bs 1
-    → edit_of t w s ≡ call_at bs
-unfolding call_at
-call-parts bs e n q = rw (e, n, q) (by_kind (eqb (get_or bs 0 0) 0))
-  where
-    by_kind : (b : Bool) → edit_of b (call_name bs) (number_at 4 bs 1) ≡
-        (if b then set_name (call_name bs) (number_at 4 bs 1) otherwise withdraw_name (call_name bs))
-    by_kind true = refl
-    by_kind false = refl
+-- the call at the front of bytes, by its kind
+module _ (bs : List ℕ) {w : List ℕ} (n : w ≡ call_name bs) where
+  pub set_part : {s : ℕ} → get_or bs 0 0 ≡ 0 → s ≡ number_at 4 bs 1 → set_name w s ≡ call_at bs
+  unfolding call_at
+  set_part e q = rw (e, n, q)
+
+  pub withdraw_part : (get_or bs 0 0 ≡ 0 → ⊥) → withdraw_name w ≡ call_at bs
+  unfolding call_at
+  withdraw_part e = rw (ne_eqb (get_or bs 0 0) 0 e, n)
 
 -- the part behind the 7 bytes in front is the name
 pub part_name : (bs : List ℕ) {n : ℕ} → n ≡ number_at 2 bs 5 → take (7 + n - 7) (drop 7 bs) ≡ call_name bs
 part_name bs {n} e = let z : 7 + n - 7 ≡ number_at 2 bs 5 = omega arith in rw z
 
 -- from the second buffer into the first, and from the first into the second
-module _ (c : Edit) (one two : List ℕ) {left : List ℕ} {r : Written} where
+module _ (c : Edit) (one two : List ℕ) {left : List ℕ} {r : Result Size Refusal} where
   pub back : {t : Bool} → t ≡ true → Called c (buffers two one) r left → Performed c (bench one two t) r left two
   unfolding bench_step
   back e k = rw e (record { answer = k.answered.answer; first = k.answered.left; second = refl; small = k.small })
@@ -120,25 +118,9 @@ module _ (c : Edit) (one two : List ℕ) {left : List ℕ} {r : Written} where
   unfolding bench_step
   forth e k = rw e (record { answer = k.answered.answer; first = refl; second = k.answered.left; small = k.small })
 
--- the roles afterwards, by the answer's kind
-module _ (t : Bool) {w : Written} where
-  pub roles_stay : {n : ℕ} → w ≡ written.Refused n → t ≡ on_answer (written_of w) t (not t)
-  roles_stay e = rw e
-
-  pub roles_change : {n k : ℕ} → w ≡ written.Wrote n k → not t ≡ on_answer (written_of w) t (not t)
-  roles_change e = rw e
-
--- an answer's numbers, by its kind
-pub tells_refused : {w : Written} {n : ℕ} → w ≡ written.Refused n
-    → Tells (written_of w) (record { number = n; entries = 0; bytes = 0 })
-tells_refused e = rw e (record { code = refl; entries = refl; bytes = refl })
-
-module _ {w : Written} {n k : ℕ} (e : w ≡ written.Wrote n k) where
-  pub tells_wrote : Tells (written_of w) (record { number = 0; entries = n; bytes = k })
-  tells_wrote = rw e (record { code = refl; entries = refl; bytes = refl })
-
-  pub wrote_small : Small (written_of w) → (n ≤ 1024) × (k ≤ 55559)
-  wrote_small s = let z : Small (written_of (written.Wrote n k)) = rw e at s in (z.entries, z.bytes)
+-- a size that an answer gives is small
+pub size_small : {s : Size} → Small (written_of (Ok s)) → (s.entries ≤ 1024) × (s.bytes ≤ 55559)
+size_small h = (h.entries, h.bytes)
 
 -- an answer's bytes stored number by number
 pub length_answer : (a : Answer WrittenCounts) → length (answer_bytes a) ≡ 7
@@ -157,7 +139,7 @@ stored out at a {t} k =
 
 -- what a call leaves is the bench's next step
 pub performed_bench :
-    {c : Edit} {b : Bench} {r : Written} {one two : List ℕ} {t : Bool} → Performed c b r one two
+    {c : Edit} {b : Bench} {r : Result Size Refusal} {one two : List ℕ} {t : Bool} → Performed c b r one two
     → t ≡ on_answer (written_of r) b.turned (not b.turned) → bench one two t ≡ bench_step c b
 unfolding bench_step
 performed_bench p q = rw (p.first, p.second, q, p.answer)

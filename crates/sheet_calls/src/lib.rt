@@ -4,43 +4,37 @@
 ghost use Rattle.sheet.specs.Sheet.{build_book, list_book};
 ghost use Rattle.answer.specs.Reports.{Answered};
 
-use answer::Written;
-use frame_code::Image;
+use answer::{Refusal, Size};
 
 // Builds a book from a sheet.
-pub fn build(sheet: &[u8], dst: &mut [u8]) -> Written
+pub fn build(sheet: &[u8], dst: &mut [u8]) -> Result<Size, Refusal>
     ensures { Answered (build_book sheet.now dst.old) result dst.new }
 {
-    let Image::Entries(n) = sheet_check::check(sheet) else {
-        return Written::Refused(1);
-    };
+    let n = sheet_check::check(sheet).ok_or(Refusal::NotLaidOut)?;
     let total = sheet_write::book_size(sheet, n);
     if dst.len() < total {
-        return Written::Refused(7);
+        return Err(Refusal::TooShort);
     }
     sheet_write::fill_book(sheet, n, total, dst);
-    Written::Wrote {
+    Ok(Size {
         entries: n,
         bytes: total,
-    }
+    })
 }
 
 // Lists a book into a sheet.
-pub fn list(book: &[u8], dst: &mut [u8]) -> Written
+pub fn list(book: &[u8], dst: &mut [u8]) -> Result<Size, Refusal>
     ensures { Answered (list_book book.now dst.old) result dst.new }
 {
-    let c = book_check::check(book, &[]);
-    if c.refusal != 0 {
-        return Written::Refused(c.refusal);
-    }
+    let c = book_check::check(book, &[])?;
     let n = c.n;
     let total = sheet_write::sheet_size(book, n);
     if dst.len() < total {
-        return Written::Refused(7);
+        return Err(Refusal::TooShort);
     }
     sheet_write::fill_sheet(book, n, total, dst);
-    Written::Wrote {
+    Ok(Size {
         entries: n,
         bytes: total,
-    }
+    })
 }

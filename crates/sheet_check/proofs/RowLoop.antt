@@ -28,38 +28,32 @@ module _ (buf : List ℕ) (k : ℕ) where
   row_next : k + row_length (drop k buf) ≡ k + 1 + get_or buf k 0 + 4
   row_next = omega (arith, row_byte)
 
--- the entries before index k are passed, and the name of the last of them stands from a to before b; at first there is
--- none
-pub record RowsPassed (buf : List ℕ) (n k a b i : ℕ) : Type 0 where
-  pub ordered : a ≤ b
-  pub behind : b ≤ k
+-- the entries before index k are passed, and prev is the name of the last of them; at first there is none
+pub record RowsPassed (buf : List ℕ) (n k : ℕ) (prev : List ℕ) (i : ℕ) : Type 0 where
   pub inside : k ≤ length buf
-  pub left : rows_end (n - i) (between a b buf) k buf ≡ rows_end n [] 7 buf
+  pub left : rows_end (n - i) prev k buf ≡ rows_end n [] 7 buf
 
-pub pass_start : (buf : List ℕ) (n : ℕ) → 7 ≤ length buf → RowsPassed buf n 7 7 7 0
-pass_start buf n h =
-    let z : n - 0 ≡ n = omega arith in
-    record { ordered = omega arith; behind = omega arith; inside = h; left = rw z }
+pub pass_start : (buf : List ℕ) (n : ℕ) → 7 ≤ length buf → RowsPassed buf n 7 [] 0
+pass_start buf n h = let z : n - 0 ≡ n = omega arith in record { inside = h; left = rw z }
 
-module _ {buf : List ℕ} {n k a b i : ℕ} (g : RowsPassed buf n k a b i) (l : i < n) where
+module _ {buf : List ℕ} {n k : ℕ} {prev : List ℕ} {i : ℕ} (g : RowsPassed buf n k prev i) (l : i < n) where
   one_more_lem : n - i ≡ suc (n - suc i)
   one_more_lem = omega arith
 
-  pub pass_bad : row_is (between a b buf) (drop k buf) ≡ false → rows_end n [] 7 buf ≡ none
+  pub pass_bad : row_is prev (drop k buf) ≡ false → rows_end n [] 7 buf ≡ none
   pass_bad t = sym (rw (one_more_lem, t) at g.left)
 
-  module _ (t : row_is (between a b buf) (drop k buf) ≡ true) where
+  module _ (t : row_is prev (drop k buf) ≡ true) where
     pub pass_room : k + 1 + get_or buf k 0 + 4 ≤ length buf
-    pass_room = omega (arith, (row_parts (between a b buf) (drop k buf) t).0, length-drop k buf, row_byte buf k)
+    pass_room = omega (arith, (row_parts prev (drop k buf) t).0, length-drop k buf, row_byte buf k)
 
-    pub pass_turn : RowsPassed buf n (k + 1 + get_or buf k 0 + 4) (k + 1) (k + 1 + get_or buf k 0) (i + 1)
+    pub pass_turn : RowsPassed buf n (k + 1 + get_or buf k 0 + 4) (between (k + 1) (k + 1 + get_or buf k 0) buf) (i + 1)
     pass_turn =
         record {
-          ordered = omega arith;
-          behind = omega arith;
           inside = pass_room;
           left = rw (← row_name_lem buf k, ← row_next buf k, add-one) (rw (one_more_lem, t) at g.left);
         }
 
-pub pass_end : {buf : List ℕ} {n k a b i : ℕ} → RowsPassed buf n k a b i → n ≤ i → rows_end n [] 7 buf ≡ some k
+pub pass_end :
+    {buf : List ℕ} {n k : ℕ} {prev : List ℕ} {i : ℕ} → RowsPassed buf n k prev i → n ≤ i → rows_end n [] 7 buf ≡ some k
 pass_end {n = n} {i = i} g h = let z : n - i ≡ 0 = omega arith in sym (rw z at g.left)

@@ -7,7 +7,7 @@ ghost use Rattle.frame_code.specs.Image.{ended_as, image_as};
 ghost use Rattle.sheet_check.specs.Check.{row_is, rows_end};
 ghost use Rattle.sheet.specs.Sheet.{read_sheet};
 
-use frame_code::{Ended, Frame, Image};
+use frame_code::Frame;
 use limits::{ENTRY_OVERHEAD, FRAME_LENGTH, SCORE_BYTES, SHEET_VERSION};
 
 // Whether the entry at the front of s is one of a sheet, behind the name prev.
@@ -30,38 +30,32 @@ fn row_is(prev: &[u8], s: &[u8]) -> bool
 }
 
 // Where the n entries behind the frame end.
-fn rows_end(buf: &[u8], n: usize) -> Ended
+fn rows_end(buf: &[u8], n: usize) -> Option<usize>
     requires { (n ≤ max_entries) × (7 ≤ length buf.now) }
     ensures { result ≡ ended_as (rows_end n [] 7 buf.now) }
 {
     let mut at = FRAME_LENGTH;
-    let mut prev = FRAME_LENGTH;
-    let mut prev_end = FRAME_LENGTH;
-    let mut i = 0;
-    while i < n {
-        if !row_is(&buf[prev..prev_end], &buf[at..]) {
-            return Ended::Damaged;
+    let mut prev: &[u8] = &[];
+    for _ in 0..n {
+        if !row_is(prev, &buf[at..]) {
+            return None;
         }
-        prev = at + 1;
-        prev_end = prev + buf[at] as usize;
-        at = prev_end + SCORE_BYTES;
-        i += 1;
+        let start = at + 1;
+        let end = start + buf[at] as usize;
+        prev = &buf[start..end];
+        at = end + SCORE_BYTES;
     }
-    Ended::At(at)
+    Some(at)
 }
 
 // Checks the sheet at the front of a buffer: how many entries it has.
-pub fn check(buf: &[u8]) -> Image
+pub fn check(buf: &[u8]) -> Option<usize>
     ensures { result ≡ image_as (read_sheet buf.now) }
 {
-    let Frame::Holds { entries, total } = frame_code::check_frame(buf, SHEET_VERSION) else {
-        return Image::Damaged;
-    };
-    let Ended::At(end) = rows_end(buf, entries) else {
-        return Image::Damaged;
-    };
+    let Frame { entries, total } = frame_code::check_frame(buf, SHEET_VERSION)?;
+    let end = rows_end(buf, entries)?;
     if end != total {
-        return Image::Damaged;
+        return None;
     }
-    Image::Entries(entries)
+    Some(entries)
 }

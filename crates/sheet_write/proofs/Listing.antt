@@ -23,7 +23,7 @@ use Rattle.answer.proofs.Entries.{entries_bytes_most, length-entry_bytes}
 use Rattle.book_read.specs.Record.{own_bytes, parts_at}
 use Rattle.book_read.proofs.Reading.{Given, Reading, read_inside, read_start, read_turn}
 use Rattle.sheet.specs.Sheet.{sheet_image}
-use Rattle.book_read.specs.declared.Parts.{Parts}
+use Rattle.book_laws.specs.declared.Parts.{Parts}
 
 -- the sheet of a book that was checked is the frame, and at most 53 bytes for each entry
 pub sheet_length_lem :

@@ -19,22 +19,14 @@ pub fn book_size(sheet: &[u8], n: usize) -> usize
 {
     let mut total = book_layout::records_at(book_layout::today(), n);
     let mut at = FRAME_LENGTH;
-    let mut prev = FRAME_LENGTH;
-    let mut prev_end = FRAME_LENGTH;
-    let mut i = 0;
-    while i < n {
+    let mut prev: &[u8] = &[];
+    for i in 0..n {
         let start = at + 1;
         let end = start + sheet[at] as usize;
-        total += book_record_write::record_size(
-            BOOK_HEADS,
-            i,
-            &sheet[prev..prev_end],
-            &sheet[start..end],
-        );
-        prev = start;
-        prev_end = end;
+        let name = &sheet[start..end];
+        total += book_record_write::record_size(BOOK_HEADS, i, prev, name);
+        prev = name;
         at = end + SCORE_BYTES;
-        i += 1;
     }
     total
 }
@@ -49,25 +41,21 @@ pub fn fill_book(sheet: &[u8], n: usize, total: usize, dst: &mut [u8])
     let l = book_layout::today();
     let mut at = book_layout::records_at(l, n);
     let mut from = FRAME_LENGTH;
-    let mut prev = FRAME_LENGTH;
-    let mut prev_end = FRAME_LENGTH;
-    let mut i = 0;
-    while i < n {
+    let mut prev: &[u8] = &[];
+    for i in 0..n {
         let start = from + 1;
         let end = start + sheet[from] as usize;
+        let name = &sheet[start..end];
         let score = octets_code::read_u32(sheet, end);
-        let prior = &sheet[prev..prev_end];
         let slot = Slot {
             layout: l,
-            n: n,
+            n,
             index: i,
-            at: at,
+            at,
         };
-        at = book_write::put_entry(dst, slot, prior, &sheet[start..end], score);
-        prev = start;
-        prev_end = end;
+        at = book_write::put_entry(dst, slot, prev, name, score);
+        prev = name;
         from = end + SCORE_BYTES;
-        i += 1;
     }
     book_write::finish(dst, l, n, total);
 }
@@ -79,12 +67,10 @@ pub fn sheet_size(book: &[u8], n: usize) -> usize
 {
     let mut total = FRAME_LENGTH;
     let mut at = book_layout::records_at(book_layout::today(), n);
-    let mut i = 0;
-    while i < n {
+    for i in 0..n {
         let p = book_read::parts_at(BOOK_HEADS, i, &book[at..]);
         total += ENTRY_OVERHEAD + p.kept + p.own;
         at += p.start + p.own;
-        i += 1;
     }
     total
 }
@@ -98,13 +84,11 @@ pub fn fill_sheet(book: &[u8], n: usize, total: usize, dst: &mut [u8])
     let mut name = [0; LONGEST_NAME];
     let mut from = book_layout::records_at(book_layout::today(), n);
     let mut at = FRAME_LENGTH;
-    let mut i = 0;
-    while i < n {
+    for i in 0..n {
         let p = book_read::read_name(book, from, BOOK_HEADS, i, &mut name);
         let len = p.kept + p.own;
         let score = book_layout::score_at(book, i);
         at = answer_write::put_entry(dst, at, &name[..len], score);
         from += p.start + p.own;
-        i += 1;
     }
 }

@@ -3,35 +3,27 @@ use Prim.Native.Nat.{◌*◌, ◌+◌, ◌-◌, ◌<◌, ◌≤◌, suc, zero, �
 use mathlib.Core.Path.{◌∙◌, ◌≡◌, ap, refl, subst, sym}
 use mathlib.Core.Bool.{Bool, false, true}
 use mathlib.Core.List.{List}
-use mathlib.Core.Option.{Option, none, some}
 use lib.Dec.{eqb}
 use lib.ListN.{get_or, length, length-replicate, length-set, set}
 use native.Mathlib.Omega.{arith}
 use borrow.Author.Tests.{eq-eqb, ne_eqb}
 use Rattle.octets.proofs.Numbers.{Bytes}
 use Rattle.octets.proofs.Tests.{by_test}
-use Rattle.frame_code.specs.Image.{ended_as}
+use Rattle.std.specs.Prelude.{None, Option, Some}
+use Rattle.entries_laws.specs.Halves.{half_number}
 use Rattle.entries_laws.specs.Signs.{no_half}
-use Rattle.trie.specs.Trie.{longest_label}
-use Rattle.trie_check_laws.specs.Walk.{above, after_inner, after_node, and_then, begin_group, behind_group, behind_leaf}
-use Rattle.trie_check_laws.specs.Walk.{beneath, end_after, group_end, half_of, head_of, in_group, in_node, in_rest, into}
-use Rattle.trie_check_laws.specs.Walk.{mark_count, mark_place, node_on, node_then, none_seen, reached_by, score_of}
-use Rattle.trie_check_laws.specs.Walk.{stands, walk_of}
+use Rattle.trie_check_laws.specs.Walk.{after_inner, and_then, begin_group, behind_group, behind_leaf}
+use Rattle.trie_check_laws.specs.Walk.{beneath, end_after, group_end, half_of, head_of, in_node, in_rest, into}
+use Rattle.trie_check_laws.specs.Walk.{mark_count, mark_place, node_on, node_then, none_seen, reached_by}
+use Rattle.trie_check_laws.specs.Walk.{stands, walk_of, walk_to}
 use Rattle.trie_check_laws.proofs.Sound.{end_past, no_end_lem}
 use Rattle.trie_check_laws.proofs.Stand.{FieldsStand, stands_true}
 use Rattle.trie_check_fields.specs.Known.{EndIs, EndKnown}
 use Rattle.trie_check_fields.proofs.Heads.{Read}
-use Rattle.trie_check.specs.Known.{GroupIs, GroupKnown, NodeIs, NodeKnown}
-use Rattle.frame_code.specs.declared.Ended.TheVariants as ended
-use Rattle.frame_code.specs.declared.Ended.{Ended}
+use Rattle.trie_check.specs.Known.{GroupIs, NodeIs, NodeKnown}
 use Rattle.trie_check_laws.specs.declared.Fields.{Fields}
-use Rattle.trie_check_laws.specs.declared.Head.TheVariants as head
-use Rattle.trie_check_laws.specs.declared.Head.{Head}
 use Rattle.trie_check_laws.specs.declared.Above.{Above}
 use Rattle.trie_check_laws.specs.declared.Among.{Among}
-use Rattle.trie_check_laws.specs.declared.BehindNode.TheVariants as reached
-use Rattle.trie_check_laws.specs.declared.BehindNode.{BehindNode}
-use Rattle.trie_check_laws.specs.declared.WalkEnd.TheVariants.{Bad, Next}
 use Rattle.trie_check_laws.specs.declared.WalkEnd.{WalkEnd}
 
 -- A node that stands in its place, and what is below it.
@@ -48,101 +40,67 @@ module _ (p : Among) (n : Fields) (ok : stands p n ≡ true) where
   pub path_short : p.path + n.len ≤ 48
   path_short = stood.within
 
-module _ (s : List ℕ) (p : Among) (n : Fields) where
-  module _ {g : ℕ} (half : g ≡ half_of s p n) (z : n.size ≡ 0) where
-    -- a leaf at which a half is open
-    pub node_cut : (g ≡ no_half → ⊥) → NodeIs s p n reached.Bad
-    node_cut c k lt = rw (eq-eqb n.size 0 z, ne_eqb (half_of s p n) no_half (λ q. c (half ∙ q)))
-
-    pub node_leaf : g ≡ no_half → {q : Among} → q ≡ after_node p n p.next p.back p.own (p.left - 1)
-        → NodeIs s p n (reached.At q)
-    node_leaf c e k lt =
-        rw (eq-eqb n.size 0 z, eq-eqb (half_of s p n) no_half (sym half ∙ c)) (ap reached.At e)
-
-  module _ (ne : n.size ≡ 0 → ⊥) {g v : ℕ} (half : g ≡ half_of s p n) (vi : v ≡ score_of p n) {w : WalkEnd}
-      (i : GroupIs s p.next (above (p.path + n.len) g v (eqb n.len longest_label)) p.left w) where
-    walked : (k : ℕ) → 4 * (length s - p.next) < k → w ≡ walk_of s k (beneath s p n)
-    walked k lt =
-        i k lt
-        ∙ (λ j. walk_of s k (in_group p.next (above (p.path + n.len) (half j) (vi j) (eqb n.len longest_label))
-        p.left))
-
-    pub node_bad : w ≡ Bad → NodeIs s p n reached.Bad
-    node_bad e k lt = rw (ne_eqb n.size 0 ne, ← walked k lt, e)
-
-    pub node_more : {m left : ℕ} → w ≡ Next m left → {q : Among} → q ≡ after_node p n m (m - p.next) false left
-        → NodeIs s p n (reached.At q)
-    node_more e c k lt = rw (ne_eqb n.size 0 ne, ← walked k lt, e) (ap reached.At c)
-
--- where the next group is to begin behind a node
-pub onward_to :
-    (p : Among) (n : Fields) (nx bk lf : ℕ) (ow : Bool) (l : ℕ) {q : Among} → q ≡ after_node p n nx bk ow lf
-    → p.next ≤ nx → nx ≤ l
-    → NodeKnown (reached.At q) p.next l
-onward_to p n nx bk lf ow l e a b = rw e (a, b)
-
-pub ahead_of : {w : WalkEnd} {m left at n : ℕ} → w ≡ Next m left → GroupKnown w at n → (at < m) × (m ≤ n)
-ahead_of {at = at} {n = n} e a = subst (λ x. GroupKnown x at n) e a
-
-onward_of : {w : BehindNode} {q : Among} {p n : ℕ} → w ≡ reached.At q → NodeKnown w p n → (p ≤ q.next)
+onward_of : {w : Option Among} {q : Among} {p n : ℕ} → w ≡ Some q → NodeKnown w p n → (p ≤ q.next)
     × (q.next ≤ n)
 onward_of {p = p} {n = n} e a = subst (λ x. NodeKnown x p n) e a
 
-pub end_of : {w : Ended} {e at n : ℕ} → w ≡ ended.At e → EndKnown w at n → (at < e) × (e ≤ n)
+pub end_of : {w : Option ℕ} {e at n : ℕ} → w ≡ Some e → EndKnown w at n → (at < e) × (e ≤ n)
 end_of {at = at} {n = n} q a = subst (λ x. EndKnown x at n) q a
 
 -- The node in a place and the siblings behind it.
-abbrev pub RestIs : List ℕ → Among → List ℕ → WalkEnd → Type 0
+abbrev pub RestIs : List ℕ → Among → List ℕ → Option WalkEnd → Type 0
 RestIs s p seen r = (k : ℕ) → 2 * (length s - p.at) + 2 * (length s - p.next) < k → r ≡ walk_of s k (in_node p seen)
 
-pub rest_cut : (s : List ℕ) (p : Among) (seen : List ℕ) {w : Head} → w ≡ head_of s p.at → w ≡ head.Cut
-    → RestIs s p seen Bad
+pub rest_cut : (s : List ℕ) (p : Among) (seen : List ℕ) {w : Option Fields} → w ≡ head_of s p.at → w ≡ None
+    → RestIs s p seen None
 unfolding walk_of
 rest_cut s p seen e q zero lt = absurd (omega arith)
 rest_cut s p seen e q (suc k) lt = sym (ap (λ x. node_then x s p seen (walk_of s k)) (sym e ∙ q))
 
 -- what follows a node, from the place behind it
-abbrev then : BehindNode → (Among → WalkEnd) → WalkEnd
-then reached.Bad f = Bad
-then (reached.At q) f = f q
+abbrev then : Option Among → (Among → Option WalkEnd) → Option WalkEnd
+then None f = None
+then (Some q) f = f q
 
-by_group : (p : Among) (n : Fields) (v : WalkEnd) (f : Among → WalkEnd)
+by_group : (p : Among) (n : Fields) (v : Option WalkEnd) (f : Among → Option WalkEnd)
     → and_then v (λ m left. f (after_inner p n m left)) ≡ then (behind_group v p n) f
-by_group p n Bad f = refl
-by_group p n (Next m left) f = refl
+by_group p n None f = refl
+by_group p n (Some w) f = refl
 
 -- the place behind a node is where it ends
-reached_end : (s : List ℕ) (p : Among) (n : Fields) (v : WalkEnd) {q : Among} → reached.At q ≡ reached_by s p n v
+reached_end : (s : List ℕ) (p : Among) (n : Fields) (v : Option WalkEnd) {q : Among} → Some q ≡ reached_by s p n v
     → q.at ≡ n.end
 reached_end s p n v e =
-    by_test (eqb n.size 0) (λ t. ended (eqb (half_of s p n) no_half) (rw t at e)) (λ t. inner v (rw t at e))
+    by_test (eqb n.size 0)
+    (λ t. ended (eqb (half_number (half_of s p n)) no_half) (rw t at e))
+    (λ t. inner v (rw t at e))
   where
-    leaf : {q r : Among} → reached.At q ≡ reached.At r → q.at ≡ r.at
+    leaf : {q r : Among} → Some q ≡ Some r → q.at ≡ r.at
     leaf h = cc
 
-    ended : {q : Among} (b : Bool) → reached.At q ≡ behind_leaf b p n → q.at ≡ n.end
+    ended : {q : Among} (b : Bool) → Some q ≡ behind_leaf b p n → q.at ≡ n.end
     ended true h = leaf h
     ended false h = absurd (let z : ◌≡◌ {A = ℕ} 0 1 = cc in omega arith)
 
-    inner : {q : Among} (w : WalkEnd) → reached.At q ≡ behind_group w p n → q.at ≡ n.end
-    inner Bad h = absurd (let z : ◌≡◌ {A = ℕ} 0 1 = cc in omega arith)
-    inner (Next m left) h = leaf h
+    inner : {q : Among} (w : Option WalkEnd) → Some q ≡ behind_group w p n → q.at ≡ n.end
+    inner None h = absurd (let z : ◌≡◌ {A = ℕ} 0 1 = cc in omega arith)
+    inner (Some w) h = leaf h
 
 module _ (s : List ℕ) (p : Among) (seen : List ℕ) (n : Fields) (r : Read s p.at n) where
-  pub rest_out : stands p n ≡ false → RestIs s p seen Bad
+  pub rest_out : stands p n ≡ false → RestIs s p seen None
   unfolding walk_of
   rest_out t zero lt = absurd (omega arith)
   rest_out t (suc k) lt = sym (ap (λ x. node_then x s p seen (walk_of s k)) r.head ∙ rw t)
 
   module _ (ok : stands p n ≡ true) where
-    pub rest_twice : (get_or seen (mark_place n.key) 0 ≡ 0 → ⊥) → RestIs s p seen Bad
+    pub rest_twice : (get_or seen (mark_place n.key) 0 ≡ 0 → ⊥) → RestIs s p seen None
     unfolding walk_of
     rest_twice g zero lt = absurd (omega arith)
     rest_twice g (suc k) lt = sym (ap (λ x. node_then x s p seen (walk_of s k)) r.head
         ∙ rw (ok, ne_eqb (get_or seen (mark_place n.key) 0) 0 g))
 
     module _ (new : get_or seen (mark_place n.key) 0 ≡ 0) (before : p.at < p.next) (within : p.next ≤ length s)
-        {w : BehindNode}
+        {w : Option Among}
         (i : NodeIs s p n w) where
       abbrev marked : List ℕ
       marked = set seen (mark_place n.key) 1
@@ -151,7 +109,7 @@ module _ (s : List ℕ) (p : Among) (seen : List ℕ) (n : Fields) (r : Read s p
           (reached_by s p n (walk_of s k (beneath s p n))) (λ q. walk_of s k (in_rest q marked n.last))
       by_place k =
           by_test (eqb n.size 0)
-          (λ t. by_test (eqb (half_of s p n) no_half) (λ u. rw (t, u)) (λ u. rw (t, u)))
+          (λ t. by_test (eqb (half_number (half_of s p n)) no_half) (λ u. rw (t, u)) (λ u. rw (t, u)))
           (λ t. rw t (by_group p n (walk_of s k (beneath s p n)) (λ q. walk_of s k (in_rest q marked n.last))))
 
       step : (k : ℕ) → 4 * (length s - p.next) < k
@@ -162,12 +120,12 @@ module _ (s : List ℕ) (p : Among) (seen : List ℕ) (n : Fields) (r : Read s p
           ∙ rw (ok, eq-eqb (get_or seen (mark_place n.key) 0) 0 new) (by_place k)
           ∙ ap (λ x. then x (λ q. walk_of s k (in_rest q marked n.last))) (sym (i k lt))
 
-      rest_bad : w ≡ reached.Bad → RestIs s p seen Bad
+      rest_bad : w ≡ None → RestIs s p seen None
       rest_bad e zero lt = absurd (omega arith)
       rest_bad e (suc k) lt = sym (step k (omega arith)
           ∙ ap (λ x. then x (λ q. walk_of s k (in_rest q marked n.last))) e)
 
-      module _ {q : Among} (e : w ≡ reached.At q) where
+      module _ {q : Among} (e : w ≡ Some q) where
         at_rest : (k : ℕ) → 4 * (length s - p.next) < k
             → walk_of s (suc k) (in_node p seen) ≡ walk_of s k (in_rest q marked n.last)
         at_rest k lt = step k lt ∙ ap (λ x. then x (λ q. walk_of s k (in_rest q marked n.last))) e
@@ -176,13 +134,13 @@ module _ (s : List ℕ) (p : Among) (seen : List ℕ) (n : Fields) (r : Read s p
         next_at = reached_end s p n (walk_of s (suc (4 * length s)) (beneath s p n)) (sym e
             ∙ i (suc (4 * length s)) (omega arith))
 
-        rest_last : n.last ≡ true → RestIs s p seen (Next q.next q.left)
+        rest_last : n.last ≡ true → RestIs s p seen (walk_to q.next q.left)
         unfolding walk_of
         rest_last t zero lt = absurd (omega arith)
         rest_last t (suc zero) lt = absurd (let a = r.past in let b = r.within in omega arith)
         rest_last t (suc (suc k)) lt = sym (at_rest (suc k) (omega arith) ∙ rw t)
 
-        rest_more : n.last ≡ false → p.next ≤ q.next → {d : WalkEnd} → RestIs s q marked d → RestIs s p seen d
+        rest_more : n.last ≡ false → p.next ≤ q.next → {d : Option WalkEnd} → RestIs s q marked d → RestIs s p seen d
         unfolding walk_of
         rest_more t on i zero lt = absurd (omega arith)
         rest_more t on i (suc zero) lt = absurd (let a = r.past in let b = r.within in omega arith)
@@ -194,46 +152,38 @@ module _ (s : List ℕ) (p : Among) (seen : List ℕ) (n : Fields) (r : Read s p
 
 -- A group. It ends at e, with some number of turns.
 abbrev Stops : List ℕ → ℕ → ℕ → Type 0
-Stops s at e = (m : ℕ) × (group_end s m at ≡ some e)
-
-told_at : (o : Option ℕ) {e : ℕ} → ended_as o ≡ ended.At e → o ≡ some e
-told_at none h = absurd (let z : ◌≡◌ {A = ℕ} 0 1 = cc in omega arith)
-told_at (some x) h = cc
+Stops s at e = (m : ℕ) × (group_end s m at ≡ Some e)
 
 stops_on : (s : List ℕ) (at e : ℕ) (n : Fields) → Stops s at e → Read s at n → n.last ≡ false → Stops s n.end e
 unfolding group_end
 stops_on s at e n h r t = go h.0 h.1
   where
-    go : (m : ℕ) → group_end s m at ≡ some e → Stops s n.end e
+    go : (m : ℕ) → group_end s m at ≡ Some e → Stops s n.end e
     go zero q = absurd (no_end_lem q)
     go (suc m) q = (m, sym (ap (λ x. end_after x (group_end s m)) r.head ∙ rw t) ∙ q)
 
 pub group_bad :
-    (s : List ℕ) (at : ℕ) (a : Above) (left : ℕ) {w : Ended} → EndIs s at w → w ≡ ended.Damaged
-    → GroupIs s at a left Bad
+    (s : List ℕ) (at : ℕ) (a : Above) (left : ℕ) {w : Option ℕ} → EndIs s at w → w ≡ None
+    → GroupIs s at a left None
 unfolding walk_of
 group_bad s at a left i q zero lt = absurd (omega arith)
 group_bad s at a left i q (suc k) lt =
     sym (ap (λ o. into o (λ e. walk_of s k (in_node (begin_group at e a left) none_seen)))
-    (told_none (group_end s (suc k) at) (sym (i (suc k) (omega arith)) ∙ q)))
-  where
-    told_none : (o : Option ℕ) → ended_as o ≡ ended.Damaged → o ≡ none
-    told_none none h = refl
-    told_none (some x) h = absurd (let z : ◌≡◌ {A = ℕ} 0 1 = cc in omega arith)
+    (sym (i (suc k) (omega arith)) ∙ q))
 
 -- Among the siblings of the group at `at`, which ends at e: what is walked from the place p on gives the walk over the
 -- whole group.
 pub record GroupGoing (s : List ℕ) (at : ℕ) (a : Above) (left e : ℕ) (p : Among) (seen : List ℕ) : Type 0
   where
     pub array : length seen ≡ mark_count
-    pub onto : (r : WalkEnd) → RestIs s p seen r → GroupIs s at a left r
+    pub onto : (r : Option WalkEnd) → RestIs s p seen r → GroupIs s at a left r
     pub stops : Stops s p.at e
     pub past : at < e
     pub on : e ≤ p.next
     pub within : p.next ≤ length s
 
 pub going_start :
-    (s : List ℕ) (at : ℕ) (a : Above) (left e : ℕ) {w : Ended} → EndIs s at w → w ≡ ended.At e
+    (s : List ℕ) (at : ℕ) (a : Above) (left e : ℕ) {w : Option ℕ} → EndIs s at w → w ≡ Some e
     → EndKnown w at (length s)
     → {p : Among} → p ≡ begin_group at e a left → GroupGoing s at a left e p none_seen
 unfolding walk_of
@@ -249,10 +199,10 @@ going_start s at a left e {w} i q known {p} b =
       within = m.1;
     })
   where
-    ends : (k : ℕ) → length s - at < k → group_end s k at ≡ some e
-    ends k lt = told_at (group_end s k at) (sym (i k lt) ∙ q)
+    ends : (k : ℕ) → length s - at < k → group_end s k at ≡ Some e
+    ends k lt = sym (i k lt) ∙ q
 
-    onto : (r : WalkEnd) → RestIs s (begin_group at e a left) none_seen r
+    onto : (r : Option WalkEnd) → RestIs s (begin_group at e a left) none_seen r
         → GroupIs s at a left r
     onto r j zero lt = absurd (omega arith)
     onto r j (suc k) lt =
@@ -269,19 +219,16 @@ module _ {s : List ℕ} {at : ℕ} {a : Above} {left e : ℕ} {p : Among} {seen 
   module _
       (b : Bytes s) {n : Fields} (r : Read s p.at n) (ok : stands p n ≡ true)
       (new : get_or seen (mark_place n.key) 0 ≡ 0)
-      {w : BehindNode}
+      {w : Option Among}
       (i : NodeIs s p n w) (o : NodeKnown w p.next (length s))
     where
-      pub going_bad : w ≡ reached.Bad → GroupIs s at a left Bad
-      going_bad q = g.onto Bad (rest_bad s p seen n r ok new (going_before b) g.within i q)
+      pub going_bad : w ≡ None → GroupIs s at a left None
+      going_bad q = g.onto None (rest_bad s p seen n r ok new (going_before b) g.within i q)
 
-      module _ {q : Among} (h : w ≡ reached.At q) where
-        pub going_last : n.last ≡ true → GroupIs s at a left (Next q.next q.left)
-        going_last t = g.onto (Next q.next q.left)
+      module _ {q : Among} (h : w ≡ Some q) where
+        pub going_last : n.last ≡ true → GroupIs s at a left (walk_to q.next q.left)
+        going_last t = g.onto (walk_to q.next q.left)
             (rest_last s p seen n r ok new (going_before b) g.within i h t)
-
-        pub going_ahead : GroupKnown (Next q.next q.left) at (length s)
-        going_ahead = let c = onward_of h o in (omega (arith, g.past, g.on, c.0), c.1)
 
         pub going_on : n.last ≡ false → GroupGoing s at a left e q (set seen (mark_place n.key) 1)
         going_on t =

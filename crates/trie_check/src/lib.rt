@@ -8,18 +8,16 @@ ghost use Rattle.trie.specs.Reading.{read_trie};
 ghost use Rattle.trie_check_laws.specs.Walk.{stands};
 ghost use Rattle.trie_check.specs.Known.{GroupIs, GroupKnown, NodeIs, NodeKnown};
 
-use frame_code::{Ended, Frame, Image};
-use limits::{FRAME_LENGTH, LONGEST_LABEL, NO_HALF, TRIE_VERSION};
+use entries_laws::Half;
+use frame_code::Frame;
+use limits::{FRAME_LENGTH, LONGEST_LABEL, TRIE_VERSION};
+use trie_check_laws::{Above, Among, Fields, WalkEnd};
 use trie_check_rules::MARK_COUNT;
 
 // A node that stands in its place, with all that stands below it: the place behind it. Its label may end inside a pair,
 // if the labels below go on with the pair's other half.
 #[cycle(group_node)]
-fn node(
-    buf: &[u8],
-    p: trie_check_laws::Among,
-    n: trie_check_laws::Fields,
-) -> trie_check_laws::BehindNode
+fn node(buf: &[u8], p: Among, n: Fields) -> Option<Among>
     requires { (p.next ≤ length buf.now) × (stands p n ≡ true) × (n.len ≤ n.end)
         × (n.end ≤ length buf.now) }
     ensures is { NodeIs buf.now p n result }
@@ -27,99 +25,77 @@ fn node(
 {
     let half = trie_check_fields::half_behind(buf, p.half, n);
     if n.size == 0 {
-        if half != NO_HALF {
-            return trie_check_laws::BehindNode::Bad;
+        if half != Half::None {
+            return None;
         }
-        return trie_check_laws::BehindNode::At(trie_check_rules::after_node(
-            p,
-            n,
-            p.next,
-            p.back,
-            p.own,
-            p.left - 1,
-        ));
+        return Some(trie_check_rules::after_node(p, n, p.next, p.back, p.own, p.left - 1));
     }
     let path = p.path + n.len;
     let score = trie_check_rules::new_score(p, n);
-    let above = trie_check_laws::Above {
-        path: path,
-        half: half,
-        score: score,
+    let above = Above {
+        path,
+        half,
+        score,
         full: n.len == LONGEST_LABEL,
     };
-    let trie_check_laws::WalkEnd::Next(end, left) = group(buf, p.next, above, p.left) else {
-        return trie_check_laws::BehindNode::Bad;
-    };
-    trie_check_laws::BehindNode::At(trie_check_rules::after_node(
-        p,
-        n,
-        end,
-        end - p.next,
-        false,
-        left,
-    ))
+    let WalkEnd { end, left } = group(buf, p.next, above, p.left)?;
+    Some(trie_check_rules::after_node(p, n, end, end - p.next, false, left))
 }
 
-// The group at an offset, with all its descendants. `seen` has the marks of the keys of the siblings before.
+// The group at an offset, with all its descendants. `seen` has the marks of the keys of the siblings before, numbers as
+// in `walk_of`. The loop walks by siblings, each of which says where the next begins.
 #[cycle(group_node)]
-fn group(buf: &[u8], at: usize, a: trie_check_laws::Above, left: usize) -> trie_check_laws::WalkEnd
+fn group(buf: &[u8], at: usize, a: Above, left: usize) -> Option<WalkEnd>
     ensures is { GroupIs buf.now at a left result }
     ensures known { GroupKnown result at (length buf.now) }
 {
-    let Ended::At(next) = trie_check_fields::group_end(buf, at) else {
-        return trie_check_laws::WalkEnd::Bad;
-    };
+    let next = trie_check_fields::group_end(buf, at)?;
     let mut p = trie_check_rules::begin_at(at, next, a, left);
     let mut seen = [0u8; MARK_COUNT];
     loop {
-        let trie_check_laws::Head::Node(n) = trie_check_fields::head_at(buf, p.at) else {
-            return trie_check_laws::WalkEnd::Bad;
-        };
+        let n = trie_check_fields::head_at(buf, p.at)?;
         if !trie_check_rules::fits_here(p, n) {
-            return trie_check_laws::WalkEnd::Bad;
+            return None;
         }
         let place = trie_check_rules::mark_place(n.key);
         if seen[place] != 0 {
-            return trie_check_laws::WalkEnd::Bad;
+            return None;
         }
         seen[place] = 1;
-        let trie_check_laws::BehindNode::At(q) = node(buf, p, n) else {
-            return trie_check_laws::WalkEnd::Bad;
-        };
+        let q = node(buf, p, n)?;
         if n.last {
-            return trie_check_laws::WalkEnd::Next(q.next, q.left);
+            return Some(WalkEnd {
+                end: q.next,
+                left: q.left,
+            });
         }
         p = q;
     }
 }
 
 // Checks the trie at the front of a buffer: how many entries it has.
-pub fn check(buf: &[u8]) -> Image
+pub fn check(buf: &[u8]) -> Option<usize>
     ensures { result ≡ image_as (read_trie buf.now) }
 {
-    let Frame::Holds { entries, total } = frame_code::check_frame(buf, TRIE_VERSION) else {
-        return Image::Damaged;
-    };
+    let Frame { entries, total } = frame_code::check_frame(buf, TRIE_VERSION)?;
     if entries == 0 {
         if total != FRAME_LENGTH {
-            return Image::Damaged;
+            return None;
         }
-        return Image::Entries(0);
+        return Some(0);
     }
-    let above = trie_check_laws::Above {
+    let above = Above {
         path: 0,
-        half: NO_HALF,
+        half: Half::None,
         score: 0,
         full: true,
     };
-    let trie_check_laws::WalkEnd::Next(end, left) = group(buf, FRAME_LENGTH, above, entries) else {
-        return Image::Damaged;
-    };
+    let WalkEnd { end, left } = group(buf, FRAME_LENGTH, above, entries)?;
     if end != total {
-        return Image::Damaged;
+        return None;
     }
     if left != 0 {
-        return Image::Damaged;
+        return None;
     }
-    Image::Entries(entries)
+    Some(entries)
 }

@@ -8,6 +8,7 @@ use lib.Seq.{drop-drop}
 use native.Mathlib.Numerals.{add-one}
 use native.Mathlib.Omega.{arith}
 use borrow.Author.Tests.{eq-eqb, le-leb, le-ltb, lt-leb, lt-ltb, ne_eqb}
+use Rattle.std.specs.Prelude.{None, Option, Some}
 use Rattle.octets.specs.Octets.{from_be, number_at}
 use Rattle.octets.proofs.Numbers.{Bytes}
 use Rattle.trie.specs.Reading.{child_size, label_length, last_mark, score_size}
@@ -19,10 +20,8 @@ use Rattle.trie_header.proofs.Fields.{number-part}
 use Rattle.trie_check_laws.proofs.Heads.{head_says}
 use Rattle.trie_check_fields.specs.Known.{HeadKnown}
 use Rattle.trie_check_laws.specs.declared.Fields.{Fields}
-use Rattle.trie_check_laws.specs.declared.Head.TheVariants as head
-use Rattle.trie_check_laws.specs.declared.Head.{Head}
 
-pub head_out : (s : List ℕ) (at : ℕ) → length s ≤ at → head.Cut ≡ head_of s at
+pub head_out : (s : List ℕ) (at : ℕ) → length s ≤ at → None ≡ head_of s at
 unfolding head_of
 head_out s at h = rw (le-leb (length s) at h)
 
@@ -52,7 +51,7 @@ module _ {s : List ℕ} {at ss cs len : ℕ} (z : Sizes s at ss cs len) where
   body_is_lem : ss + cs + len ≡ body_of h
   body_is_lem = λ i. z.is_score i + z.is_child i + z.is_label i
 
-  pub head_short : length s - at - 1 < ss + cs + len → head.Cut ≡ head_of s at
+  pub head_short : length s - at - 1 < ss + cs + len → None ≡ head_of s at
   unfolding head_of
   head_short l = rw (
     lt-leb (length s) at z.inside,
@@ -68,7 +67,7 @@ module _ {s : List ℕ} {at ss cs len : ℕ} (z : Sizes s at ss cs len) where
       field_is = fi ∙ number-part ss s (at + 1) (omega (arith, long, z.inside))
           ∙ (λ i. from_be (take (z.is_score i) (drop (add-one at i) s)))
 
-      pub head_wide : {v : ℕ} → v ≡ size_of field → (v ≡ ss → ⊥) → head.Cut ≡ head_of s at
+      pub head_wide : {v : ℕ} → v ≡ size_of field → (v ≡ ss → ⊥) → None ≡ head_of s at
       unfolding head_of
       head_wide e n =
           rw (
@@ -97,7 +96,7 @@ module _ {s : List ℕ} {at ss cs len : ℕ} (z : Sizes s at ss cs len) where
 
         pub head_good :
             {last : Bool} {child k : ℕ} → last ≡ last_mark h → child ≡ number_at cs s (at + 1 + ss) → k ≡ key label
-            → head.Node (record {
+            → Some (record {
               end = at + 1 + (ss + cs + len);
               last = last;
               field = field;
@@ -109,7 +108,7 @@ module _ {s : List ℕ} {at ss cs len : ℕ} (z : Sizes s at ss cs len) where
         unfolding head_of
         head_good lm ch ke =
             (λ i.
-            head.Node
+            Some
             (record {
               end = at + 1 + body_is_lem i;
               last = lm i;
@@ -126,21 +125,21 @@ module _ {s : List ℕ} {at ss cs len : ℕ} (z : Sizes s at ss cs len) where
             )
 
 -- what is known of a node that is read
-pub head_known : (s : List ℕ) (at : ℕ) → Bytes s → (w : Head) → w ≡ head_of s at → HeadKnown w at (length s)
-head_known s at b head.Cut e = tt
-head_known s at b (head.Node n) e =
+pub head_known : (s : List ℕ) (at : ℕ) → Bytes s → (w : Option Fields) → w ≡ head_of s at → HeadKnown w at (length s)
+head_known s at b None e = tt
+head_known s at b (Some n) e =
     let r = head_says s at b n (sym e) in
     (r.past, r.within, r.held)
 
 -- a node that was read, as the callers have it
 pub record Read (s : List ℕ) (at : ℕ) (n : Fields) : Type 0 where
-  pub head : head_of s at ≡ head.Node n
+  pub head : head_of s at ≡ Some n
   pub past : at < n.end
   pub within : n.end ≤ length s
   pub held : n.len ≤ n.end
 
-pub read_node : {s : List ℕ} {at : ℕ} {n : Fields} {w : Head} → w ≡ head_of s at → HeadKnown w at (length s)
-    → w ≡ head.Node n → Read s at n
+pub read_node : {s : List ℕ} {at : ℕ} {n : Fields} {w : Option Fields} → w ≡ head_of s at → HeadKnown w at (length s)
+    → w ≡ Some n → Read s at n
 read_node {s} {at} {n} {w} e k q =
-    let m : HeadKnown (head.Node n) at (length s) = subst (λ v. HeadKnown v at (length s)) q k in
+    let m : HeadKnown (Some n) at (length s) = subst (λ v. HeadKnown v at (length s)) q k in
     record { head = sym e ∙ q; past = m.0; within = m.1; held = m.2 }

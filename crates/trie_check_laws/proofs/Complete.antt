@@ -4,7 +4,7 @@ use mathlib.Core.Path.{◌∙◌, ◌≡◌, ap, refl, subst, sym}
 use mathlib.Core.Logic.{◌⊎◌, inl, inr}
 use mathlib.Core.Bool.{Bool, false, false≢true, true}
 use mathlib.Core.List.{List, [], ◌++◌, ◌∷◌, append_assoc, map}
-use mathlib.Core.Option.{some}
+use Rattle.std.specs.Prelude.{Some}
 use lib.Dec.{eqb, ltb}
 use lib.ListN.{drop, get_or, length, length-append, length-drop, length-replicate, length-set, replicate, set}
 use lib.Seq.{drop_at, drop-drop, get_or-set_other}
@@ -15,7 +15,10 @@ use Rattle.octets.specs.Lists.{◌∈◌, if◌then◌otherwise◌}
 use Rattle.octets.proofs.Lists.{some_in}
 use Rattle.entries.proofs.BestList.{different-rising}
 use Rattle.entries.specs.Entries.{Entry}
+use Rattle.entries_laws.proofs.Halves.{number_behind}
+use Rattle.entries_laws.specs.Halves.{half_behind, half_number}
 use Rattle.entries_laws.specs.Signs.{half_after, no_half}
+use Rattle.entries_laws.specs.declared.Half.{Half}
 use Rattle.trie.proofs.Header.{Size, own_size_nonzero, own_size_size, size_of_fits, size_of_nonzero, size_of_size}
 use Rattle.trie.proofs.Sets.{flat, highest-below, label_short}
 use Rattle.trie.proofs.Trie.{Fit, any_inner, group_some, node_label, node_score, node_size, nodes, siblings_inner}
@@ -36,18 +39,16 @@ use Rattle.trie_check_laws.proofs.Weight.{Kid, Lone, group_weight, kind, scatter
 use Rattle.trie_check_laws.proofs.Written.{siblings-any}
 use Rattle.trie_check_laws.specs.Walk.{above, after_inner, after_leaf, after_node, and_then, begin_group, beneath}
 use Rattle.trie_check_laws.specs.Walk.{group_end, half_of, head_of, in_group, in_node, in_rest, into, label_at}
-use Rattle.trie_check_laws.specs.Walk.{mark_count, mark_place, none_seen, score_of, walk_of}
+use Rattle.trie_check_laws.specs.Walk.{mark_count, mark_place, none_seen, score_of, walk_of, walk_to}
 use Rattle.trie_check_laws.specs.declared.Fields.{Fields}
-use Rattle.trie_check_laws.specs.declared.Head.TheVariants as head
 use Rattle.trie_check_laws.specs.declared.Above.{Above}
 use Rattle.trie_check_laws.specs.declared.Among.{Among}
-use Rattle.trie_check_laws.specs.declared.WalkEnd.TheVariants.{Next}
 use Rattle.trie_laws.proofs.Keys.{label_key}
 
 -- one step of the walk
 walk_leaf :
-    (s : List ℕ) (k : ℕ) (p : Among) (seen : List ℕ) (n : Fields) → head_of s p.at ≡ head.Node n → FieldsStand p n
-    → get_or seen (mark_place n.key) 0 ≡ 0 → n.size ≡ 0 → half_of s p n ≡ no_half
+    (s : List ℕ) (k : ℕ) (p : Among) (seen : List ℕ) (n : Fields) → head_of s p.at ≡ Some n → FieldsStand p n
+    → get_or seen (mark_place n.key) 0 ≡ 0 → n.size ≡ 0 → half_number (half_of s p n) ≡ no_half
     → walk_of s (suc k) (in_node p seen) ≡ walk_of s k (in_rest (after_leaf p n) (set seen (mark_place n.key) 1) n.last)
 unfolding walk_of
 walk_leaf s k p seen n h st fr z w = rw (
@@ -55,14 +56,14 @@ walk_leaf s k p seen n h st fr z w = rw (
   true_stands p n st,
   eq-eqb (get_or seen (mark_place n.key) 0) 0 fr,
   eq-eqb n.size 0 z,
-  eq-eqb (half_of s p n) no_half w,
+  eq-eqb (half_number (half_of s p n)) no_half w,
 )
 
 walk_inner :
-    (s : List ℕ) (k m lf : ℕ) (p : Among) (seen : List ℕ) (n : Fields) → head_of s p.at ≡ head.Node n
+    (s : List ℕ) (k m lf : ℕ) (p : Among) (seen : List ℕ) (n : Fields) → head_of s p.at ≡ Some n
     → FieldsStand p n
     → get_or seen (mark_place n.key) 0 ≡ 0 → (n.size ≡ 0 → ⊥)
-    → walk_of s k (beneath s p n) ≡ Next m lf
+    → walk_of s k (beneath s p n) ≡ walk_to m lf
     → walk_of s (suc k) (in_node p seen) ≡ walk_of s k
     (in_rest (after_inner p n m lf) (set seen (mark_place n.key) 1) n.last)
 unfolding walk_of
@@ -75,7 +76,7 @@ walk_inner s k m lf p seen n h st fr z g = rw (
     (λ q left. walk_of s k (in_rest (after_inner p n q left) (set seen (mark_place n.key) 1) n.last))) g)
 
 walk_last : (s : List ℕ) (k : ℕ) (p : Among) (seen : List ℕ) (last : Bool) → last ≡ true
-    → walk_of s (suc k) (in_rest p seen last) ≡ Next p.next p.left
+    → walk_of s (suc k) (in_rest p seen last) ≡ walk_to p.next p.left
 unfolding walk_of
 walk_last s k p seen last t = rw t
 
@@ -85,17 +86,17 @@ unfolding walk_of
 walk_more s k p seen last t = rw t
 
 walk_group :
-    (s : List ℕ) (k at : ℕ) (a : Above) (left e : ℕ) → group_end s (suc k) at ≡ some e
+    (s : List ℕ) (k at : ℕ) (a : Above) (left e : ℕ) → group_end s (suc k) at ≡ Some e
     → walk_of s (suc k) (in_group at a left) ≡ walk_of s k (in_node (begin_group at e a left) none_seen)
 unfolding walk_of
 walk_group s k at a left e h = ap (λ w. into w (λ e. walk_of s k (in_node (begin_group at e a left) none_seen))) h
 
-end_one : (s : List ℕ) (k at : ℕ) (n : Fields) → head_of s at ≡ head.Node n → n.last ≡ true
-    → group_end s (suc k) at ≡ some n.end
+end_one : (s : List ℕ) (k at : ℕ) (n : Fields) → head_of s at ≡ Some n → n.last ≡ true
+    → group_end s (suc k) at ≡ Some n.end
 unfolding group_end
 end_one s k at n h t = rw (h, t)
 
-end_more : (s : List ℕ) (k at : ℕ) (n : Fields) → head_of s at ≡ head.Node n → n.last ≡ false
+end_more : (s : List ℕ) (k at : ℕ) (n : Fields) → head_of s at ≡ Some n → n.last ≡ false
     → group_end s (suc k) at ≡ group_end s k n.end
 unfolding group_end
 end_more s k at n h t = rw (h, t)
@@ -225,7 +226,7 @@ module _ (s : List ℕ) (d at f c cs : ℕ) (t : List Entry) (last : Bool) (r : 
   short : length (node_of (group_of d 0) t).label < 8
   short = rw node_label (label_short t)
 
-  read : head_of s at ≡ head.Node fields
+  read : head_of s at ≡ Some fields
   read = node_read s at (node_of (group_of d 0) t) f c cs last r z short ff fc e
 
   read_label : label_at s fields ≡ label_of t
@@ -249,7 +250,7 @@ module _ (s : List ℕ) (path half d : ℕ) (deep : 48 < path + suc d) where
       → ((t : List Entry) → t ∈ ss → weight t < 2 ^ 32)
       → f < 2 ^ 32 → (any_inner (nodes d ss) ≡ true → ChildField own back size) → 0 < length ss
       → drop at s ≡ siblings f back size (nodes d ss) ++ r → length s - at < k
-      → group_end s k at ≡ some (at + length (siblings f back size (nodes d ss)))
+      → group_end s k at ≡ Some (at + length (siblings f back size (nodes d ss)))
 
   -- after a node that is read
   end_after_lem :
@@ -262,14 +263,14 @@ module _ (s : List ℕ) (path half d : ℕ) (deep : 48 < path + suc d) where
       → ((u : List Entry) → u ∈ ss → weight u < 2 ^ 32)
       → f' < 2 ^ 32 → (any_inner (nodes d ss) ≡ true → ChildField own back size) → length s - at < k
       → all ≡ node_bytes (node_of (group_of d 0) t) f c cs (is_last (nodes d ss)) ++ siblings f' back size (nodes d ss)
-      → group_end s k at ≡ some (at + length all)
+      → group_end s k at ≡ Some (at + length all)
   end_after_lem ss ih t at f c cs zero f' back size own r all ff z fc e made light ff' fi lt q = absurd (omega arith)
   end_after_lem [] ih t at f c cs (suc k) f' back size own r all ff z fc e made light ff' fi lt q =
       let l = read_length s d at f c cs t true (siblings f' back size [] ++ r) ff z fc e in
       let a = ap length q ∙ length-append (node_bytes (node_of (group_of d 0) t) f c cs true) [] in
       end_one s k at (fields s d at f c cs t true r ff z fc e) (read s d at f c cs t true r ff z fc e)
       refl
-      ∙ ap some (sym l ∙ (let y : at + length (node_bytes (node_of (group_of d 0) t) f c cs true) ≡ at + length
+      ∙ ap Some (sym l ∙ (let y : at + length (node_bytes (node_of (group_of d 0) t) f c cs true) ≡ at + length
       all = omega arith in y))
   end_after_lem (u ∷ us) ih t at f c cs (suc k) f' back size own r all ff z fc e made light ff' fi lt q =
       let rest = siblings f' back size (nodes d (u ∷ us)) in
@@ -282,7 +283,7 @@ module _ (s : List ℕ) (path half d : ℕ) (deep : 48 < path + suc d) where
       end_more s k at n (read s d at f c cs t false (siblings f' back size (nodes d (u ∷ us))
       ++ r) ff z fc e) refl
       ∙ ih n.end f' back size k own r made light ff' fi (omega arith) b (omega arith)
-      ∙ ap some (let y : n.end + length (siblings f' back size (nodes d (u ∷ us))) ≡ at + length all = omega arith in
+      ∙ ap Some (let y : n.end + length (siblings f' back size (nodes d (u ∷ us))) ≡ at + length all = omega arith in
       y)
 
   ends : (ss : List (List Entry)) → EndT ss
@@ -299,7 +300,7 @@ module _ (s : List ℕ) (path half d : ℕ) (deep : 48 < path + suc d) where
       ff' = field_drop (group_of d 0) t ss (highest_fits path half t (made t (inl refl)))
 
       go : (Lone path half d t) ⊎ (Kid path half d t) → EndT ss
-          → group_end s k at ≡ some (at + length (siblings f back size (x ∷ xs)))
+          → group_end s k at ≡ Some (at + length (siblings f back size (x ∷ xs)))
       go (inl a) ih =
           let lf = lone_leaf path half d t a in
           let q = siblings_leaf f back size x xs lf in
@@ -324,7 +325,7 @@ module _ (s : List ℕ) (path half d : ℕ) (deep : 48 < path + suc d) where
 -- Siblings that stand before the check, and what stands under them.
 record Runs (s : List ℕ) (d : ℕ) (p : Among) (seen : List ℕ) (f size l : ℕ) (ss : List (List Entry)) (r q : List ℕ) :
     Type 0 where
-  made : (t : List Entry) → t ∈ ss → Made p.path p.half (label_of t) (highest t) t
+  made : (t : List Entry) → t ∈ ss → Made p.path (half_number p.half) (label_of t) (highest t) t
   light : (t : List Entry) → t ∈ ss → weight t < 2 ^ 32
   order : chain set_before ss
   differ : keys_differ ss
@@ -359,10 +360,11 @@ key_len (x ∷ l) h z = omega arith
 -- groups of d levels are accepted
 abbrev KidsT : List ℕ → ℕ → Type 0
 KidsT s d =
-    (es : List Entry) (at path half score : ℕ) (full : Bool) (left l k : ℕ) (r : List ℕ) → Suffixes path half full es
+    (es : List Entry) (at path : ℕ) (half : Half) (score : ℕ) (full : Bool) (left l k : ℕ) (r : List ℕ)
+    → Suffixes path (half_number half) full es
     → 48 < path + d → score ≡ highest es → 0 < path → weight es < 2 ^ 32
     → left ≡ l + length es → at ≤ length s → drop at s ≡ group_of d 0 es ++ r → 4 * (length s - at) < k
-    → walk_of s k (in_group at (above path half score full) left) ≡ Next (at + length (group_of d 0 es)) l
+    → walk_of s k (in_group at (above path half score full) left) ≡ walk_to (at + length (group_of d 0 es)) l
 
 abbrev RestT : List ℕ → ℕ → List (List Entry) → Type 0
 RestT s d ss =
@@ -370,7 +372,7 @@ RestT s d ss =
     → p.first ≡ false
     → ((t : List Entry) (ts : List (List Entry)) → ss ≡ t ∷ ts → At p t ts f)
     → 2 * (length s - p.at) + 2 * (length s - p.next) < k
-    → walk_of s (suc k) (in_rest p seen (is_nil ss)) ≡ Next (p.next + length (unders (nodes d ss))) l
+    → walk_of s (suc k) (in_rest p seen (is_nil ss)) ≡ walk_to (p.next + length (unders (nodes d ss))) l
 
 module _ (s : List ℕ) (d : ℕ) (kids : KidsT s d) (t : List Entry) (ss : List (List Entry)) (ih : RestT s d ss)
     (p : Among) (seen : List ℕ) (f size l : ℕ) (r q : List ℕ) (run : Runs s d p seen f size l (t
@@ -384,14 +386,14 @@ module _ (s : List ℕ) (d : ℕ) (kids : KidsT s d) (t : List Entry) (ss : List
   abbrev f' : ℕ
   f' = x.score - first_score xs
 
-  mt : Made p.path p.half (label_of t) (highest t) t
+  mt : Made p.path (half_number p.half) (label_of t) (highest t) t
   mt = run.made t (inl refl)
 
   t_key : key x.label ≡ set_key t
   t_key = ap key (node_label (group_of d 0) t) ∙ (let a = made_facts mt in label_key t a.run)
 
   f'_fits : f' < 2 ^ 32
-  f'_fits = field_drop (group_of d 0) t ss (highest_fits p.path p.half t mt)
+  f'_fits = field_drop (group_of d 0) t ss (highest_fits p.path (half_number p.half) t mt)
 
   -- the tests of the node
   module _ (c cs e : ℕ) (lab : length x.label ≡ length (label_of t)) (within : p.path + length (label_of t) ≤ 48)
@@ -435,7 +437,9 @@ module _ (s : List ℕ) (d : ℕ) (kids : KidsT s d) (t : List Entry) (ss : List
     rest_fresh : (u : List Entry) → u ∈ ss → get_or (set seen (mark_place n.key) 1) (mark_place (set_key u)) 0 ≡ 0
     rest_fresh u m =
         get_or-set_other seen (mark_place n.key) (mark_place (set_key u)) 1 0
-        (λ z. run.differ.0 u m (sym (places_differ p.half u t (run.made u (inr m)) mt (z ∙ ap mark_place t_key))))
+        (λ z.
+        run.differ.0 u m
+        (sym (places_differ (half_number p.half) u t (run.made u (inr m)) mt (z ∙ ap mark_place t_key))))
         ∙ run.fresh u (inr m)
 
     rest_at : (nx bk lf : ℕ) (ow : Bool) (u : List Entry) (us : List (List Entry)) → ss ≡ u ∷ us
@@ -481,9 +485,9 @@ module _ (s : List ℕ) (d : ℕ) (kids : KidsT s d) (t : List Entry) (ss : List
             (rw (eq-eqb (highest t) (highest u) y) at order') in omega (arith, ku, kt, t_key)
 
   -- a leaf
-  module _ (a : Lone p.path p.half d t) where
+  module _ (a : Lone p.path (half_number p.half) d t) where
     lf_leaf : is_leaf x ≡ true
-    lf_leaf = lone_leaf p.path p.half d t a
+    lf_leaf = lone_leaf p.path (half_number p.half) d t a
 
     lf_eq : siblings f p.back size (x ∷ xs) ≡ node_bytes x f 0 0 (is_last xs) ++ siblings f' p.back size xs
     lf_eq = siblings_leaf f p.back size x xs lf_leaf
@@ -516,13 +520,14 @@ module _ (s : List ℕ) (d : ℕ) (kids : KidsT s d) (t : List Entry) (ss : List
     lf_stands : FieldsStand p lf_n
     lf_stands = n_stands 0 0 0 lf_lab a.within lf_empty lf_left lf_child lf_size
 
-    lf_read : head_of s p.at ≡ head.Node lf_n
+    lf_read : head_of s p.at ≡ Some lf_n
     lf_read = read s d p.at f 0 0 t (is_last xs) (siblings f' p.back size xs
         ++ r) run.fits size_none (omega arith) lf_bytes
 
-    lf_whole : half_of s p lf_n ≡ no_half
-    lf_whole = ap (half_after p.half) (read_label s d p.at f 0 0 t (is_last xs) (siblings f' p.back size xs
-        ++ r) run.fits size_none (omega arith) lf_bytes) ∙ a.whole
+    lf_whole : half_number (half_of s p lf_n) ≡ no_half
+    lf_whole = ap (λ w. half_number (half_behind p.half w)) (read_label s d p.at f 0 0 t (is_last xs)
+        (siblings f' p.back size xs
+        ++ r) run.fits size_none (omega arith) lf_bytes) ∙ number_behind p.half (label_of t) ∙ a.whole
 
     lf_within : lf_n.end ≤ length s
     lf_within = read_within s d p.at f 0 0 t (is_last xs) (siblings f' p.back size xs
@@ -561,7 +566,7 @@ module _ (s : List ℕ) (d : ℕ) (kids : KidsT s d) (t : List Entry) (ss : List
         }
 
     leaf_on : (k : ℕ) → 2 * (length s - p.at) + 2 * (length s - p.next) < k
-        → walk_of s k (in_node p seen) ≡ Next (p.next + length (unders (x ∷ xs))) l
+        → walk_of s k (in_node p seen) ≡ walk_to (p.next + length (unders (x ∷ xs))) l
     leaf_on zero h = absurd (omega arith)
     leaf_on (suc zero) h = absurd (let b = lf_within in omega arith)
     leaf_on (suc (suc k)) h =
@@ -573,12 +578,12 @@ module _ (s : List ℕ) (d : ℕ) (kids : KidsT s d) (t : List Entry) (ss : List
         (rest_at 0 0 0 lf_lab a.within lf_empty lf_left lf_child lf_size p.next p.back (p.left - 1)
         p.own)
         (let b = lf_within in omega arith)
-        ∙ ap (λ w. Next (p.next + length w) l) (sym lf_under)
+        ∙ ap (λ w. walk_to (p.next + length w) l) (sym lf_under)
 
   -- a node with children
-  module _ (a : Kid p.path p.half d t) where
+  module _ (a : Kid p.path (half_number p.half) d t) where
     in_inner : is_leaf x ≡ false
-    in_inner = kid_inner p.path p.half d t run.deep (run.light t (inl refl)) a
+    in_inner = kid_inner p.path (half_number p.half) d t run.deep (run.light t (inl refl)) a
 
     in_field : ChildField p.own p.back size
     in_field = run.field (rw in_inner)
@@ -624,13 +629,13 @@ module _ (s : List ℕ) (d : ℕ) (kids : KidsT s d) (t : List Entry) (ss : List
     in_stands : FieldsStand p in_n
     in_stands = n_stands p.back size 0 in_lab in_within in_empty in_left in_child in_size
 
-    in_read : head_of s p.at ≡ head.Node in_n
+    in_read : head_of s p.at ≡ Some in_n
     in_read = read s d p.at f p.back size t (is_last xs) more run.fits in_field.sized
         in_field.fits in_bytes
 
-    in_half : half_of s p in_n ≡ half_after p.half (label_of t)
-    in_half = ap (half_after p.half) (read_label s d p.at f p.back size t (is_last xs) more run.fits
-        in_field.sized in_field.fits in_bytes)
+    in_half : half_number (half_of s p in_n) ≡ half_after (half_number p.half) (label_of t)
+    in_half = ap (λ w. half_number (half_behind p.half w)) (read_label s d p.at f p.back size t (is_last xs) more
+        run.fits in_field.sized in_field.fits in_bytes) ∙ number_behind p.half (label_of t)
 
     in_inside : in_n.end ≤ length s
     in_inside = read_within s d p.at f p.back size t (is_last xs) more run.fits in_field.sized
@@ -688,7 +693,7 @@ module _ (s : List ℕ) (d : ℕ) (kids : KidsT s d) (t : List Entry) (ss : List
           array = length-set seen (mark_place in_n.key) 1 ∙ run.array;
           fits = f'_fits;
           field = λ y. subst (λ (w : ℕ). ChildField false w (size_of w)) in_back
-              (kid_field p.path p.half d t run.deep (run.light t (inl refl)) a);
+              (kid_field p.path (half_number p.half) d t run.deep (run.light t (inl refl)) a);
           count = refl;
           before =
               let b = run.before in
@@ -710,7 +715,7 @@ module _ (s : List ℕ) (d : ℕ) (kids : KidsT s d) (t : List Entry) (ss : List
         }
 
     in_group_lem : (k : ℕ) → 4 * (length s - p.next) < k
-        → walk_of s k (beneath s p in_n) ≡ Next m lf
+        → walk_of s k (beneath s p in_n) ≡ walk_to m lf
     in_group_lem k h =
         kids a.es p.next (p.path + in_n.len) (half_of s p in_n) (score_of p in_n) (eqb in_n.len 7) p.left lf
         k (unders xs ++ q) (rw (in_half, in_lab) a.below)
@@ -721,7 +726,7 @@ module _ (s : List ℕ) (d : ℕ) (kids : KidsT s d) (t : List Entry) (ss : List
         in_count run.next in_there h
 
     inner_on : (k : ℕ) → 2 * (length s - p.at) + 2 * (length s - p.next) < k
-        → walk_of s k (in_node p seen) ≡ Next (p.next + length (unders (x ∷ xs))) l
+        → walk_of s k (in_node p seen) ≡ walk_to (p.next + length (unders (x ∷ xs))) l
     inner_on zero h = absurd (omega arith)
     inner_on (suc zero) h = absurd (let b = in_inside in omega arith)
     inner_on (suc (suc k)) h =
@@ -734,16 +739,16 @@ module _ (s : List ℕ) (d : ℕ) (kids : KidsT s d) (t : List Entry) (ss : List
         refl
         (rest_at p.back size 0 in_lab in_within in_empty in_left in_child in_size m (m - p.next) lf false)
         (let b = in_inside in omega arith)
-        ∙ ap (λ w. Next w l)
+        ∙ ap (λ w. walk_to w l)
         (let b = length-append u (unders xs) in let c = ap length a.under in
         let y : m + length (unders xs) ≡ p.next + length (unders (x ∷ xs)) = omega arith in y)
 
   node_on_lem : (k : ℕ) → 2 * (length s - p.at) + 2 * (length s - p.next) < k
-      → walk_of s k (in_node p seen) ≡ Next (p.next + length (unders (x ∷ xs))) l
-  node_on_lem k h = go (kind p.path p.half d mt)
+      → walk_of s k (in_node p seen) ≡ walk_to (p.next + length (unders (x ∷ xs))) l
+  node_on_lem k h = go (kind p.path (half_number p.half) d mt)
     where
-      go : (Lone p.path p.half d t) ⊎ (Kid p.path p.half d t)
-          → walk_of s k (in_node p seen) ≡ Next (p.next + length (unders (x ∷ xs))) l
+      go : (Lone p.path (half_number p.half) d t) ⊎ (Kid p.path (half_number p.half) d t)
+          → walk_of s k (in_node p seen) ≡ walk_to (p.next + length (unders (x ∷ xs))) l
       go (inl a) = leaf_on a k h
       go (inr a) = inner_on a k h
 
@@ -751,7 +756,7 @@ rest_on : (s : List ℕ) (d : ℕ) → KidsT s d → (ss : List (List Entry)) �
 rest_on s d kids [] p seen f size l r q k run fi at h =
     walk_last s k p seen true refl
     ∙ (let a : p.next ≡ p.next + 0 = omega arith in let b : p.left ≡ l = run.count
-    ∙ (let z : l + 0 ≡ l = omega arith in z) in λ i. Next (a i) (b i))
+    ∙ (let z : l + 0 ≡ l = omega arith in z) in λ i. walk_to (a i) (b i))
 rest_on s d kids (t ∷ ss) p seen f size l r q k run fi at h =
     walk_more s k p seen false refl
     ∙ node_on_lem s d kids t ss (rest_on s d kids ss) p seen f size l r q run (at t ss refl) k h
@@ -762,9 +767,11 @@ none_seen_lem (suc n) zero = refl
 none_seen_lem (suc n) (suc i) = none_seen_lem n i
 
 module _
-    (s : List ℕ) (d : ℕ) (kids : KidsT s d) (t : List Entry) (ss : List (List Entry)) (f at path half score : ℕ)
+    (s : List ℕ) (d : ℕ) (kids : KidsT s d) (t : List Entry) (ss : List (List Entry)) (f at path : ℕ)
+    (half : Half) (score : ℕ)
     (full : Bool) (left l : ℕ) (r : List ℕ)
-    (of : Siblings path half full (t ∷ ss)) (deep : 48 < path + suc d) (top : score + f ≡ highest t) (low : (path ≡ 0
+    (of : Siblings path (half_number half) full (t ∷ ss)) (deep : 48 < path + suc d)
+    (top : score + f ≡ highest t) (low : (path ≡ 0
     → ⊥)
     → f ≡ 0) (root : path ≡ 0 → score ≡ 0)
     (light : (u : List Entry) → u ∈ (t ∷ ss)
@@ -785,7 +792,7 @@ module _
     e = at + length sibs
 
     g_fits : f < 2 ^ 32
-    g_fits = let a = highest_fits path half t (of.made t (inl refl)) in omega arith
+    g_fits = let a = highest_fits path (half_number half) t (of.made t (inl refl)) in omega arith
 
     g_length : length (group_bytes f gx) ≡ length sibs + length (unders gx)
     unfolding group_bytes other_bytes
@@ -853,25 +860,26 @@ module _
         }
 
     sets_on : (k : ℕ) → 4 * (length s - at) < k
-        → walk_of s k (in_group at (above path half score full) left) ≡ Next (at + length (group_bytes f gx)) l
+        → walk_of s k (in_group at (above path half score full) left) ≡ walk_to (at + length (group_bytes f gx)) l
     sets_on zero h = absurd (omega arith)
     sets_on (suc k) h =
         walk_group s k at (above path half score full) left e
-        (ends s path half d deep (t ∷ ss) at f (o + own_size o) (own_size o) (suc k) true (unders gx
+        (ends s path (half_number half) d deep (t ∷ ss) at f (o + own_size o) (own_size o) (suc k) true (unders gx
         ++ r) of.made light g_fits g_own (omega arith) g_bytes (omega arith))
         ∙ node_on_lem s d kids t ss (rest_on s d kids ss) (begin_group at e (above path half score full) left) none_seen f
         (own_size o) l
         (unders gx ++ r) r g_runs g_at k
         (let a = g_some in let b = g_inside in omega arith)
-        ∙ ap (λ w. Next w l) (let a = g_length in
+        ∙ ap (λ w. walk_to w l) (let a = g_length in
         let y : e + length (unders gx) ≡ at + length (group_bytes f gx) = omega arith in y)
 
 pub group_on :
-    (s : List ℕ) (d : ℕ) (es : List Entry) (f at path half score : ℕ) (full : Bool) (left l k : ℕ) (r : List ℕ)
-    → Suffixes path half full es → 48 < path + d → score + f ≡ highest es
+    (s : List ℕ) (d : ℕ) (es : List Entry) (f at path : ℕ) (half : Half) (score : ℕ) (full : Bool)
+    (left l k : ℕ) (r : List ℕ)
+    → Suffixes path (half_number half) full es → 48 < path + d → score + f ≡ highest es
     → ((path ≡ 0 → ⊥) → f ≡ 0) → (path ≡ 0 → score ≡ 0) → weight es < 2 ^ 32 → left ≡ l + length es → at ≤ length s
     → drop at s ≡ group_of d f es ++ r → 4 * (length s - at) < k
-    → walk_of s k (in_group at (above path half score full) left) ≡ Next (at + length (group_of d f es)) l
+    → walk_of s k (in_group at (above path half score full) left) ≡ walk_to (at + length (group_of d f es)) l
 group_on s zero es f at path half score full left l k r h deep top low root light count inside bytes fuel = absurd
     (go es h.some h.short)
   where
@@ -889,16 +897,17 @@ group_on s (suc d) es f at path half score full left l k r h deep top low root l
     same : group_of (suc d) f es ≡ group_bytes f (nodes d (scattered es))
     same = ap (group_bytes f) (scattered_nodes (group_of d 0) es)
 
-    sets : Siblings path half full (scattered es)
-    sets = scatter path half full es h
+    sets : Siblings path (half_number half) full (scattered es)
+    sets = scatter path (half_number half) full es h
 
     go : (ss : List (List Entry)) → scattered es ≡ ss → KidsT s d
-        → walk_of s k (in_group at (above path half score full) left) ≡ Next (at + length (group_of (suc d) f es)) l
+        → walk_of s k (in_group at (above path half score full) left) ≡ walk_to (at + length (group_of (suc d) f es)) l
     go [] z kids = absurd (let a = sets.some in let b = ap length z in omega arith)
     go (t ∷ ss) z kids =
         let same' : group_of (suc d) f es ≡ group_bytes f (nodes d (t ∷ ss)) = same
         ∙ ap (λ w. group_bytes f (nodes d w)) z in
-        let sets' : Siblings path half full (t ∷ ss) = subst (Siblings path half full) z sets in
+        let sets' : Siblings path (half_number half) full (t ∷ ss) =
+        subst (Siblings path (half_number half) full) z sets in
         let wt = scattered_weight es in
         sets_on s d kids t ss f at path half score full left l r sets' deep
         (top ∙ sym (scattered_top es) ∙ ap (λ w. highest (flat w)) z ∙ first_top t ss sets'.order)
@@ -907,7 +916,7 @@ group_on s (suc d) es f at path half score full left l k r h deep top low root l
         (λ u m. let a = weight_part u (t ∷ ss) m in let b = ap (λ w. weight (flat w)) z in omega arith)
         (count ∙ ap (λ w. l + w) (sym (scattered_length es) ∙ ap (λ w. length (flat w)) z))
         inside
-        (let a = group_weight (suc d) f path half full es h in let b = ap length same' in omega arith)
+        (let a = group_weight (suc d) f path (half_number half) full es h in let b = ap length same' in omega arith)
         (bytes ∙ ap (λ w. w ++ r) same')
         k fuel
-        ∙ ap (λ w. Next (at + length w) l) (sym same')
+        ∙ ap (λ w. walk_to (at + length w) l) (sym same')

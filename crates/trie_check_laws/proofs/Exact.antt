@@ -17,6 +17,7 @@ use Rattle.octets.proofs.Order.{begins-append, begins_first, begins-length, begi
 use Rattle.octets.proofs.Tests.{and_intro, and_true_both, by_test}
 use Rattle.entries.specs.Entries.{Entry, is_entry, max_entries, valid}
 use Rattle.entries.specs.Names.{allowed_bytes, is_name, is_prefix, is_score, longest_name}
+use Rattle.entries_laws.specs.declared.Half.TheVariants as half
 use Rattle.entries_laws.specs.Signs.{half_after, no_half}
 use Rattle.entries_laws.proofs.Signs.{allowed_half}
 use Rattle.entries.proofs.Valid.{Valid, score_fits_lem, valid_intro, valid_of}
@@ -28,13 +29,11 @@ use Rattle.trie.specs.Reading.{read_trie}
 use Rattle.trie.specs.Trie.{group_bytes, group_of, highest, levels, trie_image, used_up}
 use Rattle.trie.proofs.Trie.{trie_exact}
 use Rattle.trie_group_laws.proofs.Made.{Suffixes}
-use Rattle.trie_check_laws.specs.Walk.{above, in_group, trie_body_is, trie_checks, turns, walk_of, whole_is}
+use Rattle.trie_check_laws.specs.Walk.{above, in_group, trie_body_is, trie_checks, turns, walk_of, walk_to}
 use Rattle.trie_check_laws.proofs.Complete.{group_on}
-use Rattle.trie_check_laws.proofs.Sound.{GroupRead, sound}
+use Rattle.trie_check_laws.proofs.Sound.{GroupRead, sound, whole_to}
 use Rattle.trie_check_laws.proofs.Weight.{group_weight, weight}
 use Rattle.trie_check_laws.proofs.Written.{drop-length}
-use Rattle.trie_check_laws.specs.declared.WalkEnd.TheVariants.{Bad, Next}
-use Rattle.trie_check_laws.specs.declared.WalkEnd.{WalkEnd}
 
 -- a valid list is what the first group is made of
 record Named (w : List ℕ) : Type 0 where
@@ -121,14 +120,6 @@ body_most (e ∷ es) v =
     let b = weight_few (e ∷ es) v h in
     omega arith
 
-whole_to : (w : WalkEnd) (total : ℕ) → whole_is w total ≡ true → w ≡ Next total 0
-whole_to Bad total h = absurd (false≢true h)
-whole_to (Next p left) total h =
-    let a = and_true_both (eqb p total) (eqb left 0) h in
-    let b = eqb-true p total a.0 in
-    let c = eqb-true left 0 a.1 in
-    λ i. Next (b i) (c i)
-
 -- a buffer that passes is read
 module _ (buf : List ℕ) (b : Bytes buf) (f : FrameTests 0x31 buf) where
   abbrev n : ℕ
@@ -159,7 +150,7 @@ module _ (buf : List ℕ) (b : Bytes buf) (f : FrameTests 0x31 buf) where
       let z = ap length body_none in
       passes_as [] refl c (omega arith) (rw body_none)
 
-  module _ (g : GroupRead buf 7 (above 0 no_half 0 true) n total 0) where
+  module _ (g : GroupRead buf 7 (above 0 half.None 0 true) n total 0) where
     top : g.f ≡ highest g.es
     top = let a = g.top in omega arith
 
@@ -182,8 +173,8 @@ module _ (buf : List ℕ) (b : Bytes buf) (f : FrameTests 0x31 buf) where
       (λ t. passes_none (eqb-true n 0 t) (eqb-true total 7 (rw t at h)))
       (λ t.
       passes_some
-      (sound buf b (turns buf) (in_group 7 (above 0 no_half 0 true) n) total 0
-      (whole_to (walk_of buf (turns buf) (in_group 7 (above 0 no_half 0 true) n)) total (rw t at h)) (omega arith)
+      (sound buf b (turns buf) (in_group 7 (above 0 half.None 0 true) n) total 0
+      (whole_to (walk_of buf (turns buf) (in_group 7 (above 0 half.None 0 true) n)) total (rw t at h)) (omega arith)
       (λ z. refl)))
 
 -- a buffer that is read passes
@@ -223,13 +214,13 @@ module _ (buf : List ℕ) (es : List Entry) (h : read_trie buf ≡ some es) wher
       let i = inside in
       stands-number 4 buf 1 (length image) (omega arith) parts.1 (omega arith) ∙ l
 
-  walks : 0 < length es → walk_of buf (turns buf) (in_group 7 (above 0 no_half 0 true) (length es)) ≡ Next
+  walks : 0 < length es → walk_of buf (turns buf) (in_group 7 (above 0 half.None 0 true) (length es)) ≡ walk_to
       (7 + length (body_of es)) 0
   walks s =
       let o = valid_suffixes es v s in
       let w = weight_few es v o in
       let i = inside in
-      group_on buf levels es (highest es) 7 0 no_half 0 true (length es) 0 (turns buf)
+      group_on buf levels es (highest es) 7 0 half.None 0 true (length es) 0 (turns buf)
       (drop (length (body_of es)) (drop 7 buf))
       o (omega arith) (omega arith)
       (λ z. absurd (z refl)) (λ z. refl) (omega arith) (omega arith) (omega arith)

@@ -3,6 +3,7 @@ use Prim.Native.Nat.{◌%◌, ◌*◌, ◌+◌, ◌-◌, ◌/◌, ◌<◌, ◌^�
 use mathlib.Core.Path.{◌∙◌, ◌≡◌, ap, refl, subst, sym}
 use mathlib.Core.Bool.{Bool, false, true}
 use mathlib.Core.List.{List, [], ◌++◌, ◌∷◌}
+use Rattle.std.specs.Prelude.{None, Some}
 use lib.Dec.{eqb, leb, ltb}
 use lib.ListN.{drop, get_or, length, length-append, length-drop, length-take, take, take-append-drop}
 use lib.Seq.{drop_at, drop-cons, drop-drop, take_at}
@@ -21,7 +22,6 @@ use Rattle.trie.specs.Trie.{Node, header_byte, node_bytes, size_of}
 use Rattle.trie_laws.specs.Keys.{key}
 use Rattle.trie_check_laws.specs.Walk.{body_of, child_in, field_in, head_fields, head_of, label_at, label_in}
 use Rattle.trie_check_laws.specs.declared.Fields.{Fields}
-use Rattle.trie_check_laws.specs.declared.Head.TheVariants as head
 
 -- a field's value gives its bytes back, and is below 2 ^ 32
 module _ (a : ℕ) (t : List ℕ) (b : Bytes t) (h : a ≤ length t) where
@@ -163,7 +163,7 @@ module _ (s : List ℕ) (at : ℕ) (small : Bytes s) where
             (behind s at (score_size h) (child_size h) (label_length h));
       }
 
-  pub head_says : (n : Fields) → head_of s at ≡ head.Node n → Says s at n
+  pub head_says : (n : Fields) → head_of s at ≡ Some n → Says s at n
   unfolding head_of
   head_says n e =
       by_test (leb (length s) at)
@@ -180,10 +180,10 @@ module _ (s : List ℕ) (at : ℕ) (small : Bytes s) where
       (head_bytes i (omega arith) (eqb-true (size_of (field_in h t)) (score_size h) d)))
       (λ d. absurd (cut (rw (a, b, d) at e)))))
     where
-      cut : {m : Fields} → head.Cut ≡ head.Node m → ⊥
+      cut : {m : Fields} → None ≡ Some m → ⊥
       cut q = let z : ◌≡◌ {A = ℕ} 0 1 = cc in omega arith
 
-      same_node : {l m : Fields} → head.Node l ≡ head.Node m → l ≡ m
+      same_node : {l m : Fields} → Some l ≡ Some m → l ≡ m
       same_node q = cc
 
 -- a node's bytes are read as its fields
@@ -289,7 +289,7 @@ module _
         let m = cons.0 in
         omega arith
 
-    pub node_read : head_of s at ≡ head.Node (fields_for x at f c cs last)
+    pub node_read : head_of s at ≡ Some (fields_for x at f c cs last)
     unfolding head_of
     node_read =
         let a : leb (length s) at ≡ false = lt-leb (length s) at cons.0 in
@@ -300,4 +300,4 @@ module _
         ) (le-ltb (length s - at - 1) (size_of f + cs + length x.label) (omega (arith, node_within, cons.0))) in
         let d : eqb (size_of (field_in hd tl)) (score_size hd) ≡ true =
         eq-eqb (size_of (field_in hd tl)) (score_size hd) (ap size_of is_field ∙ sym hs) in
-        rw (cons.1, cons.2) (rw (a, b, d) (ap head.Node is_fields))
+        rw (cons.1, cons.2) (rw (a, b, d) (ap Some is_fields))

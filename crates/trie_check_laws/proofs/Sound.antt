@@ -4,7 +4,7 @@ use mathlib.Core.Path.{◌∙◌, ◌≡◌, ap, refl, subst, sym}
 use mathlib.Core.Logic.{inl, inr}
 use mathlib.Core.Bool.{Bool, ◌&&◌, false, false≢true, true}
 use mathlib.Core.List.{List, [], ◌++◌, ◌∷◌, map}
-use mathlib.Core.Option.{Option, none, some}
+use Rattle.std.specs.Prelude.{None, Option, Some}
 use lib.Dec.{eqb, ltb}
 use lib.ListN.{drop, get_or, length, length-append, length-replicate, length-set, set}
 use lib.Seq.{get_or-set_other, get_or-set_same}
@@ -15,6 +15,8 @@ use Rattle.octets.proofs.Tests.{and_true_both, by_test}
 use Rattle.octets.specs.Lists.{◌∈◌, if◌then◌otherwise◌}
 use Rattle.octets.proofs.Lists.{some_in}
 use Rattle.entries.specs.Entries.{Entry, entry}
+use Rattle.entries_laws.proofs.Halves.{number_behind}
+use Rattle.entries_laws.specs.Halves.{half_number}
 use Rattle.entries_laws.specs.Signs.{half_after, no_half}
 use Rattle.trie.proofs.Sets.{flat}
 use Rattle.trie.proofs.Trie.{node_label, node_score, nodes}
@@ -34,13 +36,11 @@ use Rattle.trie_check_laws.proofs.Written.{GroupWritten, inner_under, leaf_under
 use Rattle.trie_check_laws.proofs.Written.{written_leaf, written_none}
 use Rattle.trie_check_laws.specs.Walk.{Task, above, after_inner, after_leaf, after_node, and_then, begin_group}
 use Rattle.trie_check_laws.specs.Walk.{beneath, end_after, group_end, half_of, head_of, in_group, in_node, in_rest, into}
-use Rattle.trie_check_laws.specs.Walk.{mark_count, mark_place, node_then, none_seen, score_of, stands, walk_of}
+use Rattle.trie_check_laws.specs.Walk.{label_at, mark_count, mark_place, node_then, none_seen, score_of, stands}
+use Rattle.trie_check_laws.specs.Walk.{walk_of, walk_to, whole_is}
 use Rattle.trie_check_laws.specs.declared.Fields.{Fields}
-use Rattle.trie_check_laws.specs.declared.Head.TheVariants as head
-use Rattle.trie_check_laws.specs.declared.Head.{Head}
 use Rattle.trie_check_laws.specs.declared.Above.{Above}
 use Rattle.trie_check_laws.specs.declared.Among.{Among}
-use Rattle.trie_check_laws.specs.declared.WalkEnd.TheVariants.{Bad, Next}
 use Rattle.trie_check_laws.specs.declared.WalkEnd.{WalkEnd}
 use Rattle.trie_laws.proofs.Keys.{key-some, label_key}
 
@@ -59,7 +59,7 @@ pub record AmongReady (s : List ℕ) (p : Among) (seen : List ℕ) : Type 0 wher
 pub record GroupRead (s : List ℕ) (at : ℕ) (a : Above) (left q l : ℕ) : Type 0 where
   pub es : List Entry
   pub f : ℕ
-  pub of : Suffixes a.path a.half a.full es
+  pub of : Suffixes a.path (half_number a.half) a.full es
   pub top : a.score + f ≡ highest es
   pub low : (a.path ≡ 0 → ⊥) → f ≡ 0
   pub count : left ≡ l + length es
@@ -74,7 +74,7 @@ pub record NodesAre (s : List ℕ) (p : Among) (seen : List ℕ) (q l : ℕ) : T
   pub e : ℕ
   pub f : ℕ
   pub size : ℕ
-  pub made : (t : List Entry) → t ∈ (one ∷ ss) → Made p.path p.half (label_of t) (highest t) t
+  pub made : (t : List Entry) → t ∈ (one ∷ ss) → Made p.path (half_number p.half) (label_of t) (highest t) t
   pub differ : keys_differ (one ∷ ss)
   pub fresh : (t : List Entry) → t ∈ (one ∷ ss) → get_or seen (mark_place (set_key t)) 0 ≡ 0
   pub order : chain set_before (one ∷ ss)
@@ -86,7 +86,7 @@ pub record NodesAre (s : List ℕ) (p : Among) (seen : List ℕ) (q l : ℕ) : T
   pub count : p.left ≡ l + length (flat (one ∷ ss))
   pub past : p.at < e
   pub inside : e ≤ length s
-  pub stop : (m : ℕ) × (group_end s m p.at ≡ some e)
+  pub stop : (m : ℕ) × (group_end s m p.at ≡ Some e)
   pub on : p.next ≤ q
   pub within : q ≤ length s
   pub bytes : (d : ℕ) → 48 < p.path + suc d
@@ -99,7 +99,7 @@ pub record RestAre (s : List ℕ) (p : Among) (seen : List ℕ) (last : Bool) (q
   pub f : ℕ
   pub size : ℕ
   pub last_is : last ≡ is_nil ss
-  pub made : (t : List Entry) → t ∈ ss → Made p.path p.half (label_of t) (highest t) t
+  pub made : (t : List Entry) → t ∈ ss → Made p.path (half_number p.half) (label_of t) (highest t) t
   pub differ : keys_differ ss
   pub fresh : (t : List Entry) → t ∈ ss → get_or seen (mark_place (set_key t)) 0 ≡ 0
   pub order : chain set_before ss
@@ -108,7 +108,7 @@ pub record RestAre (s : List ℕ) (p : Among) (seen : List ℕ) (last : Bool) (q
   pub count : p.left ≡ l + length (flat ss)
   pub upto : p.at ≤ e
   pub inside : e ≤ length s
-  pub stop : last ≡ false → (m : ℕ) × (group_end s m p.at ≡ some e)
+  pub stop : last ≡ false → (m : ℕ) × (group_end s m p.at ≡ Some e)
   pub halt : last ≡ true → e ≡ p.at
   pub on : p.next ≤ q
   pub within : q ≤ length s
@@ -195,13 +195,13 @@ same_field b x f back size (t ∷ ts) h =
     let q : f ≡ x.score - (node_of b t).score = omega arith in
     ap (λ g. siblings g back size (map (node_of b) (t ∷ ts))) q
 
-end_last : (s : List ℕ) (at : ℕ) (n : Fields) → head_of s at ≡ head.Node n → n.last ≡ true
-    → group_end s 1 at ≡ some n.end
+end_last : (s : List ℕ) (at : ℕ) (n : Fields) → head_of s at ≡ Some n → n.last ≡ true
+    → group_end s 1 at ≡ Some n.end
 unfolding group_end
 end_last s at n h t = rw (h, t)
 
-end_more : (s : List ℕ) (at m e : ℕ) (n : Fields) → head_of s at ≡ head.Node n → n.last ≡ false
-    → group_end s m n.end ≡ some e → group_end s (suc m) at ≡ some e
+end_more : (s : List ℕ) (at m e : ℕ) (n : Fields) → head_of s at ≡ Some n → n.last ≡ false
+    → group_end s m n.end ≡ Some e → group_end s (suc m) at ≡ Some e
 unfolding group_end
 end_more s at m e n h t r = rw (h, t) r
 
@@ -215,7 +215,7 @@ place_small k =
 -- one node and what follows it
 module _
     (s : List ℕ) (small : Bytes s) (p : Among) (seen : List ℕ) (n : Fields) (rd : AmongReady s p seen)
-    (hd : head_of s p.at ≡ head.Node n) (st : FieldsStand p n)
+    (hd : head_of s p.at ≡ Some n) (st : FieldsStand p n)
     (fr : get_or seen (mark_place n.key) 0 ≡ 0)
   where
     sy : Says s p.at n
@@ -253,7 +253,7 @@ module _
         (q l nx bk lf : ℕ) (ow : Bool) (r : RestAre s (after_node p n nx bk ow lf) (set seen (mark_place n.key) 1)
         n.last q l)
         (one : List Entry)
-        (made : Made p.path p.half (label_of one) (highest one) one) (key_is : set_key one ≡ n.key)
+        (made : Made p.path (half_number p.half) (label_of one) (highest one) one) (key_is : set_key one ≡ n.key)
         (top : highest one ≡ score_of p n)
       where
         apart : (t : List Entry) → t ∈ r.ss → (mark_place (set_key t) ≡ mark_place n.key → ⊥)
@@ -271,7 +271,7 @@ module _
         fresh t (inr m) =
             sym (get_or-set_other seen (mark_place n.key) (mark_place (set_key t)) 1 0 (apart t m)) ∙ r.fresh t m
 
-        makes : (t : List Entry) → t ∈ (one ∷ r.ss) → Made p.path p.half (label_of t) (highest t) t
+        makes : (t : List Entry) → t ∈ (one ∷ r.ss) → Made p.path (half_number p.half) (label_of t) (highest t) t
         makes t (inl z) = rw z made
         makes t (inr m) = r.made t m
 
@@ -294,7 +294,7 @@ module _
             less : (highest one ≡ highest t → ⊥) → highest t + r.f ≡ score_of p n → highest t < highest one
             less w a = omega arith
 
-        stops : (m : ℕ) × (group_end s m p.at ≡ some r.e)
+        stops : (m : ℕ) × (group_end s m p.at ≡ Some r.e)
         stops =
             by_test n.last
             (λ t. (1, rw (r.halt t) (end_last s p.at n hd t)))
@@ -339,11 +339,12 @@ module _
             }
 
     -- a leaf
-    leaf_is : half_of s p n ≡ no_half → IsLeaf p.path p.half sy.label (score_of p n)
+    leaf_is : half_number (half_of s p n) ≡ no_half → IsLeaf p.path (half_number p.half) sy.label (score_of p n)
     leaf_is w =
         record {
           short = sy.short;
-          allowed = ap (half_after p.half) (sym sy.is_at) ∙ w;
+          allowed =
+              ap (half_after (half_number p.half)) (sym sy.is_at) ∙ sym (number_behind p.half (label_at s n)) ∙ w;
           within = let a = st.within in let b = sy.is_len in omega arith;
           fits = score_bound;
           ends = λ y. some (λ x. (st.empty (sym sy.is_len ∙ x)).0 y);
@@ -361,12 +362,12 @@ module _
         sy.bytes (node_of b one) (node_label b one ∙ lab)
         ∙ (λ i. node_bytes (node_of b one) n.field (ch i) (sz i) ((la ∙ sym (last_nodes b ss)) i) ++ drop n.end s)
 
-    leaf_step : (q l : ℕ) → n.size ≡ 0 → half_of s p n ≡ no_half
+    leaf_step : (q l : ℕ) → n.size ≡ 0 → half_number (half_of s p n) ≡ no_half
         → RestAre s (after_leaf p n) (set seen (mark_place n.key) 1) n.last q l → NodesAre s p seen q l
     leaf_step q l z w r =
         let v = score_of p n in
         let one = entry sy.label (score_of p n) ∷ [] in
-        let fa = leaf_facts p.path p.half sy.label (score_of p n) (leaf_is w) in
+        let fa = leaf_facts p.path (half_number p.half) sy.label (score_of p n) (leaf_is w) in
         node_are q l p.next p.back (p.left - 1) p.own r one (made_self (leaf (leaf_is w))) sy.is_key
         fa.top r.size
         (let a = st.leaf z in omega arith)
@@ -392,13 +393,16 @@ module _
           some : (length sy.label ≡ 0 → ⊥) → 0 < length sy.label
           some h = omega arith
 
-      inner_is : IsInner p.path p.half sy.label g.es
+      inner_is : IsInner p.path (half_number p.half) sy.label g.es
       inner_is =
           record {
             short = sy.short;
             some = len_some;
-            below = rw sy.is_len (subst (λ w. Suffixes (p.path + n.len) (half_after p.half w) (eqb n.len 7)
-                g.es) sy.is_at g.of);
+            below =
+                rw sy.is_len
+                (subst (λ w. Suffixes (p.path + n.len) (half_after (half_number p.half) w) (eqb n.len 7) g.es) sy.is_at
+                (subst (λ h. Suffixes (p.path + n.len) h (eqb n.len 7) g.es) (number_behind p.half (label_at s n))
+                g.of));
           }
 
       field_zero : g.f ≡ 0
@@ -411,7 +415,7 @@ module _
           → NodesAre s p seen q l
       inner_step q l r =
           let one = prefixed sy.label g.es in
-          let fa = inner_facts p.path p.half sy.label g.es inner_is in
+          let fa = inner_facts p.path (half_number p.half) sy.label g.es inner_is in
           node_are q l m (m - p.next) lf false r one (made_self (inner inner_is))
           (sym (label_key one fa.run) ∙ ap key fa.label ∙ sy.is_key) inner_top n.size
           (g.count ∙ ap (λ k. lf + k) (sym (length_more sy.label g.es)))
@@ -432,49 +436,51 @@ module _
           (λ o. st.size ne ∙ rw (o, st.child ne))
           (r.bytes d h))
 
-bad_next : {q l : ℕ} → Bad ≡ Next q l → ⊥
+bad_next : {q l : ℕ} → None ≡ walk_to q l → ⊥
 bad_next h = let z : ◌≡◌ {A = ℕ} 0 1 = cc in omega arith
 
-pub no_end_lem : {a : ℕ} → none ≡ some a → ⊥
+pub no_end_lem : {a : ℕ} → None ≡ Some a → ⊥
 no_end_lem h = let z : ◌≡◌ {A = ℕ} 0 1 = cc in omega arith
 
 -- a group ends in one place, past its begin
-end_unique : (s : List ℕ) (k m at a b : ℕ) → group_end s k at ≡ some a → group_end s m at ≡ some b → a ≡ b
+end_unique : (s : List ℕ) (k m at a b : ℕ) → group_end s k at ≡ Some a → group_end s m at ≡ Some b → a ≡ b
 unfolding group_end
 end_unique s zero m at a b h g = absurd (no_end_lem h)
 end_unique s (suc k) zero at a b h g = absurd (no_end_lem g)
 end_unique s (suc k) (suc m) at a b h g = go (head_of s at) refl (λ e. end_unique s k m e a b)
   where
-    go : (w : Head) → head_of s at ≡ w → ((e : ℕ) → group_end s k e ≡ some a → group_end s m e ≡ some b → a ≡ b) → a ≡ b
-    go head.Cut e ih = absurd (no_end_lem (sym (ap (λ w. end_after w (group_end s k)) e) ∙ h))
-    go (head.Node n) e ih = both n.last refl
+    go : (w : Option Fields) → head_of s at ≡ w
+        → ((e : ℕ) → group_end s k e ≡ Some a → group_end s m e ≡ Some b → a ≡ b) → a ≡ b
+    go None e ih = absurd (no_end_lem (sym (ap (λ w. end_after w (group_end s k)) e) ∙ h))
+    go (Some n) e ih = both n.last refl
       where
         both : (t : Bool) → n.last ≡ t → a ≡ b
         both true t =
-            let u : some n.end ≡ some a = sym (ap (λ w. end_after w (group_end s k)) e ∙ rw t) ∙ h in
-            let v : some n.end ≡ some b = sym (ap (λ w. end_after w (group_end s m)) e ∙ rw t) ∙ g in
+            let u : Some n.end ≡ Some a = sym (ap (λ w. end_after w (group_end s k)) e ∙ rw t) ∙ h in
+            let v : Some n.end ≡ Some b = sym (ap (λ w. end_after w (group_end s m)) e ∙ rw t) ∙ g in
             cc
         both false t =
             ih n.end
             (sym (ap (λ w. end_after w (group_end s k)) e ∙ rw t) ∙ h)
             (sym (ap (λ w. end_after w (group_end s m)) e ∙ rw t) ∙ g)
 
-pub end_past : (s : List ℕ) (small : Bytes s) (k at a : ℕ) → group_end s k at ≡ some a → (at < a) × (a ≤ length s)
+pub end_past : (s : List ℕ) (small : Bytes s) (k at a : ℕ) → group_end s k at ≡ Some a → (at < a) × (a ≤ length s)
 unfolding group_end
 end_past s small zero at a h = absurd (no_end_lem h)
 end_past s small (suc k) at a h = go (head_of s at) refl (λ e. end_past s small k e a)
   where
-    go : (w : Head) → head_of s at ≡ w → ((e : ℕ) → group_end s k e ≡ some a → (e < a) × (a ≤ length s)) → (at < a)
+    go : (w : Option Fields) → head_of s at ≡ w
+        → ((e : ℕ) → group_end s k e ≡ Some a → (e < a) × (a ≤ length s)) → (at < a)
         × (a ≤ length s)
-    go head.Cut e ih = absurd (no_end_lem (sym (ap (λ w. end_after w (group_end s k)) e) ∙ h))
-    go (head.Node n) e ih = both n.last refl
+    go None e ih = absurd (no_end_lem (sym (ap (λ w. end_after w (group_end s k)) e) ∙ h))
+    go (Some n) e ih = both n.last refl
       where
         sy : Says s at n
         sy = head_says s at small n e
 
         both : (t : Bool) → n.last ≡ t → (at < a) × (a ≤ length s)
         both true t =
-            let u : some n.end ≡ some a = sym (ap (λ w. end_after w (group_end s k)) e ∙ rw t) ∙ h in
+            let u : Some n.end ≡ Some a = sym (ap (λ w. end_after w (group_end s k)) e ∙ rw t) ∙ h in
             let v : n.end ≡ a = cc in
             let c = sy.past in
             let d = sy.within in
@@ -485,7 +491,7 @@ end_past s small (suc k) at a h = go (head_of s at) refl (λ e. end_past s small
             (omega (arith, r.0), r.1)
 
 group_step :
-    (s : List ℕ) (k at e : ℕ) (a : Above) (left q l : ℕ) → group_end s k at ≡ some e
+    (s : List ℕ) (k at e : ℕ) (a : Above) (left q l : ℕ) → group_end s k at ≡ Some e
     → NodesAre s (begin_group at e a left) none_seen q l → GroupRead s at a left q l
 group_step s k at e a left q l h n =
     record {
@@ -506,7 +512,7 @@ group_step s k at e a left q l h n =
     end_is : n.e ≡ e
     end_is = end_unique s n.stop.0 k at n.e e n.stop.1 h
 
-    sets : Siblings a.path a.half a.full ss
+    sets : Siblings a.path (half_number a.half) a.full ss
     sets =
         record {
           some = omega arith;
@@ -516,8 +522,8 @@ group_step s k at e a left q l h n =
           lone = λ t y. let b : n.ss ≡ [] = cc in let c : n.one ≡ t = cc in rw (← c) (n.lone refl b);
         }
 
-    suffixes : Suffixes a.path a.half a.full (gathered ss)
-    suffixes = gather a.path a.half a.full ss sets
+    suffixes : Suffixes a.path (half_number a.half) a.full (gathered ss)
+    suffixes = gather a.path (half_number a.half) a.full ss sets
 
     bytes : (d : ℕ) → 48 < a.path + d → drop at s ≡ group_of d n.f (gathered ss) ++ drop q s
     bytes zero y = absurd (let i = some_in (gathered ss) suffixes.some in let b = suffixes.short i.0 i.1 in
@@ -527,8 +533,8 @@ group_step s k at e a left q l h n =
         omega (arith, end_is)) (let b = n.inside in omega (arith, end_is))
         (subst (λ (x : ℕ). GroupWritten s at e (e - at) true x q n.f n.size (nodes d ss)) end_is (n.bytes d y))
         ∙ ap (λ xs. group_bytes n.f xs ++ drop q s)
-        (sym (gathered_nodes ss (siblings-run a.path a.half a.full ss sets)
-        (siblings-up a.path a.half a.full ss sets) n.differ (group_of d 0) n.order))
+        (sym (gathered_nodes ss (siblings-run a.path (half_number a.half) a.full ss sets)
+        (siblings-up a.path (half_number a.half) a.full ss sets) n.differ (group_of d 0) n.order))
 
 abbrev pub SoundT : List ℕ → Task → ℕ → ℕ → Type 0
 SoundT s (in_group at a left) q l = a.score < 2 ^ 32 → (a.path ≡ 0 → a.score ≡ 0) → GroupRead s at a left q l
@@ -536,53 +542,54 @@ SoundT s (in_node p seen) q l = AmongReady s p seen → NodesAre s p seen q l
 SoundT s (in_rest p seen last) q l = AmongReady s p seen → p.first ≡ false → p.at ≤ length s
     → RestAre s p seen last q l
 
-module _ (s : List ℕ) (small : Bytes s) (k : ℕ) (ih : (t : Task) (q l : ℕ) → walk_of s k t ≡ Next q l
+module _ (s : List ℕ) (small : Bytes s) (k : ℕ) (ih : (t : Task) (q l : ℕ) → walk_of s k t ≡ walk_to q l
     → SoundT s t q l) where
   sound_group : (at : ℕ) (a : Above) (left q l : ℕ) (w : Option ℕ) → group_end s (suc k) at ≡ w
-      → into w (λ e. walk_of s k (in_node (begin_group at e a left) none_seen)) ≡ Next q l
+      → into w (λ e. walk_of s k (in_node (begin_group at e a left) none_seen)) ≡ walk_to q l
       → SoundT s (in_group at a left) q l
-  sound_group at a left q l none h r b c = absurd (bad_next r)
-  sound_group at a left q l (some e) h r b c =
+  sound_group at a left q l None h r b c = absurd (bad_next r)
+  sound_group at a left q l (Some e) h r b c =
       let g = end_past s small (suc k) at e h in
       group_step s (suc k) at e a left q l h
       (ih (in_node (begin_group at e a left) none_seen) q l r
       (record { array = length-replicate {A = ℕ} mark_count 0; next = g.1; score = b; root = λ t. c }))
 
   sound_rest : (p : Among) (seen : List ℕ) (last : Bool) (q l : ℕ)
-      → (if last then Next p.next p.left otherwise walk_of s k (in_node p seen)) ≡ Next q l
+      → (if last then walk_to p.next p.left otherwise walk_of s k (in_node p seen)) ≡ walk_to q l
       → SoundT s (in_rest p seen last) q l
   sound_rest p seen last q l h rd fi at =
       by_test last
       (λ t.
-      let u : Next p.next p.left ≡ Next q l = rw t at h in
-      let a : p.next ≡ q = cc in
-      let b : p.left ≡ l = cc in
+      let u : walk_to p.next p.left ≡ walk_to q l = rw t at h in
+      let w : ◌≡◌ {A = WalkEnd} (record { end = p.next; left = p.left }) (record { end = q; left = l }) = cc in
+      let a = ap (λ v. v.end) w in
+      let b = ap (λ v. v.left) w in
       rw (← a, ← b) (rest_none s p seen last t at rd.next))
       (λ t. rest_more s p seen last q l t fi (ih (in_node p seen) q l (rw t at h) rd))
 
   sound_inner :
-      (p : Among) (seen : List ℕ) (n : Fields) (q l : ℕ) → AmongReady s p seen → head_of s p.at ≡ head.Node n
+      (p : Among) (seen : List ℕ) (n : Fields) (q l : ℕ) → AmongReady s p seen → head_of s p.at ≡ Some n
       → FieldsStand p n
       → get_or seen (mark_place n.key) 0 ≡ 0 → (n.size ≡ 0 → ⊥)
-      → (w : WalkEnd) → walk_of s k (beneath s p n) ≡ w
+      → (w : Option WalkEnd) → walk_of s k (beneath s p n) ≡ w
       → and_then w (λ m lf. walk_of s k (in_rest (after_inner p n m lf) (set seen (mark_place n.key) 1) n.last)) ≡
-      Next q l
+      walk_to q l
       → NodesAre s p seen q l
-  sound_inner p seen n q l rd hd st fr ne Bad e h = absurd (bad_next h)
-  sound_inner p seen n q l rd hd st fr ne (Next m lf) e h =
+  sound_inner p seen n q l rd hd st fr ne None e h = absurd (bad_next h)
+  sound_inner p seen n q l rd hd st fr ne (Some w) e h =
       let sy = head_says s p.at small n hd in
       let g =
-      ih (beneath s p n) m lf e (score_bound s small p seen n rd hd st fr)
+      ih (beneath s p n) w.end w.left e (score_bound s small p seen n rd hd st fr)
       (λ z. absurd (ne (st.empty (omega arith)).1))
       in
-      inner_step s small p seen n rd hd st fr ne m lf g q l
-      (ih (in_rest (after_inner p n m lf) (set seen (mark_place n.key) 1) n.last) q l h
-      (next_ready s small p seen n rd hd st fr m (m - p.next) lf false g.within) refl sy.within)
+      inner_step s small p seen n rd hd st fr ne w.end w.left g q l
+      (ih (in_rest (after_inner p n w.end w.left) (set seen (mark_place n.key) 1) n.last) q l h
+      (next_ready s small p seen n rd hd st fr w.end (w.end - p.next) w.left false g.within) refl sy.within)
 
-  sound_node : (p : Among) (seen : List ℕ) (q l : ℕ) (w : Head) → head_of s p.at ≡ w
-      → node_then w s p seen (walk_of s k) ≡ Next q l → SoundT s (in_node p seen) q l
-  sound_node p seen q l head.Cut e h rd = absurd (bad_next h)
-  sound_node p seen q l (head.Node n) e h rd =
+  sound_node : (p : Among) (seen : List ℕ) (q l : ℕ) (w : Option Fields) → head_of s p.at ≡ w
+      → node_then w s p seen (walk_of s k) ≡ walk_to q l → SoundT s (in_node p seen) q l
+  sound_node p seen q l None e h rd = absurd (bad_next h)
+  sound_node p seen q l (Some n) e h rd =
       by_test (stands p n && eqb (get_or seen (mark_place n.key) 0) 0)
       (λ t.
       let a = and_true_both (stands p n) (eqb (get_or seen (mark_place n.key) 0) 0) t in
@@ -591,9 +598,9 @@ module _ (s : List ℕ) (small : Bytes s) (k : ℕ) (ih : (t : Task) (q l : ℕ)
       let sy = head_says s p.at small n e in
       by_test (eqb n.size 0)
       (λ z.
-      by_test (eqb (half_of s p n) no_half)
+      by_test (eqb (half_number (half_of s p n)) no_half)
       (λ w.
-      leaf_step s small p seen n rd e st fr q l (eqb-true n.size 0 z) (eqb-true (half_of s p n) no_half w)
+      leaf_step s small p seen n rd e st fr q l (eqb-true n.size 0 z) (eqb-true (half_number (half_of s p n)) no_half w)
       (ih (in_rest (after_leaf p n) (set seen (mark_place n.key) 1) n.last) q l (rw (t, z, w) at h)
       (next_ready s small p seen n rd e st fr p.next p.back (p.left - 1) p.own rd.next) refl
       sy.within))
@@ -603,7 +610,7 @@ module _ (s : List ℕ) (small : Bytes s) (k : ℕ) (ih : (t : Task) (q l : ℕ)
       (walk_of s k (beneath s p n)) refl (rw (t, z) at h)))
       (λ t. absurd (bad_next (rw t at h)))
 
-pub sound : (s : List ℕ) (small : Bytes s) (k : ℕ) (t : Task) (q l : ℕ) → walk_of s k t ≡ Next q l → SoundT s t q l
+pub sound : (s : List ℕ) (small : Bytes s) (k : ℕ) (t : Task) (q l : ℕ) → walk_of s k t ≡ walk_to q l → SoundT s t q l
 unfolding walk_of
 sound s small zero t q l h = absurd (bad_next h)
 sound s small (suc k) (in_group at a left) q l h = sound_group s small k (sound s small k) at a left q l
@@ -611,3 +618,12 @@ sound s small (suc k) (in_group at a left) q l h = sound_group s small k (sound 
 sound s small (suc k) (in_node p seen) q l h = sound_node s small k (sound s small k) p seen q l (head_of s p.at) refl
     h
 sound s small (suc k) (in_rest p seen last) q l h = sound_rest s small k (sound s small k) p seen last q l h
+
+-- the whole image ends at the total length, with no entries to come
+pub whole_to : (w : Option WalkEnd) (total : ℕ) → whole_is w total ≡ true → w ≡ walk_to total 0
+whole_to None total h = absurd (false≢true h)
+whole_to (Some w) total h =
+    let a = and_true_both (eqb w.end total) (eqb w.left 0) h in
+    let b = eqb-true w.end total a.0 in
+    let c = eqb-true w.left 0 a.1 in
+    λ i. walk_to (b i) (c i)

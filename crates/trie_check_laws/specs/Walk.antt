@@ -1,23 +1,21 @@
 -- The check of a trie as a definition: a walk over the positions of one buffer, down the tree (document 01, "Trie
 -- image").
-use Rattle.std.specs.Prelude.{◌%◌, ◌*◌, ◌+◌, ◌-◌, suc, zero, ℕ, Bool, ◌&&◌, ◌||◌, false, not, true, List, eqb, leb, ltb, drop, get_or, length, replicate, set, take}
-use Rattle.std.proofs.Math.Option.{Option, none, some}
+use Rattle.std.specs.Prelude.{◌%◌, ◌*◌, ◌+◌, ◌-◌, suc, zero, ℕ, Bool, ◌&&◌, ◌||◌, false, not, true, List, eqb, leb}
+use Rattle.std.specs.Prelude.{ltb, drop, get_or, length, replicate, set, take, None, Option, Some}
 use Rattle.octets.specs.Lists.{if◌then◌otherwise◌}
 use Rattle.octets.specs.Octets.{from_be, number_at}
 use Rattle.entries.specs.Names.{longest_name}
-use Rattle.entries_laws.specs.Signs.{half_after, no_half}
+use Rattle.entries_laws.specs.Halves.{half_behind, half_number}
+use Rattle.entries_laws.specs.Signs.{no_half}
+use Rattle.entries_laws.specs.declared.Half.TheVariants as half
+use Rattle.entries_laws.specs.declared.Half.{Half}
 use Rattle.frame_laws.specs.Test.{frame_is}
 use Rattle.trie.specs.Reading.{child_size, label_length, last_mark, score_size}
 use Rattle.trie.specs.Trie.{longest_label, own_size, size_of}
 use Rattle.trie_laws.specs.Keys.{key}
 use Rattle.trie_check_laws.specs.declared.Fields.{Fields}
-use Rattle.trie_check_laws.specs.declared.Head.TheVariants.{Cut, Node}
-use Rattle.trie_check_laws.specs.declared.Head.{Head}
 use Rattle.trie_check_laws.specs.declared.Above.{Above}
 use Rattle.trie_check_laws.specs.declared.Among.{Among}
-use Rattle.trie_check_laws.specs.declared.BehindNode.TheVariants as reached
-use Rattle.trie_check_laws.specs.declared.BehindNode.{BehindNode}
-use Rattle.trie_check_laws.specs.declared.WalkEnd.TheVariants.{Bad, Next}
 use Rattle.trie_check_laws.specs.declared.WalkEnd.{WalkEnd}
 
 -- One node. Its fields, where its header is h and the bytes t stand behind it.
@@ -47,23 +45,23 @@ head_fields h t at =
     }
 
 -- the node at a position, if its bytes are there and its score field has the smallest size
-unfoldable pub head_of : List ℕ → ℕ → Head
+unfoldable pub head_of : List ℕ → ℕ → Option Fields
 head_of s at =
     if leb (length s) at
-    then Cut
+    then None
     otherwise if ltb (length s - at - 1) (body_of (get_or s at 0))
-    then Cut
+    then None
     otherwise if eqb (size_of (field_in (get_or s at 0) (drop (suc at) s))) (score_size (get_or s at 0))
-    then Node (head_fields (get_or s at 0) (drop (suc at) s) at)
-    otherwise Cut
+    then Some (head_fields (get_or s at 0) (drop (suc at) s) at)
+    otherwise None
 
 -- where the group at a position ends: past its first node with the last mark
-abbrev pub end_after : Head → (ℕ → Option ℕ) → Option ℕ
-end_after Cut f = none
-end_after (Node n) f = if n.last then some n.end otherwise f n.end
+abbrev pub end_after : Option Fields → (ℕ → Option ℕ) → Option ℕ
+end_after None f = None
+end_after (Some n) f = if n.last then Some n.end otherwise f n.end
 
 unfoldable pub group_end : List ℕ → ℕ → ℕ → Option ℕ
-group_end s zero at = none
+group_end s zero at = None
 group_end s (suc k) at = end_after (head_of s at) (λ e. group_end s k e)
 
 -- the label of a node, which stands at its end
@@ -71,8 +69,8 @@ abbrev pub label_at : List ℕ → Fields → List ℕ
 label_at s n = take n.len (drop (n.end - n.len) s)
 
 -- the half of a pair that is open behind it: a label may be cut inside a pair
-abbrev pub half_of : List ℕ → Among → Fields → ℕ
-half_of s p n = half_after p.half (label_at s n)
+abbrev pub half_of : List ℕ → Among → Fields → Half
+half_of s p n = half_behind p.half (label_at s n)
 
 -- The tests of a node in its place. A sibling that is first and last has a label, and stands under one of 7 bytes or at
 -- the top.
@@ -132,7 +130,7 @@ abbrev pub after_inner : Among → Fields → ℕ → ℕ → Among
 after_inner p n q left = after_node p n q (q - p.next) false left
 
 -- what stands above a group
-abbrev pub above : ℕ → ℕ → ℕ → Bool → Above
+abbrev pub above : ℕ → Half → ℕ → Bool → Above
 above path half score full = record { path = path; half = half; score = score; full = full }
 
 -- before the group at a position, which ends at e
@@ -160,13 +158,16 @@ pub data Task : Type 0 where
   in_node : Among → List ℕ → Task
   in_rest : Among → List ℕ → Bool → Task
 
-abbrev pub and_then : WalkEnd → (ℕ → ℕ → WalkEnd) → WalkEnd
-and_then Bad f = Bad
-and_then (Next p l) f = f p l
+abbrev pub walk_to : ℕ → ℕ → Option WalkEnd
+walk_to end left = Some (record { end = end; left = left })
 
-abbrev pub into : Option ℕ → (ℕ → WalkEnd) → WalkEnd
-into none f = Bad
-into (some e) f = f e
+abbrev pub and_then : Option WalkEnd → (ℕ → ℕ → Option WalkEnd) → Option WalkEnd
+and_then None f = None
+and_then (Some w) f = f w.end w.left
+
+abbrev pub into : Option ℕ → (ℕ → Option WalkEnd) → Option WalkEnd
+into None f = None
+into (Some e) f = f e
 
 -- the group below a node
 abbrev pub beneath : List ℕ → Among → Fields → Task
@@ -185,45 +186,47 @@ abbrev pub mark_place : ℕ → ℕ
 mark_place k = if ltb k mark_count then k otherwise k % low_places
 
 -- a leaf ends a name, so no half is open there
-abbrev pub node_on : Bool → List ℕ → Among → List ℕ → Fields → (Task → WalkEnd) → WalkEnd
+abbrev pub node_on : Bool → List ℕ → Among → List ℕ → Fields → (Task → Option WalkEnd) → Option WalkEnd
 node_on true s p seen n f =
-    if eqb (half_of s p n) no_half then f (in_rest (after_leaf p n) (set seen (mark_place n.key) 1) n.last) otherwise Bad
+    if eqb (half_number (half_of s p n)) no_half then f
+    (in_rest (after_leaf p n) (set seen (mark_place n.key) 1) n.last) otherwise None
 node_on false s p seen n f =
     and_then (f (beneath s p n))
     (λ q left. f (in_rest (after_inner p n q left) (set seen (mark_place n.key) 1) n.last))
 
-abbrev pub node_then : Head → List ℕ → Among → List ℕ → (Task → WalkEnd) → WalkEnd
-node_then Cut s p seen f = Bad
-node_then (Node n) s p seen f =
-    if stands p n && eqb (get_or seen (mark_place n.key) 0) 0 then node_on (eqb n.size 0) s p seen n f otherwise Bad
+abbrev pub node_then : Option Fields → List ℕ → Among → List ℕ → (Task → Option WalkEnd) → Option WalkEnd
+node_then None s p seen f = None
+node_then (Some n) s p seen f =
+    if stands p n && eqb (get_or seen (mark_place n.key) 0) 0 then node_on (eqb n.size 0) s p seen n f otherwise None
 
 abbrev pub none_seen : List ℕ
 none_seen = replicate mark_count 0
 
-unfoldable pub walk_of : List ℕ → ℕ → Task → WalkEnd
-walk_of s zero t = Bad
+unfoldable pub walk_of : List ℕ → ℕ → Task → Option WalkEnd
+walk_of s zero t = None
 walk_of s (suc k) (in_group at a left) =
     into (group_end s (suc k) at) (λ e. walk_of s k (in_node (begin_group at e a left) none_seen))
 walk_of s (suc k) (in_node p seen) = node_then (head_of s p.at) s p seen (λ t. walk_of s k t)
-walk_of s (suc k) (in_rest p seen last) = if last then Next p.next p.left otherwise walk_of s k (in_node p seen)
+walk_of s (suc k) (in_rest p seen last) = if last then walk_to p.next p.left otherwise walk_of s k (in_node p seen)
 
 -- the place behind a node, where w is the walk over the group below it
-abbrev pub behind_group : WalkEnd → Among → Fields → BehindNode
-behind_group Bad p n = reached.Bad
-behind_group (Next q left) p n = reached.At (after_inner p n q left)
+abbrev pub behind_group : Option WalkEnd → Among → Fields → Option Among
+behind_group None p n = None
+behind_group (Some w) p n = Some (after_inner p n w.end w.left)
 
-abbrev pub behind_leaf : Bool → Among → Fields → BehindNode
-behind_leaf true p n = reached.At (after_leaf p n)
-behind_leaf false p n = reached.Bad
+abbrev pub behind_leaf : Bool → Among → Fields → Option Among
+behind_leaf true p n = Some (after_leaf p n)
+behind_leaf false p n = None
 
-abbrev pub reached_by : List ℕ → Among → Fields → WalkEnd → BehindNode
-reached_by s p n w = if eqb n.size 0 then behind_leaf (eqb (half_of s p n) no_half) p n otherwise behind_group w p n
+abbrev pub reached_by : List ℕ → Among → Fields → Option WalkEnd → Option Among
+reached_by s p n w = if eqb n.size 0 then behind_leaf (eqb (half_number (half_of s p n)) no_half) p n
+    otherwise behind_group w p n
 
 -- The whole image: the walk from byte 7 on ends at the total length, and all n entries were met. A trie of no entries
 -- has no group.
-abbrev pub whole_is : WalkEnd → ℕ → Bool
-whole_is Bad total = false
-whole_is (Next p left) total = eqb p total && eqb left 0
+abbrev pub whole_is : Option WalkEnd → ℕ → Bool
+whole_is None total = false
+whole_is (Some w) total = eqb w.end total && eqb w.left 0
 
 -- enough turns for a buffer
 abbrev pub turns : List ℕ → ℕ
@@ -233,7 +236,7 @@ unfoldable pub trie_body_is : List ℕ → Bool
 trie_body_is s =
     if eqb (number_at 2 s 5) 0
     then eqb (number_at 4 s 1) 7
-    otherwise whole_is (walk_of s (turns s) (in_group 7 (above 0 no_half 0 true) (number_at 2 s 5))) (number_at 4 s 1)
+    otherwise whole_is (walk_of s (turns s) (in_group 7 (above 0 half.None 0 true) (number_at 2 s 5))) (number_at 4 s 1)
 
 -- the whole check of a trie
 unfoldable pub trie_checks : List ℕ → Bool

@@ -1,6 +1,8 @@
 // What the check of a trie carries through its walk. The rest of this crate is definitions and laws.
 #![tactic(auto)]
 
+use entries_laws::Half;
+
 // What a node's header and fields say: where it ends, the last-sibling mark, the score field, the child field's size
 // and value, the key of its label (0 for the empty label, else one more than the first byte) and the label's length.
 #[derive(Clone, Copy)]
@@ -12,13 +14,6 @@ pub struct Fields {
     pub child: usize,
     pub key: usize,
     pub len: usize,
-}
-
-// The node at an offset, or none is laid out there.
-#[derive(Clone, Copy)]
-pub enum Head {
-    Cut,
-    Node(Fields),
 }
 
 // Where the check stands among siblings: the node at `at`; the next group is to begin at `next`, which the next child
@@ -35,7 +30,7 @@ pub struct Among {
     pub score: usize,
     pub key: usize,
     pub path: usize,
-    pub half: usize,
+    pub half: Half,
     pub full: bool,
     pub left: usize,
 }
@@ -45,21 +40,14 @@ pub struct Among {
 #[derive(Clone, Copy)]
 pub struct Above {
     pub path: usize,
-    pub half: usize,
+    pub half: Half,
     pub score: usize,
     pub full: bool,
 }
 
-// What is known behind a node.
-#[derive(Clone, Copy)]
-pub enum BehindNode {
-    Bad,
-    At(Among),
-}
-
 // Where a group ends with all its descendants, and how many entries are still to come.
 #[derive(Clone, Copy)]
-pub enum WalkEnd {
-    Bad,
-    Next(usize, usize),
+pub struct WalkEnd {
+    pub end: usize,
+    pub left: usize,
 }

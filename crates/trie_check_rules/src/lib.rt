@@ -6,6 +6,7 @@ ghost use Rattle.trie_check_laws.specs.Walk.{after_node, begin_group, child_stan
 ghost use Rattle.trie_check_laws.specs.Walk.{mark_place, score_of, score_stands, stands};
 
 use limits::LONGEST_NAME;
+use trie_check_laws::{Above, Among, Fields};
 
 // The places for the marks of keys: `mark_count`; the low ones, where no byte of 20 to 7E has its own: `low_places`.
 pub const MARK_COUNT: usize = 128;
@@ -23,7 +24,7 @@ pub fn mark_place(key: usize) -> usize
 }
 
 // Whether a first sibling may be the last: it has a label, and stands under one of 7 bytes or at the top.
-fn is_lonely(p: trie_check_laws::Among, n: trie_check_laws::Fields) -> bool
+fn is_lonely(p: Among, n: Fields) -> bool
     ensures { result ≡ lonely p n }
 {
     if !n.last {
@@ -38,7 +39,7 @@ fn is_lonely(p: trie_check_laws::Among, n: trie_check_laws::Fields) -> bool
 // Whether the score field stands: 0 for a first sibling but the first of all. Siblings stand in rank (document 01:
 // "higher score first, at equal scores the earlier name"; `outranks`): falling scores, at equal ones rising keys of
 // their labels.
-fn score_stands(p: trie_check_laws::Among, n: trie_check_laws::Fields) -> bool
+fn score_stands(p: Among, n: Fields) -> bool
     ensures { result ≡ score_stands p n }
 {
     if p.first {
@@ -60,7 +61,7 @@ fn score_stands(p: trie_check_laws::Among, n: trie_check_laws::Fields) -> bool
 }
 
 // Whether the label stands: names of at most 48 bytes, an empty label only on a leaf that is not in the first group.
-fn label_stands(p: trie_check_laws::Among, n: trie_check_laws::Fields) -> bool
+fn label_stands(p: Among, n: Fields) -> bool
     ensures { result ≡ label_stands p n }
 {
     if LONGEST_NAME < p.path {
@@ -78,19 +79,9 @@ fn label_stands(p: trie_check_laws::Among, n: trie_check_laws::Fields) -> bool
     n.size == 0
 }
 
-// a less b, 0 where b is larger.
-fn less(a: usize, b: usize) -> usize
-    ensures { result ≡ a - b }
-{
-    if a < b {
-        return 0;
-    }
-    a - b
-}
-
 // Whether the child field stands: a leaf is one of the entries to come; else it says where the next group is, in the
 // smallest size.
-fn child_stands(p: trie_check_laws::Among, n: trie_check_laws::Fields) -> bool
+fn child_stands(p: Among, n: Fields) -> bool
     ensures { result ≡ child_stands p n }
 {
     if n.size == 0 {
@@ -102,11 +93,11 @@ fn child_stands(p: trie_check_laws::Among, n: trie_check_laws::Fields) -> bool
     if !p.own {
         return n.size == trie_header::size_of(n.child);
     }
-    n.size == trie_header::own_size(less(n.child, n.size))
+    n.size == trie_header::own_size(n.child.saturating_sub(n.size))
 }
 
 // The tests of a node in its place.
-pub fn fits_here(p: trie_check_laws::Among, n: trie_check_laws::Fields) -> bool
+pub fn fits_here(p: Among, n: Fields) -> bool
     ensures { result ≡ stands p n }
 {
     if !score_stands(p, n) {
@@ -119,7 +110,7 @@ pub fn fits_here(p: trie_check_laws::Among, n: trie_check_laws::Fields) -> bool
 }
 
 // A node's score: the whole field for the first node of all, the score above for another first sibling.
-pub fn new_score(p: trie_check_laws::Among, n: trie_check_laws::Fields) -> usize
+pub fn new_score(p: Among, n: Fields) -> usize
     requires { p.first ≡ false → n.field ≤ p.score }
     ensures { result ≡ score_of p n }
 {
@@ -134,47 +125,34 @@ pub fn new_score(p: trie_check_laws::Among, n: trie_check_laws::Fields) -> usize
 
 // Behind a node: where the next group is to begin, how the next child field says so, and the entries still to
 // come.
-pub fn after_node(
-    p: trie_check_laws::Among,
-    n: trie_check_laws::Fields,
-    next: usize,
-    back: usize,
-    own: bool,
-    left: usize,
-) -> trie_check_laws::Among
+pub fn after_node(p: Among, n: Fields, next: usize, back: usize, own: bool, left: usize) -> Among
     requires { p.first ≡ false → n.field ≤ p.score }
     ensures { result ≡ after_node p n next back own left }
 {
-    trie_check_laws::Among {
+    Among {
         at: n.end,
-        next: next,
-        back: back,
-        own: own,
+        next,
+        back,
+        own,
         first: false,
         score: new_score(p, n),
         key: n.key,
         path: p.path,
         half: p.half,
         full: p.full,
-        left: left,
+        left,
     }
 }
 
 // Before the group at an offset, whose siblings end at next.
-pub fn begin_at(
-    at: usize,
-    next: usize,
-    a: trie_check_laws::Above,
-    left: usize,
-) -> trie_check_laws::Among
+pub fn begin_at(at: usize, next: usize, a: Above, left: usize) -> Among
     requires { at ≤ next }
     ensures { result ≡ begin_group at next a left }
 {
-    let back = next - at;
-    trie_check_laws::Among {
-        at: at,
-        next: next,
-        back: back,
+    Among {
+        at,
+        next,
+        back: next - at,
         own: true,
         first: true,
         score: a.score,
@@ -182,6 +160,6 @@ pub fn begin_at(
         path: a.path,
         half: a.half,
         full: a.full,
-        left: left,
+        left,
     }
 }

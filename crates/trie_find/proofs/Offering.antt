@@ -1,6 +1,6 @@
 -- The entries offered so far and those that the search still offers are the completion.
 use Prim.Native.Nat.{◌*◌, ◌+◌, ◌-◌, ◌<◌, ◌≤◌, suc, zero, ℕ}
-use mathlib.Core.Path.{◌∙◌, ◌≡◌, ap, refl, sym}
+use mathlib.Core.Path.{◌∙◌, ◌≡◌, ap, refl, subst, sym}
 use mathlib.Core.Bool.{true}
 use mathlib.Core.List.{List, [], ◌++◌, ◌∷◌, append_assoc, append-nil}
 use lib.ListN.{drop, get_or, length, length-append, length-take}
@@ -13,7 +13,6 @@ use Rattle.entries.specs.Entries.{Entry, entry}
 use Rattle.answer.specs.Answers.{entries_bytes, entry_bytes, given}
 use Rattle.answer.proofs.Entries.{length-entry_bytes}
 use Rattle.completion.specs.Complete.{entry_room}
-use Rattle.answer.specs.declared.Completion.TheVariants as answer
 use Rattle.trie_find_laws.specs.Search as search
 use Rattle.trie_find_laws.specs.Search.{search_offers, wait}
 use Rattle.trie_find_laws.proofs.Descend.{start_offers}
@@ -23,7 +22,8 @@ use Rattle.trie_find_queue.specs.Waits.{known_of, nowhere, waits}
 use Rattle.trie_find_turns.specs.declared.TrieTurn.{TrieTurn}
 use Rattle.trie_find_turns.specs.Turns.{Reaches, SomeTodo, StandAll, Todo, TurnMatches}
 use Rattle.trie_find_turns.proofs.Turning.{all-length}
-use Rattle.trie_find.specs.Offers.{Gives, OffersWritten, TurnGiven, TurnReady, first_waits, in_trie, is_trie, turn_of}
+use Rattle.trie_find.specs.Offers.{Gives, OffersWritten, TurnGiven, TurnReady, first_waits, in_trie, is_trie, offer_of}
+use Rattle.trie_find.specs.Offers.{turn_of}
 use Rattle.trie_find.proofs.Starting.{trie_valid}
 
 -- the first of the nodes that wait, and the others
@@ -137,7 +137,7 @@ module _ (bs p : List ℕ) (k : ℕ) (before after : List ℕ) (q : NodeQueue) (
   ended e = sym (append-nil v.done) ∙ ap (λ w. v.done ++ w) (sym e) ∙ v.list
 
   answered : v.done ≡ completion (in_trie bs) p k → entry_room * k ≤ length before
-      → OffersWritten (completion (in_trie bs) p k) before (answer.Offered offered bytes 0) after
+      → OffersWritten (completion (in_trie bs) p k) before (offer_of offered bytes) after
   answered e room =
       let s = v.size in
       let r = v.room in
@@ -153,12 +153,15 @@ module _ (bs p : List ℕ) (k : ℕ) (before after : List ℕ) (q : NodeQueue) (
   offers_none (suc n) = refl
 
   pub offering-full : k ≤ offered → entry_room * k ≤ length before
-      → OffersWritten (completion (in_trie bs) p k) before (answer.Offered offered bytes 0) after
-  offering-full h room = let z : k - offered ≡ 0 = omega arith in
-      answered (ended (ap (λ n. search_offers n v.ws) z)) room
+      → OffersWritten (completion (in_trie bs) p k) before (offer_of k bytes) after
+  offering-full h room =
+      let z : k - offered ≡ 0 = omega arith in
+      let e : offered ≡ k = omega (arith, v.upto) in
+      subst (λ n. OffersWritten (completion (in_trie bs) p k) before (offer_of n bytes) after) e
+      (answered (ended (ap (λ n. search_offers n v.ws) z)) room)
 
   pub offering-none : q.count ≡ 0 → entry_room * k ≤ length before
-      → OffersWritten (completion (in_trie bs) p k) before (answer.Offered offered bytes 0) after
+      → OffersWritten (completion (in_trie bs) p k) before (offer_of offered bytes) after
   offering-none h room =
       let l = all-length bs (waits q) v.ws v.all in
       let a = length-take q.count q.nodes in

@@ -1,5 +1,5 @@
 -- What completion from a checked trie gives.
-use Rattle.std.specs.Prelude.{◌+◌, ◌<◌, ◌≤◌, ℕ, ◌≡◌, Bool, List, ◌∷◌}
+use Rattle.std.specs.Prelude.{◌+◌, ◌<◌, ◌≤◌, ℕ, ◌≡◌, Bool, Ok, List, ◌∷◌}
 use Rattle.octets.specs.Octets.{overwrite}
 use Rattle.entries.specs.Completion.{max_count}
 use Rattle.entries.specs.Entries.{Entry}
@@ -7,8 +7,7 @@ use Rattle.answer.specs.Answers.{entries_bytes, given}
 use Rattle.frame.specs.Frame.{entries_of, is_read}
 use Rattle.completion.specs.Complete.{offered_as}
 use Rattle.answer.specs.Reports.{offered_of}
-use Rattle.answer.specs.declared.Completion.{Completion}
-use Rattle.answer.specs.declared.Completion.TheVariants as answer
+use Rattle.answer.specs.declared.Offered.{Offered}
 use Rattle.trie.specs.Reading.{read_trie}
 use Rattle.trie.specs.Trie.{levels}
 use Rattle.trie_find_laws.specs.Descend.{start_for}
@@ -54,10 +53,10 @@ abbrev pub TurnGiven : List ℕ → NodeQueue → ℕ → TrieTurn → Type 0
 TurnGiven bs q most r = (ws : List search.WaitingForest) → StandAll bs (waits q) ws → Gives bs most ws r
 
 -- the answer of a completion that takes no looks
-abbrev pub offer_of : ℕ → ℕ → Completion
-offer_of offered bytes = answer.Offered offered bytes 0
+abbrev pub offer_of : ℕ → ℕ → Offered
+offer_of offered bytes = record { offered = offered; bytes = bytes; looks = 0 }
 
 -- the list l is answered, with looks 0, and written at the front of the destination
-pub record OffersWritten (l : List Entry) (before : List ℕ) (r : Completion) (after : List ℕ) : Type 0 where
-  pub answer : offered_of r ≡ given (offered_as l 0)
+pub record OffersWritten (l : List Entry) (before : List ℕ) (r : Offered) (after : List ℕ) : Type 0 where
+  pub answer : offered_of (Ok r) ≡ given (offered_as l 0)
   pub written : after ≡ overwrite before (entries_bytes l)

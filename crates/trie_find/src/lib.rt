@@ -12,9 +12,10 @@ ghost use Rattle.trie_find_turns.specs.Turns.{Reaches};
 ghost use Rattle.trie_find.specs.Offers.{OffersWritten, TurnGiven, TurnReady, first_waits, in_trie, is_trie};
 ghost use Rattle.trie_find.specs.Offers.{offer_of};
 
-use answer::Completion;
+use answer::Offered;
 use limits::{COUNT_AT, FRAME_LENGTH, LONGEST_NAME};
 use trie_find_queue::{NodeQueue, WaitingNode};
+use trie_find_turns::TrieTurn;
 
 // The nodes that wait at first: those of the first group for the empty prefix, else the one that the prefix leads to.
 fn start(trie: &[u8], prefix: &[u8]) -> NodeQueue
@@ -34,14 +35,12 @@ fn start(trie: &[u8], prefix: &[u8]) -> NodeQueue
 }
 
 // One turn, from the first of the nodes that wait.
-fn next_turn(trie: &[u8], q: NodeQueue, most: usize) -> trie_find_turns::TrieTurn
+fn next_turn(trie: &[u8], q: NodeQueue, most: usize) -> TrieTurn
     requires { TurnReady trie.now q most }
     ensures { TurnGiven trie.now q most result }
 {
-    let nodes = q.nodes;
-    let x = nodes[0];
     let others = trie_find_queue::rest(q);
-    trie_find_turns::follow(trie, x, others, most)
+    trie_find_turns::follow(trie, q.nodes[0], others, most)
 }
 
 // Writes the entry of a leaf, for which there is room: where it ends.
@@ -50,40 +49,36 @@ fn put_leaf(dst: &mut [u8], at: usize, x: WaitingNode) -> usize
     ensures { (dst.new ≡ sets dst.old at (entry_bytes (known_of x)))
         × (result ≡ at + length (entry_bytes (known_of x))) }
 {
-    let path = x.path;
-    let n = x.len;
-    answer_write::put_entry(dst, at, &path[..n], x.score)
+    answer_write::put_entry(dst, at, &x.path[..x.len], x.score)
 }
 
 // The answer of a completion from a trie, which takes no looks.
-fn offer(offered: usize, bytes: usize) -> Completion
+fn offer(offered: usize, bytes: usize) -> Offered
     ensures { result ≡ offer_of offered bytes }
 {
-    Completion::Offered {
-        offered: offered,
-        bytes: bytes,
+    Offered {
+        offered,
+        bytes,
         looks: 0,
     }
 }
 
 // Completion from a trie that was checked, for a count from 1 to the limit and a destination with room for as many
 // entries.
-pub fn complete(trie: &[u8], prefix: &[u8], k: usize, dst: &mut [u8]) -> Completion
+pub fn complete(trie: &[u8], prefix: &[u8], k: usize, dst: &mut [u8]) -> Offered
     requires { (is_trie trie.now ≡ true) × (1 ≤ k) × (k ≤ max_count) × (entry_room * k ≤ length dst.old) }
     ensures { OffersWritten (completion (in_trie trie.now) prefix.now k) dst.old
         result dst.new }
 {
     let mut queue = start(trie, prefix);
-    let mut offered = 0;
     let mut bytes = 0;
-    while offered < k {
+    for offered in 0..k {
         if queue.count == 0 {
             return offer(offered, bytes);
         }
         let turn = next_turn(trie, queue, k - offered - 1);
         bytes = put_leaf(dst, bytes, turn.leaf);
         queue = turn.queue;
-        offered += 1;
     }
-    offer(offered, bytes)
+    offer(k, bytes)
 }

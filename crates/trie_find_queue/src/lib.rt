@@ -11,7 +11,8 @@ ghost use Rattle.trie_find_queue.specs.Waits.{waits};
 use limits::{LONGEST_NAME, MAX_COUNT};
 
 // A node that waits: the path down to it with its own label, and its score; where it stands in the trie; from where its
-// child field counts; whether no later sibling waits with it.
+// child field counts; whether no later sibling waits with it. The path is an array, with its length beside, since there
+// is no heap.
 #[derive(Clone, Copy)]
 pub struct WaitingNode {
     pub path: [u8; LONGEST_NAME],
@@ -22,7 +23,7 @@ pub struct WaitingNode {
     pub last: bool,
 }
 
-// The nodes that wait, the best first.
+// The nodes that wait, the best first: an array and how many wait in it, since there is no heap.
 #[derive(Clone, Copy)]
 pub struct NodeQueue {
     pub nodes: [WaitingNode; MAX_COUNT],
@@ -34,11 +35,7 @@ fn node_outranks(a: WaitingNode, b: WaitingNode) -> bool
     requires { (a.len ≤ longest_name) × (b.len ≤ longest_name) }
     ensures { result ≡ node_outranks a b }
 {
-    let p = a.path;
-    let q = b.path;
-    let n = a.len;
-    let m = b.len;
-    entries_rank::outranks(&p[..n], a.score, &q[..m], b.score)
+    entries_rank::outranks(&a.path[..a.len], a.score, &b.path[..b.len], b.score)
 }
 
 // How many nodes come before x.
@@ -46,17 +43,12 @@ fn rank_among(q: NodeQueue, x: WaitingNode) -> usize
     requires { QueueReady q × (x.len ≤ longest_name) }
     ensures { result ≡ rank_among x (waits q) }
 {
-    let nodes = q.nodes;
-    let count = q.count;
-    let mut i = 0;
-    while i < count {
-        let y = nodes[i];
-        if !node_outranks(y, x) {
+    for (i, y) in q.nodes[..q.count].iter().enumerate() {
+        if !node_outranks(*y, x) {
             return i;
         }
-        i += 1;
     }
-    i
+    q.count
 }
 
 // Puts x at index i; if there are then more than `most`, the last is dropped.
@@ -64,27 +56,13 @@ fn put_at(q: NodeQueue, i: usize, x: WaitingNode, most: usize) -> NodeQueue
     requires { (i ≤ q.count) × (q.count ≤ most) × (most ≤ max_count) }
     ensures { Queued most (put_at i x (waits q)) result }
 {
-    let count = q.count;
+    let count = most.min(q.count + 1);
     let mut nodes = q.nodes;
-    let mut carry = x;
-    let mut j = i;
-    while j < count {
-        let y = nodes[j];
-        nodes[j] = carry;
-        carry = y;
-        j += 1;
+    if i < count {
+        nodes.copy_within(i..count - 1, i + 1);
+        nodes[i] = x;
     }
-    if count < most {
-        nodes[count] = carry;
-        return NodeQueue {
-            nodes: nodes,
-            count: count + 1,
-        };
-    }
-    NodeQueue {
-        nodes: nodes,
-        count: count,
-    }
+    NodeQueue { nodes, count }
 }
 
 // Puts x in its place; if there are then more than `most`, the last is dropped.
@@ -103,14 +81,9 @@ pub fn rest(q: NodeQueue) -> NodeQueue
 {
     let count = q.count;
     let mut nodes = q.nodes;
-    let mut i = 1;
-    while i < count {
-        let y = nodes[i];
-        nodes[i - 1] = y;
-        i += 1;
-    }
+    nodes.copy_within(1..count, 0);
     NodeQueue {
-        nodes: nodes,
+        nodes,
         count: count - 1,
     }
 }

@@ -89,9 +89,9 @@ pub fn arrive(
     WaitingNode {
         path: whole,
         len: len + trie_header::label_length(h),
-        score: score,
-        at: at,
-        from: from,
+        score,
+        at,
+        from,
         last: trie_header::last_mark(h),
     }
 }
@@ -101,9 +101,8 @@ pub fn first_child(trie: &[u8], x: WaitingNode) -> WaitingNode
     requires { ChildRoom trie.now x }
     ensures { result ≡ first_child trie.now x }
 {
-    let path = x.path;
     let at = children_at(trie, x.at, x.from);
-    arrive(trie, path, x.len, x.score, at, at)
+    arrive(trie, x.path, x.len, x.score, at, at)
 }
 
 // The next sibling of a node: it has the path in front of the node's label, and its score is lower by its field.
@@ -111,11 +110,10 @@ pub fn next_sibling(trie: &[u8], x: WaitingNode) -> WaitingNode
     requires { NextRoom trie.now x }
     ensures { result ≡ next_sibling trie.now x }
 {
-    let path = x.path;
     let own = x.at;
     let at = behind(trie, own);
     let from = from_behind(trie, own, x.from);
     let len = x.len - trie_header::label_length(trie[own]);
     let score = x.score - score_field(trie, at);
-    arrive(trie, path, len, score, at, from)
+    arrive(trie, x.path, len, score, at, from)
 }

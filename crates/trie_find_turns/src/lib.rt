@@ -56,9 +56,7 @@ fn is_begun(x: WaitingNode, prefix: &[u8]) -> bool
     requires { x.len ≤ longest_name }
     ensures { result ≡ begins prefix.now (path_of x) }
 {
-    let path = x.path;
-    let n = x.len;
-    octets_code::starts_with(&path[..n], prefix)
+    octets_code::starts_with(&x.path[..x.len], prefix)
 }
 
 // Whether the way to the prefix goes down from a node: it has children, and its path begins the prefix.
@@ -66,12 +64,7 @@ fn goes_down(trie: &[u8], x: WaitingNode, prefix: &[u8]) -> bool
     requires { NodeInside trie.now x.at × (x.len ≤ longest_name) }
     ensures { result ≡ goes_down trie.now x prefix.now }
 {
-    if trie_find_steps::is_leaf(trie, x.at) {
-        return false;
-    }
-    let path = x.path;
-    let n = x.len;
-    octets_code::starts_with(prefix, &path[..n])
+    !trie_find_steps::is_leaf(trie, x.at) && octets_code::starts_with(prefix, &x.path[..x.len])
 }
 
 // Whether the way to the prefix ends at a node: it goes neither down nor to a next sibling.
@@ -79,10 +72,7 @@ fn is_stuck(trie: &[u8], x: WaitingNode, prefix: &[u8]) -> bool
     requires { NodeInside trie.now x.at × (x.len ≤ longest_name) }
     ensures { result ≡ is_stuck trie.now x prefix.now }
 {
-    if !x.last {
-        return false;
-    }
-    !goes_down(trie, x, prefix)
+    x.last && !goes_down(trie, x, prefix)
 }
 
 // The next node on the way to the prefix.
@@ -118,15 +108,7 @@ pub fn nobody() -> NodeQueue
 pub fn only(x: WaitingNode, alone: bool) -> NodeQueue
     ensures { (waits result ≡ with_last x alone ∷ []) × (result.count ≡ 1) }
 {
-    let path = x.path;
-    let y = WaitingNode {
-        path: path,
-        len: x.len,
-        score: x.score,
-        at: x.at,
-        from: x.from,
-        last: alone,
-    };
+    let y = WaitingNode { last: alone, ..x };
     NodeQueue {
         nodes: [y; MAX_COUNT],
         count: 1,

@@ -1,7 +1,8 @@
 -- The fields of a header byte have no bit in common, so that putting them together adds them.
 use Prim.Native.Nat.{◌%◌, ◌*◌, ◌+◌, ◌<◌, ◌≤◌, ℕ}
-use mathlib.Core.Path.{◌∙◌, ◌≡◌, ap}
+use mathlib.Core.Path.{◌∙◌, ◌≡◌, ap, refl}
 use mathlib.Core.Bool.{Bool, false, true}
+use Rattle.std.specs.Int.{from_bool}
 use lib.Bits.{and_mask, bit_and, bit_or, or_shifted}
 use lib.Dec.{eqb, lit<}
 use native.Mathlib.Omega.{arith}
@@ -29,6 +30,14 @@ packed s c m l hs hc hm hl =
     ∙ ap (λ (k : ℕ). bit_or (s * 64) (bit_or (c * 16) k)) (or_shifted m 3 l hl)
     ∙ ap (bit_or (s * 64)) (or_shifted c 4 (m * 8 + l) (omega (arith, hm, hl)))
     ∙ or_shifted s 6 (c * 16 + (m * 8 + l)) (omega (arith, hc, hm, hl))
+
+-- the mark of a flag, as the library makes it
+pub is_bit : (last : Bool) {m : ℕ} → m ≡ from_bool last → m ≡ (if last then 1 otherwise 0)
+is_bit last e = e ∙ go last
+  where
+    go : (b : Bool) → from_bool b ≡ (if b then 1 otherwise 0)
+    go true = refl
+    go false = refl
 
 -- the header byte, from codes and mark that were computed
 pub header_packed :

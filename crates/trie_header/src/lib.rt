@@ -3,7 +3,6 @@
 #![tactic(auto)]
 
 ghost use Rattle.std.specs.Prelude.{◌≡◌, ◌+◌, ◌<◌, ◌≤◌, drop, length, take};
-ghost use Rattle.octets.specs.Lists.{if◌then◌otherwise◌};
 ghost use Rattle.octets.specs.Octets.{number_at};
 ghost use Rattle.trie.specs.Reading.{child_size, label_length, last_mark, score_size, size_at};
 ghost use Rattle.trie.specs.Trie.{code_of, header_byte, own_size, size_of};
@@ -20,20 +19,16 @@ const SIZE_MASK: u8 = 3;
 
 const LABEL_MASK: u8 = 7;
 
-// The smallest size that holds a value.
+// The smallest size that holds a value. A size is a number of bytes, 0, 1, 2 or 4: it goes into sums as it stands.
 pub fn size_of(v: usize) -> usize
     ensures { result ≡ size_of v }
 {
-    if v == 0 {
-        return 0;
+    match v {
+        0 => 0,
+        1..=255 => 1,
+        256..=65535 => 2,
+        _ => 4,
     }
-    if v < 256 {
-        return 1;
-    }
-    if v < 65536 {
-        return 2;
-    }
-    4
 }
 
 // The smallest size of a field that counts its own bytes, with so many other bytes in the group.
@@ -60,16 +55,6 @@ fn code_of(size: usize) -> u8
     size as u8
 }
 
-// The last-sibling mark: 1 for the last of a group, else 0.
-fn mark_of(last: bool) -> u8
-    ensures { result ≡ (if last then 1 otherwise 0) }
-{
-    if last {
-        return 1;
-    }
-    0
-}
-
 // The header byte of a node with a score field and a child field of these sizes and a label of so many bytes.
 pub fn header(score: usize, child: usize, last: bool, label: usize) -> u8
     requires { (score ≤ 4) × (child ≤ 4) × (label < 8) }
@@ -77,7 +62,7 @@ pub fn header(score: usize, child: usize, last: bool, label: usize) -> u8
 {
     let high = code_of(score);
     let low = code_of(child);
-    let mark = mark_of(last);
+    let mark = u8::from(last);
     let len = label as u8;
     (high << SCORE_SHIFT) | ((low << CHILD_SHIFT) | ((mark << MARK_SHIFT) | (len & LABEL_MASK)))
 }
@@ -125,16 +110,12 @@ pub fn field_at(buf: &[u8], at: usize, size: usize) -> u32
     requires { (at + size ≤ length buf.now) × (size ≤ 4) × (size ≡ 3 → ⊥) }
     ensures { result ≡ number_at size buf.now at }
 {
-    if size == 0 {
-        return 0;
+    match size {
+        0 => 0,
+        1 => u32::from(buf[at]),
+        2 => u32::from(octets_code::read_u16(buf, at)),
+        _ => octets_code::read_u32(buf, at),
     }
-    if size == 1 {
-        return buf[at] as u32;
-    }
-    if size == 2 {
-        return octets_code::read_u16(buf, at) as u32;
-    }
-    octets_code::read_u32(buf, at)
 }
 
 // The label of so many bytes at an index, a part of the buffer.

@@ -1,5 +1,5 @@
 -- The group of a set does not depend on how many levels are allowed, where these are enough.
-use Prim.Native.Nat.{◌-◌, ◌<◌, ◌≤◌, suc, zero, ℕ}
+use Prim.Native.Nat.{◌<◌, ◌≤◌, suc, zero, ℕ}
 use mathlib.Core.Path.{◌≡◌, ap, refl}
 use mathlib.Core.Logic.{inl}
 use mathlib.Core.Bool.{Bool, false, true}

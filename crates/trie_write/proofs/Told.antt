@@ -2,6 +2,7 @@
 use Prim.Native.Nat.{◌<◌, ◌≤◌, ℕ}
 use mathlib.Core.Path.{◌∙◌, ◌≡◌, sym}
 use mathlib.Core.Bool.{false, true}
+use Rattle.std.specs.Prelude.{Option, None, Some}
 use mathlib.Core.List.{List}
 use lib.Dec.{ltb}
 use lib.ListN.{length}
@@ -12,31 +13,29 @@ use Rattle.octets.proofs.Tests.{by_test}
 use Rattle.entries.specs.Entries.{Entry}
 use Rattle.trie.specs.Trie.{trie_image}
 use Rattle.trie_write.specs.Writing.{TrieWritten}
-use Rattle.trie_write.specs.declared.TrieRoom.{TrieRoom}
-use Rattle.trie_write.specs.declared.TrieRoom.TheVariants.{Bytes, TooShort}
 
-apart : {k : ℕ} → TooShort ≡ Bytes k → ⊥
+apart : {k : ℕ} → None ≡ Some k → ⊥
 apart e = let z : ◌≡◌ {A = ℕ} 0 1 = cc in omega arith
 
-module _ {es : List Entry} {dst out : List ℕ} {r : TrieRoom} (a : TrieWritten es dst r out) where
-  short : ltb (length dst) (length (trie_image es)) ≡ true → (r ≡ TooShort) × (out ≡ dst)
+module _ {es : List Entry} {dst out : List ℕ} {r : Option ℕ} (a : TrieWritten es dst r out) where
+  short : ltb (length dst) (length (trie_image es)) ≡ true → (r ≡ None) × (out ≡ dst)
   short t = (rw t at a.answer, rw t at a.left)
 
-  long : ltb (length dst) (length (trie_image es)) ≡ false → (r ≡ Bytes (length (trie_image es)))
+  long : ltb (length dst) (length (trie_image es)) ≡ false → (r ≡ Some (length (trie_image es)))
       × (out ≡ overwrite dst (trie_image es))
   long t = (rw t at a.answer, rw t at a.left)
 
-  pub told_short : r ≡ TooShort → (length dst < length (trie_image es)) × (out ≡ dst)
+  pub told_short : r ≡ None → (length dst < length (trie_image es)) × (out ≡ dst)
   told_short e =
       by_test (ltb (length dst) (length (trie_image es)))
       (λ t. (ltb-true (length dst) (length (trie_image es)) t, (short t).1))
       (λ t. absurd (apart (sym e ∙ (long t).0)))
 
-  pub told_bytes : {k : ℕ} → r ≡ Bytes k → (k ≡ length (trie_image es)) × (k ≤ length dst)
+  pub told_bytes : {k : ℕ} → r ≡ Some k → (k ≡ length (trie_image es)) × (k ≤ length dst)
       × (out ≡ overwrite dst (trie_image es))
   told_bytes {k} e =
       by_test (ltb (length dst) (length (trie_image es))) (λ t. absurd (apart (sym (short t).0 ∙ e)))
       (λ t.
-      let q : Bytes k ≡ Bytes (length (trie_image es)) = sym e ∙ (long t).0 in
+      let q : Some k ≡ Some (length (trie_image es)) = sym e ∙ (long t).0 in
       let z : k ≡ length (trie_image es) = cc in
       (z, rw z (ltb-false (length dst) (length (trie_image es)) t), (long t).1))

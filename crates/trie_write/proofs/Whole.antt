@@ -2,6 +2,7 @@
 use Prim.Native.Nat.{◌+◌, ◌-◌, ◌<◌, ◌≤◌, suc, ℕ}
 use mathlib.Core.Path.{◌∙◌, ◌≡◌, ap, refl, sym}
 use mathlib.Core.Bool.{Bool, ◌&&◌, false, true}
+use Rattle.std.specs.Prelude.{Option, None, Some}
 use mathlib.Core.List.{List, [], ◌∷◌}
 use lib.Dec.{leb}
 use lib.ListN.{length}
@@ -12,7 +13,7 @@ use Rattle.octets.specs.Lists.{all}
 use Rattle.octets.proofs.Lists.{all_imp}
 use Rattle.octets.proofs.Stores.{sets-overwrite}
 use Rattle.octets.proofs.Tests.{and_true_both}
-use Rattle.entries.specs.Entries.{Entry, at, rising, valid}
+use Rattle.entries.specs.Entries.{Entry, valid}
 use Rattle.entries.specs.Names.{allowed_bytes, is_name, is_prefix, longest_name}
 use Rattle.entries.proofs.Valid.{Valid, valid_of}
 use Rattle.entries.proofs.Span.{rising-at}
@@ -27,8 +28,6 @@ use Rattle.trie_write_nodes.specs.Nodes.{put_if}
 use Rattle.trie_write_rows.specs.Rows.{Named, Shared, set_at_depth}
 use Rattle.trie_write.specs.Writing.{Groupable, Grouped, TrieWritten, under_at}
 use Rattle.trie.proofs.Bound.{group_bound}
-use Rattle.trie_write.specs.declared.TrieRoom.{TrieRoom}
-use Rattle.trie_write.specs.declared.TrieRoom.TheVariants.{Bytes, TooShort}
 
 remains-none : (es : List Entry) → remains 0 es ≡ es
 remains-none [] = refl
@@ -125,7 +124,7 @@ module _
       unfolding put_if
       measured = g.bytes
 
-      pub refused : length out < size + 7 → TrieWritten es dst TooShort out
+      pub refused : length out < size + 7 → TrieWritten es dst None out
       refused h =
           let t = lt-ltb (length dst) (length (trie_image es))
           (omega (arith, size_is, image_length, ap length measured)) in
@@ -133,7 +132,7 @@ module _
 
       pub wrote :
           size + 7 ≤ length out → {d3 d4 : List ℕ} {k n : ℕ} → n ≡ length m → d3 ≡ put_frame 0x31 (size + 7) n out
-          → Grouped es 0 (length m) 0 top d3 d4 (size + 7) 0 true k → TrieWritten es dst (Bytes (size + 7)) d4
+          → Grouped es 0 (length m) 0 top d3 d4 (size + 7) 0 true k → TrieWritten es dst (Some (size + 7)) d4
       unfolding put_if
       wrote h {d3} {d4} {k} e p y =
           let image = image_length in
@@ -145,13 +144,13 @@ module _
           rw (p, measured, e ∙ sym long) (frame_stores 0x31 dst body (size + 7) (length es) (omega (arith, size_is)))
           in
           record {
-            answer = rw t (ap Bytes total);
+            answer = rw t (ap Some total);
             left = rw t (bytes ∙ stored ∙ rw (← image_is)
                 (sets-overwrite dst (trie_image es) (omega (arith, size_is, image, ap length measured))));
           }
 
 -- the same entries are answered alike
-pub answered-same : {es fs : List Entry} {dst : List ℕ} {r : TrieRoom} {out : List ℕ} → es ≡ fs
+pub answered-same : {es fs : List Entry} {dst : List ℕ} {r : Option ℕ} {out : List ℕ} → es ≡ fs
     → TrieWritten es dst r out
     → TrieWritten fs dst r out
 answered-same e a = record { answer = rw (← e) a.answer; left = rw (← e) a.left }

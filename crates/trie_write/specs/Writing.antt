@@ -1,5 +1,5 @@
 -- What stands under a range of rows, and the call that writes a trie.
-use Rattle.std.specs.Prelude.{◌+◌, ◌-◌, ◌<◌, ◌≤◌, ℕ, ◌≡◌, Bool, false, true, List, [], ltb, length}
+use Rattle.std.specs.Prelude.{◌+◌, ◌-◌, ◌<◌, ◌≤◌, ℕ, ◌≡◌, Bool, false, true, Option, None, Some, List, [], ltb, length}
 use Rattle.octets.specs.Lists.{if◌then◌otherwise◌}
 use Rattle.octets.specs.Octets.{overwrite}
 use Rattle.entries.specs.Entries.{Entry}
@@ -7,8 +7,6 @@ use Rattle.trie.specs.Trie.{group_of, levels, trie_image, used_up}
 use Rattle.book_table.specs.Table.{entries}
 use Rattle.trie_write_nodes.specs.Nodes.{put_if}
 use Rattle.trie_write_rows.specs.Rows.{Splittable, set_at_depth}
-use Rattle.trie_write.specs.declared.TrieRoom.{TrieRoom}
-use Rattle.trie_write.specs.declared.TrieRoom.TheVariants.{Bytes, TooShort}
 
 -- what stands under rows lo to hi behind their first d bytes, where a first sibling's score field is s: nothing under a
 -- name that is used up, else the group of what is left
@@ -29,6 +27,6 @@ pub record Grouped (es : List Entry) (lo hi d s : ℕ) (dst out : List ℕ) (tot
     pub bytes : out ≡ put_if put dst (total - r) (under_at es lo hi d s)
 
 -- the answer r and every byte of the destination afterwards, by whether there is room for the trie
-pub record TrieWritten (es : List Entry) (dst : List ℕ) (r : TrieRoom) (out : List ℕ) : Type 0 where
-  pub answer : r ≡ (if ltb (length dst) (length (trie_image es)) then TooShort otherwise Bytes (length (trie_image es)))
+pub record TrieWritten (es : List Entry) (dst : List ℕ) (r : Option ℕ) (out : List ℕ) : Type 0 where
+  pub answer : r ≡ (if ltb (length dst) (length (trie_image es)) then None otherwise Some (length (trie_image es)))
   pub left : out ≡ (if ltb (length dst) (length (trie_image es)) then dst otherwise overwrite dst (trie_image es))

@@ -1,13 +1,14 @@
 -- The bytes of one node: its fields as bytes, its label, its length, and the stores that put it.
-use Prim.Native.Nat.{◌%◌, ◌*◌, ◌+◌, ◌-◌, ◌/◌, ◌≤◌, suc, zero, ℕ}
+use Prim.Native.Nat.{◌*◌, ◌+◌, ◌-◌, ◌≤◌, suc, zero, ℕ}
 use mathlib.Core.Path.{◌∙◌, ◌≡◌, refl}
 use mathlib.Core.Bool.{Bool}
-use mathlib.Core.List.{List, [], ◌++◌, ◌∷◌}
+use mathlib.Core.List.{List, ◌++◌}
 use lib.ListN.{drop, length, length-append, length-drop, length-take, set, take}
 use lib.Seq.{sets}
 use native.Mathlib.Numerals.{add-one}
 use native.Mathlib.Nat.{div-one}
 use native.Mathlib.Omega.{arith}
+use Rattle.std.specs.Int.{to_be_bytes, w64}
 use Rattle.octets.specs.Octets.{be}
 use Rattle.octets.proofs.Coding.{length-be}
 use Rattle.octets.proofs.Stores.{sets-append}
@@ -18,10 +19,8 @@ use Rattle.trie_write_runs.specs.declared.Run.{Run}
 use Rattle.trie_write_runs.specs.Fields.{child_field_size, child_field_value, node_length}
 use Rattle.trie_write_nodes.specs.Nodes.{RunFits, one_node, run_label}
 
--- the last k of a number's 4 bytes
-pub be-part :
-    (k v : ℕ) → k ≤ 4
-    → take (4 - (4 - k)) (drop (4 - k) (v / 16777216 % 256 ∷ v / 65536 % 256 ∷ v / 256 % 256 ∷ v % 256 ∷ [])) ≡ be k v
+-- the last k of a number's bytes
+be-part : (k v : ℕ) → k ≤ 4 → take (8 - (8 - k)) (drop (8 - k) (to_be_bytes w64 v)) ≡ be k v
 unfolding be
 be-part zero v h = refl
 be-part (suc zero) v h = rw div-one
@@ -29,6 +28,9 @@ be-part (suc (suc zero)) v h = rw div-one
 be-part (suc (suc (suc zero))) v h = rw div-one
 be-part (suc (suc (suc (suc zero)))) v h = rw div-one
 be-part (suc (suc (suc (suc (suc k))))) v h = absurd (omega arith)
+
+pub be_taken : (k v : ℕ) {bs : List ℕ} → k ≤ 4 → bs ≡ to_be_bytes w64 v → take (8 - (8 - k)) (drop (8 - k) bs) ≡ be k v
+be_taken k v h e = rw e (be-part k v h)
 
 -- the label, as the code takes it from the rows
 pub label_part :

@@ -5,7 +5,7 @@ use mathlib.Core.Bool.{Bool, false, true}
 use mathlib.Core.List.{List, [], ◌∷◌}
 use lib.Dec.{eqb}
 use lib.ListN.{drop, get_or, length, length-drop, length-map, take}
-use lib.Seq.{drop-drop, length-slice, slice, slice-cons, slice_empty}
+use lib.Seq.{drop-drop, get_or-drop, get_or-take, length-slice, slice, slice-cons, slice_empty}
 use native.Mathlib.Numerals.{add-one}
 use native.Mathlib.Omega.{arith}
 use borrow.Author.Tests.{eq-eqb, eqb-false, eqb-true, ne_eqb}
@@ -57,8 +57,8 @@ top_start h = record { upto = h; rest = omega arith }
 
 module _ {u m sc : List ℕ} (z : Table u m sc) {a b top i : ℕ} (v : Topping (entries u m sc) a b top i)
     (inside : b ≤ length m) where
-  pub top-turn : i < b → {new : ℕ} → new ≡ max top (get_or sc i 0) → Topping (entries u m sc) a b new (i + 1)
-  top-turn h {new} e =
+  top-turn-at : i < b → {new : ℕ} → new ≡ max top (get_or sc i 0) → Topping (entries u m sc) a b new (i + 1)
+  top-turn-at h {new} e =
       let es = entries u m sc in
       let score : (at es i).score ≡ get_or sc i 0 = ap (λ x. x.score) (entries_at u m sc i (omega arith)) in
       let next : highest (slice i b es) ≡ max (at es i).score (highest (slice (i + 1) b es)) = rw
@@ -73,6 +73,16 @@ module _ {u m sc : List ℕ} (z : Table u m sc) {a b top i : ℕ} (v : Topping (
         slice_empty b (entries u m sc),
       ) at v.rest in
       omega (arith, q)
+
+-- a turn: the next of the scores of the rows
+pub top-turn :
+    {u m sc : List ℕ} (z : Table u m sc) {a b top k : ℕ} (v : Topping (entries u m sc) a b top (a + k))
+    → b ≤ length m → k < b - a → {new : ℕ} → new ≡ max top (get_or (take (b - a) (drop a sc)) k 0)
+    → Topping (entries u m sc) a b new (a + (k + 1))
+top-turn {sc = sc} z {a} {b} {top} {k} v inside h e =
+    let q : a + (k + 1) ≡ a + k + 1 = omega arith in
+    rw q (top-turn-at z v inside (omega arith)
+    (e ∙ ap (max top) (get_or-take (b - a) (drop a sc) k 0 h ∙ get_or-drop a sc k 0)))
 
 -- where the set that ends before row e starts, row by row from the last
 pub record Starting (es : List Entry) (d lo e a : ℕ) : Type 0 where
@@ -116,8 +126,10 @@ module _ {u m sc : List ℕ} (z : Table u m sc) {d lo e a : ℕ} (v : Starting (
   pub start_edge : {b : Bool} → b ≡ same_first (rest (a - 1)) (rest a) → b ≡ false → Starts (entries u m sc) d lo e a
   start_edge f t = record { from = v.from; before = v.before; chain = v.chain; edge = λ h. sym f ∙ t }
 
-  pub start_end : a ≤ lo → Starts (entries u m sc) d lo e a
-  start_end h = record { from = v.from; before = v.before; chain = v.chain; edge = λ l. absurd (omega arith) }
+  pub start_end : a ≤ lo → Starts (entries u m sc) d lo e lo
+  start_end h =
+      let z : lo ≡ a = omega (arith, v.from) in
+      rw z (record { from = omega arith; before = v.before; chain = v.chain; edge = λ l. absurd (omega arith) })
 
 -- is a range one suffix that is used up?
 pub used_one : (es : List Entry) (lo hi d : ℕ) → hi - lo ≡ 1 → hi ≤ length es → d ≤ length (at es lo).name

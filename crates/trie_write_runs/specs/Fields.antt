@@ -5,12 +5,16 @@ use Rattle.trie.specs.Trie.{own_size, size_of}
 use Rattle.trie_write_runs.specs.declared.NodeFields.{NodeFields}
 use Rattle.trie_write_runs.specs.declared.Run.{Run}
 
+-- a part of a node's child field: 0 for a leaf
+abbrev pub child_part : Run → ℕ → ℕ
+child_part r part = if eqb r.under 0 then 0 otherwise part
+
 -- the child field of a node whose fields are f: none and 0 for a leaf
 abbrev pub child_field_size : Run → NodeFields → ℕ
-child_field_size r f = if eqb r.under 0 then 0 otherwise f.size
+child_field_size r f = child_part r f.size
 
 abbrev pub child_field_value : Run → NodeFields → ℕ
-child_field_value r f = if eqb r.under 0 then 0 otherwise f.child
+child_field_value r f = child_part r f.child
 
 -- the fields of the sibling after r, whose score is given
 unfoldable pub after : Run → NodeFields → ℕ → NodeFields

@@ -1,20 +1,13 @@
-// One node of a sibling group: the rows that it stands for, as a run, its fields and its size; and a group's runs, kept
-// as five numbers each.
+// One node of a sibling group: the rows that it stands for, as a run, its fields and its size.
 #![tactic(auto)]
 
-ghost use Rattle.std.specs.Prelude.{◌≡◌, ◌*◌, ◌<◌, ◌≤◌, drop, get_or};
-ghost use Rattle.std.proofs.lemmas.List.Edits.{sets};
+ghost use Rattle.std.specs.Prelude.{◌≡◌, ◌<◌, ◌≤◌, drop};
 ghost use Rattle.trie.specs.Trie.{longest_label};
-ghost use Rattle.trie_write_runs.specs.Runs.{RunsKept, Within, first_high, first_runs, no_run, runs_in, words_of};
-ghost use Rattle.trie_write_runs.specs.Fields.{after, child_field_size, child_field_value, first_fields, node_length};
-ghost use Rattle.trie_write_runs.specs.Fields.{plain_fields};
+ghost use Rattle.trie_write_runs.specs.Runs.{first_high};
+ghost use Rattle.trie_write_runs.specs.Fields.{after, child_part, first_fields, node_length, plain_fields};
 
-// The numbers that a run is kept as, the most runs of a group (`most_runs`), and room for them.
-const RUN_WORDS: usize = 5;
-
-const MOST_RUNS: usize = 98;
-
-pub const RUNS_ROOM: usize = MOST_RUNS * RUN_WORDS;
+// The most runs of a group: `most_runs`.
+pub const MOST_RUNS: usize = 98;
 
 // A node: rows lo to before hi, their highest score, the label's length, the bytes of what stands under it.
 #[derive(Clone, Copy)]
@@ -26,6 +19,15 @@ pub struct Run {
     pub under: u32,
 }
 
+// What stands where a group has no run: `no_run`.
+pub const NO_RUN: Run = Run {
+    lo: 0,
+    hi: 0,
+    high: 0,
+    len: 0,
+    under: 0,
+};
+
 // What the fields of the next sibling say: its score field, and its child field if it has children.
 #[derive(Clone, Copy)]
 pub struct NodeFields {
@@ -34,42 +36,19 @@ pub struct NodeFields {
     pub size: usize,
 }
 
-// The run at an index of a group's runs, which are kept as five numbers each.
-pub fn run_at(runs: &[u32], i: usize) -> Run
-    requires { Within runs.now i }
-    ensures { result ≡ get_or (runs_in runs.now) i no_run }
+// A run with the bytes of what stands under it.
+pub fn with_under(r: Run, n: u32) -> Run
+    ensures { result ≡ record { lo = r.lo; hi = r.hi; high = r.high; len = r.len; under = n } }
 {
-    let k = i * RUN_WORDS;
-    Run {
-        lo: runs[k],
-        hi: runs[k + 1],
-        high: runs[k + 2],
-        len: runs[k + 3],
-        under: runs[k + 4],
-    }
-}
-
-// Keeps a run at an index.
-pub fn put_run(runs: &mut [u32], i: usize, r: Run)
-    requires { Within runs.old i }
-    ensures { runs.new ≡ sets runs.old (i * 5) (words_of r) }
-{
-    let k = i * RUN_WORDS;
-    runs[k] = r.lo;
-    runs[k + 1] = r.hi;
-    runs[k + 2] = r.high;
-    runs[k + 3] = r.len;
-    runs[k + 4] = r.under;
+    Run { under: n, ..r }
 }
 
 // The score of the sibling at an index; 0 behind the last.
-pub fn score_at(runs: &[u32], count: usize, i: usize) -> usize
-    requires { RunsKept runs.now count }
-    ensures { result ≡ first_high (drop i (first_runs runs.now count)) }
+pub fn score_at(runs: &[Run], i: usize) -> usize
+    ensures { result ≡ first_high (drop i runs.now) }
 {
-    if i < count {
-        let r = run_at(runs, i);
-        return r.high as usize;
+    if i < runs.len() {
+        return runs[i].high as usize;
     }
     0
 }
@@ -84,8 +63,7 @@ pub fn next_after(r: Run, f: NodeFields, score: usize) -> NodeFields
     if under == 0 {
         return NodeFields {
             score: high - score,
-            child: f.child,
-            size: f.size,
+            ..f
         };
     }
     NodeFields {
@@ -95,24 +73,14 @@ pub fn next_after(r: Run, f: NodeFields, score: usize) -> NodeFields
     }
 }
 
-// The size of a node's child field: none for a leaf.
-pub fn child_field_size(r: Run, f: NodeFields) -> usize
-    ensures { result ≡ child_field_size r f }
+// A part of a node's child field, its size or its value: 0 for a leaf, which has no child field.
+pub fn child_part(r: Run, part: usize) -> usize
+    ensures { result ≡ child_part r part }
 {
     if r.under == 0 {
         return 0;
     }
-    f.size
-}
-
-// The value of a node's child field: 0 for a leaf.
-pub fn child_field_value(r: Run, f: NodeFields) -> usize
-    ensures { result ≡ child_field_value r f }
-{
-    if r.under == 0 {
-        return 0;
-    }
-    f.child
+    part
 }
 
 // The bytes of a node: header, score field, child field, label.
@@ -121,7 +89,7 @@ pub fn node_size(r: Run, f: NodeFields) -> usize
     ensures { (result ≡ node_length r f) × (result ≤ 16) }
 {
     let score = trie_header::size_of(f.score);
-    let child = child_field_size(r, f);
+    let child = child_part(r, f.size);
     1 + score + child + r.len as usize
 }
 

@@ -3,16 +3,11 @@
 use mathlib.Core.Path.{◌∙◌, ap}
 use Prim.Native.Nat.{◌+◌}
 use native.Mathlib.Omega.{arith}
-use lib.ListN.{length, length-set}
+use lib.ListN.{length}
 use lib.Seq.{sets}
 use Rattle.octets.specs.Octets.{be}
 use Rattle.answer_write.proofs.Stores.{entry_stores}
 use Rattle.answer_write.proofs.put_entry.Goals as goal
-
-pub shape_of-dst : goal.shape_of-dst
-shape_of-dst c =
-    c.write_u32.auto.dst
-    ∙ c.copy.auto.dst ∙ simp length-set
 
 pub returns : goal.returns
 returns c =

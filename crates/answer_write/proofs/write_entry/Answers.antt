@@ -7,9 +7,6 @@ use Rattle.answer_write.proofs.write_entry.Goals as goal
 pub returns-then-dst-bytes : goal.returns-then-dst-bytes
 returns-then-dst-bytes c = entry-refused _ _ c.if-dst-bytes.true
 
-pub shape_of-dst : goal.shape_of-dst
-shape_of-dst c = c.put_entry.auto.dst
-
 pub returns : goal.returns
 returns c =
     entry_written _ _ _ refl c.if-dst-bytes.false _

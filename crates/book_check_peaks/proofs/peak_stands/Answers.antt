@@ -1,25 +1,12 @@
 -- `book_check_peaks::peak_stands` meets its contract: a position that no score of its block beats is the block's best
 -- (proofs/Block). No loop, so no invariant.
 use Prim.Native.Nat.{◌*◌}
-use mathlib.Core.Bool.{false≢true}
 use Rattle.octets.proofs.Stores.{part_bytes}
 use Rattle.book.specs.Book.{block_size}
 use Rattle.book_laws.specs.Check.{score_start}
 use Rattle.book_check_peaks.specs.Unbeaten.{block_bytes}
 use Rattle.book_check_peaks.proofs.Block.{block_peak}
 use Rattle.book_check_peaks.proofs.peak_stands.Goals as goal
-
-pub returns-then-n-first : goal.returns-then-n-first
-returns-then-n-first c t = absurd (false≢true t)
-
-pub returns-then-peak-first : goal.returns-then-peak-first
-returns-then-peak-first c t = absurd (false≢true t)
-
-pub returns-then-place-ge-BLOCK_SIZE : goal.returns-then-place-ge-BLOCK_SIZE
-returns-then-place-ge-BLOCK_SIZE c t = absurd (false≢true t)
-
-pub returns-then-buf-end : goal.returns-then-buf-end
-returns-then-buf-end c t = absurd (false≢true t)
 
 pub returns : goal.returns
 returns c t =

@@ -1,7 +1,7 @@
 -- `book_check_walk::walk_each` meets its contract. The loop's invariant: the records from index `at` on end where all
 -- of them do, the array stays 48 bytes long, without heads the search stands where the names read so far take it, and a
--- record that keeps `limit` bytes or more changes nothing of it. The measure is the number of records left.
-use Prim.Native.Nat.{◌-◌, ◌≤◌}
+-- record that keeps `limit` bytes or more changes nothing of it.
+use Prim.Native.Nat.{◌≤◌}
 use mathlib.Core.Path.{◌≡◌}
 use mathlib.Core.Bool.{false}
 use lib.ListN.{length}
@@ -17,6 +17,3 @@ invariant-loop-index l =
     Walking l.l l.buf l.n l.start (cursor_of l.at l.index l.name l.len) × (length l.name ≡ longest_name) × (l.s.below ≤ length l.key)
     × (l.l.heads ≡ false → Reached l.key l.buf l.n l.start (cursor_of l.at l.index l.name l.len) (settled l.s l.index l.at))
     × Quiet l.key l.s l.limit
-
-abbrev pub decreases-loop-index : goal.decreases-loop-index
-decreases-loop-index l = l.n - l.index

@@ -1,6 +1,5 @@
-use Prim.Native.Nat.{◌-◌}
 use native.Mathlib.Omega.{arith}
-use Rattle.book_layout.proofs.Best.{best_end, best_kept, best_start, best_taken}
+use Rattle.book_layout.proofs.Best.{best_kept, best_start, best_taken}
 use Rattle.book_layout.proofs.best_between.Goals as goal
 use Rattle.book_layout.proofs.best_between.Goals.{then-best-score, else-best-score}
 
@@ -14,6 +13,3 @@ loop-i-preserved c =
       | then-best-score w ↦ rw (w.b-is, w.best-is) (best_taken g c.loop-i-test.true c.score_at-score.ensures w.if-best-score.true)
       | else-best-score w ↦ rw (w.b-is, w.best-is) (best_kept g c.loop-i-test.true c.score_at-score.ensures w.if-best-score.false)
     ]
-
-pub returns : goal.returns
-returns c = best_end c.loop-i.invariant c.loop-i-test.false

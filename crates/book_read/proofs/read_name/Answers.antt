@@ -8,7 +8,7 @@ use lib.ListN.{drop, length, length-drop}
 use native.Mathlib.Omega.{arith}
 use Rattle.octets.proofs.Stores.{part_bytes, to_end}
 use Rattle.book_read.specs.Record.{Inside, parts_at}
-use Rattle.book_read.specs.declared.Parts.{Parts}
+use Rattle.book_laws.specs.declared.Parts.{Parts}
 use Rattle.book_read.proofs.read_name.Goals as goal
 
 whole : {heads : Bool} {s : List ℕ} {i m : ℕ} {p : Parts} → Inside heads s i m → p ≡ parts_at heads i s

@@ -7,20 +7,27 @@ use native.Mathlib.Omega.{arith}
 use Rattle.octets.proofs.Coding.{common_le}
 use Rattle.book_record_write.proofs.Writing.{rest_length, tail_length, tail_stores}
 use Rattle.book_record_write.proofs.put_tail.Goals as goal
+use Rattle.book_record_write.proofs.put_tail.Goals.{After-common_prefix-kept}
+
+kept_within :
+    (c : After-common_prefix-kept) → c.common_prefix-kept.result ≤ length c.args.name.now
+kept_within c =
+    let a = c.args in
+    omega (arith, c.common_prefix-kept.ensures, common_le a.prev.now a.name.now)
 
 pub slice_bounds-rest-count : goal.slice_bounds-rest-count
 slice_bounds-rest-count c =
-    let within : c.common_prefix-kept.result ≤ length c.args.name.now = let a = c.args in omega (arith, c.common_prefix-kept.ensures, common_le a.prev.now a.name.now) in
+    let within = kept_within (goal.at.slice_bounds-rest-count c).After-common_prefix-kept in
     within
 
 pub slice_bounds-rest-start : goal.slice_bounds-rest-start
 slice_bounds-rest-start c =
-    let within : c.common_prefix-kept.result ≤ length c.args.name.now = let a = c.args in omega (arith, c.common_prefix-kept.ensures, common_le a.prev.now a.name.now) in
+    let within = kept_within (goal.at.slice_bounds-rest-start c).After-common_prefix-kept in
     within
 
 pub overflow_cast-dst : goal.overflow_cast-dst
 overflow_cast-dst c =
-    let within : c.common_prefix-kept.result ≤ length c.args.name.now = let a = c.args in omega (arith, c.common_prefix-kept.ensures, common_le a.prev.now a.name.now) in
+    let within = kept_within (goal.at.overflow_cast-dst c).After-common_prefix-kept in
     omega (arith, within)
 
 pub bounds-dst-at-2 : goal.bounds-dst-at-2

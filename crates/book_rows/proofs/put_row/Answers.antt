@@ -5,13 +5,8 @@ use lib.ListN.{length}
 use borrow.Author.Rules.{rules}
 use Rattle.octets.proofs.Lists.{length_mapped}
 use Rattle.entries.specs.Names.{longest_name}
-use Rattle.book_rows.proofs.Filling.{put_here, put_other}
+use Rattle.book_rows.proofs.Filling.{put_here}
 use Rattle.book_rows.proofs.put_row.Goals as goal
-
-pub returns-then-position-c : goal.returns-then-position-c
-returns-then-position-c c =
-    let long : length c.args.c.name ≡ longest_name = search (rules, length_mapped) in
-    put_other c.args.c long c.requires.1 _ _ _ _ c.requires.2 c.requires.3 c.if-position-c.true
 
 pub returns : goal.returns
 returns c =

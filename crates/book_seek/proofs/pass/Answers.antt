@@ -6,20 +6,18 @@ use Rattle.book_seek.proofs.Settling.{pass_no_more, pass_over, pass_still, pass_
 use Rattle.book_seek.proofs.pass.Goals as goal
 
 pub returns-then-s-p : goal.returns-then-s-p
-returns-then-s-p c = (pass_under _ _ _ _ _ _ _ c.if-s-eq-BELOW.true c.if-s-p.true, search rules)
+returns-then-s-p c = (pass_under _ _ _ _ _ _ _ c.in-Below.is c.if-s-p.true, search rules)
 
-pub returns-then-s-eq-BELOW : goal.returns-then-s-eq-BELOW
-returns-then-s-eq-BELOW c =
+pub returns-else-s-p : goal.returns-else-s-p
+returns-else-s-p c =
     let a = c.args in
-    (rw (settled-early a.s a.p.index a.p.at c.if-s-eq-BELOW.true) c.meet.ensures.0, c.meet.ensures.1)
+    (rw (settled-early a.s a.p.index a.p.at c.in-Below.is) c.meet.ensures.0, c.meet.ensures.1)
 
 pub returns-then-p-key : goal.returns-then-p-key
-returns-then-p-key c =
-    (pass_no_more _ _ _ _ _ _ _ c.if-s-eq-BEGUN.true c.if-p-key.true _ refl, search rules)
+returns-then-p-key c = (pass_no_more _ _ _ _ _ _ _ c.in-Begun.is c.if-p-key.true _ refl, search rules)
 
-pub returns-then-s-eq-BEGUN : goal.returns-then-s-eq-BEGUN
-returns-then-s-eq-BEGUN c =
-    (pass_still _ _ _ _ _ _ _ c.if-s-eq-BEGUN.true c.if-p-key.false, search rules)
+pub returns-else-p-key : goal.returns-else-p-key
+returns-else-p-key c = (pass_still _ _ _ _ _ _ _ c.in-Begun.is c.if-p-key.false, search rules)
 
-pub returns : goal.returns
-returns c = (pass_over _ _ _ _ _ _ _ c.if-s-eq-BELOW.false c.if-s-eq-BEGUN.false, search rules)
+pub returns-in-Past : goal.returns-in-Past
+returns-in-Past c = (pass_over _ _ _ _ _ _ _ c.in-Past.is, search rules)

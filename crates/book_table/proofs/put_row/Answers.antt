@@ -1,36 +1,20 @@
-use Prim.Native.Nat.{◌-◌}
-use mathlib.Core.Path.{◌∙◌, refl, sym}
-use lib.ListN.{length-set}
-use native.Mathlib.Nat.{add-zero}
+-- `book_table::put_row` meets its contract: the bytes of the row are the name's, the others stay. No loop.
+use Prim.Native.Nat.{◌+◌, ◌≤◌, ℕ}
+use mathlib.Core.Path.{◌∙◌, ◌≡◌, refl, sym}
+use mathlib.Core.List.{List}
+use lib.ListN.{length}
+use lib.Seq.{sets, sets-eq, take-length}
 use native.Mathlib.Omega.{arith}
-use Rattle.octets_code.proofs.Loops.{sets_end, sets_next}
+use borrow.Rule.Slice.PartMut.{put_mid}
+use Rattle.std.proofs.lemmas.Slice.{put_mid-paste}
 use Rattle.book_table.proofs.put_row.Goals as goal
 
-pub loop-j-init : goal.loop-j-init
-loop-j-init c = (omega arith, refl, rw add-zero)
-
-pub bounds-name-j : goal.bounds-name-j
-bounds-name-j c = omega (arith, c.requires)
-
-pub overflow_add-names : goal.overflow_add-names
-overflow_add-names c = omega (arith, c.requires)
-
-pub bounds-names-at : goal.bounds-names-at
-bounds-names-at c = omega (arith, c.requires, c.loop-j.invariant.1)
-
-pub loop-j-preserved : goal.loop-j-preserved
-loop-j-preserved c =
-    let s = c.args in (
-      omega arith,
-      length-set c.loop-j.names _ _ ∙ c.loop-j.invariant.1,
-      sym (sets_next c.loop-j.names s.at c.loop-j.j s.name.now (omega (arith, c.requires)))
-          ∙ c.loop-j.invariant.2,
-    )
-
-pub shape_of-names : goal.shape_of-names
-shape_of-names c = c.loop-j.invariant.1
+-- a part of a list that is written anew as a whole
+copied :
+    (l vs part : List ℕ) (i k : ℕ) → part ≡ vs → k ≡ length vs → i + length vs ≤ length l
+    → put_mid i k l part ≡ sets l i vs
+copied l vs part i k e n h =
+    put_mid-paste i k l part vs (length vs) e (sym n) refl ∙ rw take-length (sym (sets-eq vs l i h))
 
 pub returns : goal.returns
-returns c =
-    let s = c.args in
-    sym (sets_end c.loop-j.names s.at c.loop-j.j s.name.now (omega (arith, c.requires))) ∙ c.loop-j.invariant.2
+returns c = copied _ _ _ _ _ c.copy_from_slice.ensures.after (omega (arith, c.requires)) (omega (arith, c.requires))

@@ -1,4 +1,4 @@
-use Prim.Native.Nat.{◌-◌, ◌≤◌}
+use Prim.Native.Nat.{◌≤◌}
 use native.Mathlib.Omega.{arith}
 use borrow.Author.Rules.{rules}
 use Rattle.book_laws.proofs.Held.{held_few}
@@ -61,14 +61,6 @@ pub overflow_add-at-in-loop-i : goal.overflow_add-at-in-loop-i
 overflow_add-at-in-loop-i c =
     let given : Given c.args.book.now c.loop-i.at c.loop-i.i c.read_name-p.new.name c.read_name-p.result = read_turn c.requires.0 c.loop-i.invariant.reading c.loop-i-test.true c.read_name-p.ensures in
     omega (arith, given.inside, c.ranges)
-
-pub overflow_add-i : goal.overflow_add-i
-overflow_add-i c =
-    let low : c.loop-i.i ≤ 1023 = omega (arith, c.loop-i-test.true, held_few c.requires.0) in
-    omega (arith, low)
-
-pub loop-i-smaller : goal.loop-i-smaller
-loop-i-smaller c = omega (arith, c.loop-i-test.true)
 
 pub loop-i-preserved : goal.loop-i-preserved
 loop-i-preserved c =

@@ -1,4 +1,3 @@
-use Prim.Native.Nat.{◌-◌}
 use native.Mathlib.Omega.{arith}
 use Rattle.book_write.proofs.Peaks.{peaks_end, peaks_start_lem, peaks-turn}
 use Rattle.book_write.proofs.put_peaks.Goals as goal

@@ -1,32 +1,19 @@
--- `completion_book::complete_in` meets its contract: the machine from its start, run, and its answer.
--- No loop, so no invariant.
-use lib.ListN.{length, replicate}
-use native.Mathlib.Omega.{arith}
-use Rattle.entries.specs.Completion.{max_count}
-use Rattle.book.specs.Book.{in_book}
-use Rattle.completion.specs.Machine.{no_range}
-use Rattle.completion_book.specs.Offers.{asked, begun_as}
-use Rattle.completion_turn.specs.Turns.{Ran}
-use Rattle.completion_book.proofs.Answering.{answerable, asked-runs, complete_is}
+-- `completion_book::complete_in` meets its contract: a refusal, or the machine run and its answer.
+use mathlib.Core.Path.{refl}
+use Rattle.std.proofs.lemmas.Result.{err_from_is_err_and}
+use Rattle.completion_book.proofs.Answering.{completed, declines, sought, writable}
 use Rattle.completion_book.proofs.complete_in.Goals as goal
 
-pub run-s-requires : goal.run-s-requires
-run-s-requires c =
-    rw (c.start_machine.ensures, c.no_ranges.ensures)
-    (asked-runs c.args.book.now c.args.prefix.now c.args.k c.args.dst.now c.args.k
-    (replicate max_count no_range) (λ l few. few))
+pub returns-in_err-c : goal.returns-in_err-c
+returns-in_err-c c =
+    let p = err_from_is_err_and c.from_residual.result c.from_residual.ensures.1 in
+    rw (p.1, p.2) (declines c.args.book.now c.args.prefix.now c.args.k c.args.dst.now c.args.k c.in_err-c.ensures)
+
+pub offers-s-requires : goal.offers-s-requires
+offers-s-requires c = (c.in_ok-c.ensures.known.held, sought c.in_ok-c.ensures, c.in_ok-c.ensures.waits.few)
 
 pub write_answer-requires : goal.write_answer-requires
-write_answer-requires c =
-    let ran : Ran (in_book c.args.book.now) (replicate max_count no_range) (begun_as (in_book c.args.book.now) c.args.prefix.now c.args.k (asked c.args.book.now c.args.prefix.now c.args.k (length c.args.dst.now) c.args.k)) c.run-s.result = rw (c.start_machine.ensures, c.no_ranges.ensures) at c.run-s.ensures in
-    answerable c.args.book.now c.args.prefix.now c.args.k c.args.dst.now c.args.k
-    (replicate max_count no_range) c.run-s.result (omega arith) ran
-
-pub shape_of-dst : goal.shape_of-dst
-shape_of-dst c = c.write_answer.auto.dst
+write_answer-requires c = writable c.in_ok-c.ensures c.offers-s.ensures refl
 
 pub returns : goal.returns
-returns c =
-    let ran : Ran (in_book c.args.book.now) (replicate max_count no_range) (begun_as (in_book c.args.book.now) c.args.prefix.now c.args.k (asked c.args.book.now c.args.prefix.now c.args.k (length c.args.dst.now) c.args.k)) c.run-s.result = rw (c.start_machine.ensures, c.no_ranges.ensures) at c.run-s.ensures in
-    rw (← complete_is c.args.book.now c.args.prefix.now c.args.k c.args.dst.now c.args.k
-    (replicate max_count no_range) c.run-s.result (omega arith) ran) c.write_answer.ensures
+returns c = completed c.in_ok-c.ensures c.offers-s.ensures _ refl c.write_answer.ensures

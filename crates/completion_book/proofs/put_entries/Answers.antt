@@ -1,21 +1,11 @@
-use Prim.Native.Nat.{◌*◌, ◌-◌}
+use Prim.Native.Nat.{◌*◌}
 use mathlib.Core.Path.{◌∙◌}
 use lib.ListN.{get_or}
 use native.Mathlib.Omega.{arith}
 use Rattle.octets.proofs.Stores.{part_bytes}
 use Rattle.entries.specs.Names.{longest_name}
-use Rattle.completion_book.proofs.Putting.{put_end, put_inside, put_room, put_start, put_turn}
-use Rattle.completion_book.proofs.Putting.{row_inside, row_name_lem, row_short}
+use Rattle.completion_book.proofs.Putting.{put_end, put_inside, put_room, put_turn, row_inside, row_name_lem, row_short}
 use Rattle.completion_book.proofs.put_entries.Goals as goal
-
-pub loop-i-init : goal.loop-i-init
-loop-i-init c = put_start _ _ _
-
-pub overflow_mul-from : goal.overflow_mul-from
-overflow_mul-from c = omega (arith, c.loop-i-test.true, c.requires.few)
-
-pub bounds-lens-i : goal.bounds-lens-i
-bounds-lens-i c = omega (arith, c.loop-i-test.true, c.requires.row_room.counted)
 
 pub overflow_add-to : goal.overflow_add-to
 overflow_add-to c =
@@ -38,9 +28,6 @@ pub loop-i-preserved : goal.loop-i-preserved
 loop-i-preserved c =
     put_turn c.requires c.loop-i.invariant c.loop-i-test.true c.put_position-end.ensures.0
     c.put_position-end.ensures.1
-
-pub shape_of-dst : goal.shape_of-dst
-shape_of-dst c = c.loop-i.invariant.same
 
 pub returns : goal.returns
 returns c = put_end c.requires c.loop-i.invariant c.loop-i-test.false

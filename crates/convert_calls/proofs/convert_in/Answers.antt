@@ -1,5 +1,6 @@
 -- `convert_calls::convert_in` meets its contract: checked in the one layout, measured and then written in the other.
 -- No loop, so no invariant.
+use Rattle.std.proofs.lemmas.Result.{err_from_is_err_and}
 use Prim.Native.Nat.{◌≤◌}
 use mathlib.Core.Path.{◌∙◌, sym}
 use lib.ListN.{length}
@@ -7,38 +8,42 @@ use native.Mathlib.Omega.{arith}
 use borrow.Author.Tests.{leb-false, leb-true}
 use Rattle.book.specs.Book.{image_in, in_book_in, read_in}
 use Rattle.book_laws.specs.Held.{HeldIn}
-use Rattle.book_check.proofs.Held.{checked-damaged, checked-held}
 use Rattle.answer_write.proofs.Converting.{no_room_lem, not_read, whole}
+use Rattle.convert_calls.proofs.Layouts.{not_held, read_held}
 use Rattle.convert_calls.proofs.convert_in.Goals as goal
+use Rattle.convert_calls.proofs.convert_in.Goals.{In_ok-n}
 
-pub returns-in_default : goal.returns-in_default
-returns-in_default c =
-    not_read (read_in c.args.from) (image_in c.args.to) _ _
-    (checked-damaged _ _ c.check_in-reply.ensures.0 c.in_default.is)
+pub returns-in_err-n : goal.returns-in_err-n
+returns-in_err-n c =
+    let p = err_from_is_err_and c.from_residual.result c.from_residual.ensures.1 in
+    let n = not_held _ _ _ c.check_in.result c.check_in.ensures (sym c.ok_or.ensures.value ∙ c.in_err-n.was) in
+    rw (p.1, p.2, ← n.1) (not_read (read_in c.args.from) (image_in c.args.to) _ _ n.0)
+
+-- the book that was checked
+held : (c : In_ok-n) → HeldIn c.args.from c.args.book.now c.in_ok-n.field-0.n
+held c = read_held _ _ _ c.check_in.result c.check_in.ensures (sym c.ok_or.ensures.value ∙ c.in_ok-n.was)
 
 pub fits-requires : goal.fits-requires
-fits-requires c =
-    let held : HeldIn c.args.from c.args.book.now c.in-Entries.n = checked-held _ _ c.check_in-reply.ensures.0 c.in-Entries.is in
-    held
+fits-requires c = held (goal.at.fits-requires c).In_ok-n
 
 pub returns-then-not-fits : goal.returns-then-not-fits
 returns-then-not-fits c =
-    let held : HeldIn c.args.from c.args.book.now c.in-Entries.n = checked-held _ _ c.check_in-reply.ensures.0 c.in-Entries.is in
-    no_room_lem (read_in c.args.from) (image_in c.args.to) _ _ held.is_it
+    let h = held (goal.at.returns-then-not-fits c).In_ok-n in
+    no_room_lem (read_in c.args.from) (image_in c.args.to) _ _ h.is_it
     (leb-false _ _ (sym c.fits.ensures ∙ c.if-not-fits.true))
 
-pub fill-total-requires : goal.fill-total-requires
-fill-total-requires c =
-    let held : HeldIn c.args.from c.args.book.now c.in-Entries.n = checked-held _ _ c.check_in-reply.ensures.0 c.in-Entries.is in
-    let room : length (image_in c.args.to (in_book_in c.args.from c.args.book.now)) ≤ length c.args.dst.now = leb-true _ _ (sym c.fits.ensures ∙ c.if-not-fits.false) in
-    (held, room)
+pub fill-bytes-requires : goal.fill-bytes-requires
+fill-bytes-requires c =
+    (held (goal.at.fill-bytes-requires c).In_ok-n, leb-true _ _ (sym c.fits.ensures ∙ c.if-not-fits.false))
 
 pub shape_of-dst : goal.shape_of-dst
-shape_of-dst c = c.fill-total.auto.dst
+shape_of-dst c = c.fill-bytes.auto.dst
 
 pub returns : goal.returns
 returns c =
-    let held : HeldIn c.args.from c.args.book.now c.in-Entries.n = checked-held _ _ c.check_in-reply.ensures.0 c.in-Entries.is in
-    let room : length (image_in c.args.to (in_book_in c.args.from c.args.book.now)) ≤ length c.args.dst.now = leb-true _ _ (sym c.fits.ensures ∙ c.if-not-fits.false) in
-    whole (read_in c.args.from) (image_in c.args.to) _ _ held.is_it _ held.count c.fill-total.ensures.1
-    (omega (arith, c.fill-total.ensures.1, room)) c.fill-total.ensures.0
+    let h = held (goal.at.returns c).In_ok-n in
+    let room : length (image_in c.args.to (in_book_in c.args.from c.args.book.now)) ≤ length c.args.dst.now =
+    leb-true _ _ (sym c.fits.ensures ∙ c.if-not-fits.false)
+    in
+    whole (read_in c.args.from) (image_in c.args.to) _ _ h.is_it _ h.count c.fill-bytes.ensures.1
+    (omega (arith, c.fill-bytes.ensures.1, room)) c.fill-bytes.ensures.0

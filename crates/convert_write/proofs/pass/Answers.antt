@@ -1,6 +1,4 @@
-use Prim.Native.Nat.{◌-◌}
 use mathlib.Core.Path.{sym}
-use native.Mathlib.Omega.{arith}
 use borrow.Author.Rules.{rules}
 use Rattle.book_laws.proofs.Held.{held_few}
 use Rattle.convert_write.proofs.Whole.{going_end, going_ready, going_start, going_turn}
@@ -22,12 +20,6 @@ slice_bounds-pass_record-end c = sym c.loop-i.invariant.long
 
 pub pass_record-p-requires : goal.pass_record-p-requires
 pass_record-p-requires c = going_ready c.loop-i.invariant c.loop-i-test.true
-
-pub overflow_add-i : goal.overflow_add-i
-overflow_add-i c = omega (arith, c.loop-i-test.true, held_few c.requires.held)
-
-pub loop-i-smaller : goal.loop-i-smaller
-loop-i-smaller c = omega (arith, c.loop-i-test.true)
 
 pub loop-i-preserved : goal.loop-i-preserved
 loop-i-preserved c =

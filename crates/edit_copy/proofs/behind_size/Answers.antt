@@ -3,8 +3,8 @@ use mathlib.Core.Path.{refl}
 use Rattle.edit_copy.proofs.Puts.{size_with, size_without}
 use Rattle.edit_copy.proofs.behind_size.Goals as goal
 
-pub returns-then-b : goal.returns-then-b
-returns-then-b c = size_with c.args.b c.args.end c.if-b.true refl
+pub returns-in-Some : goal.returns-in-Some
+returns-in-Some c = size_with c.args.b c.args.end c.in-Some.is refl
 
-pub returns-else-b : goal.returns-else-b
-returns-else-b c = size_without c.args.b c.args.end c.if-b.false refl
+pub returns-in-None : goal.returns-in-None
+returns-in-None c = size_without c.args.b c.args.end c.in-None.is refl

@@ -4,27 +4,12 @@ use native.Mathlib.Omega.{arith}
 use Rattle.edit_copy.proofs.Puts.{behind_put, header_most}
 use Rattle.edit_copy.proofs.put_behind.Goals as goal
 
-pub put_header-to-requires : goal.put_header-to-requires
-put_header-to-requires c = c.requires.near
-
-pub overflow_add-from : goal.overflow_add-from
-overflow_add-from c = omega (arith, c.requires.within, c.requires.small)
-
 pub slice_bounds-copy-end : goal.slice_bounds-copy-end
 slice_bounds-copy-end c = omega (arith, c.requires.within, c.requires.inside)
 
 pub overflow_add-to : goal.overflow_add-to
 overflow_add-to c =
     omega (arith, c.put_header-to.ensures.end, header_most c.args.b, c.requires.near, c.requires.within, c.requires.small)
-
-pub slice_bounds-copy-count-2 : goal.slice_bounds-copy-count-2
-slice_bounds-copy-count-2 c = c.requires.order
-
-pub slice_bounds-copy-start-2 : goal.slice_bounds-copy-start-2
-slice_bounds-copy-start-2 c = c.requires.order
-
-pub slice_bounds-copy-end-2 : goal.slice_bounds-copy-end-2
-slice_bounds-copy-end-2 c = c.requires.inside
 
 pub returns : goal.returns
 returns c =

@@ -16,10 +16,18 @@ pub returns-then-dst-p : goal.returns-then-dst-p
 returns-then-dst-p c =
     whole_refused _ _ _ (without_total c.requires c.plan_without-p.ensures) c.if-dst-p.true
 
-pub put_scores_without-requires : goal.put_scores_without-requires
-put_scores_without-requires c =
-    let inside : c.args.s.place < c.args.n = held-inside c.requires.sought c.requires in
-    scores-inside c.requires.sought (c.args.s.place + 1) (omega (arith, inside))
+pub overflow_add-s : goal.overflow_add-s
+overflow_add-s c = omega (arith, held-inside c.requires.sought c.requires, held_few c.requires.sought.held)
+
+pub put_scores-requires : goal.put_scores-requires
+put_scores-requires c =
+    let a = c.requires.sought in
+    let inside : c.args.s.place < c.args.n = held-inside a c.requires in
+    record {
+      front = scores-inside a c.args.s.place (omega (arith, inside));
+      back = scores-inside a _ (omega (arith, inside));
+      few = omega arith;
+    }
 
 pub slice_bounds-copy-count : goal.slice_bounds-copy-count
 slice_bounds-copy-count c =
@@ -58,5 +66,5 @@ pub returns : goal.returns
 returns c =
     let h = c.plan_without-p.ensures in
     whole_written _ _ _ _ (without-count c.requires.sought c.requires) (without_total c.requires h) c.if-dst-p.false
-    (without_stored c.requires h c.args.dst.now c.if-dst-p.false c.put_scores_without.ensures c.copy.ensures
+    (without_stored c.requires h c.args.dst.now c.if-dst-p.false c.put_scores.ensures c.copy.ensures
     c.put_behind.ensures c.finish.ensures)

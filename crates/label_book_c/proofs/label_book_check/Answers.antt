@@ -2,4 +2,4 @@
 use Rattle.label_book_c.proofs.label_book_check.Goals as goal
 
 pub returns : goal.returns
-returns c = rw (← c.check.ensures) c.tell_checked.ensures
+returns c = rw (← c.check.ensures) c.tell_written.ensures

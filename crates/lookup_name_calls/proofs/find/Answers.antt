@@ -1,6 +1,7 @@
 -- `lookup_name_calls::find` meets its contract: the checks in the table's order, then the finding.
 -- No loop, so no invariant.
 use mathlib.Core.Path.{◌∙◌, ap, sym}
+use Rattle.std.proofs.lemmas.Result.{err_from_is_err_and}
 use Rattle.answer.specs.Answers.{given}
 use Rattle.lookup.specs.Lookups.{find}
 use Rattle.book_check.proofs.Refusing.{passed}
@@ -8,27 +9,21 @@ use Rattle.lookup_find.proofs.Finding.{found_is, place_low}
 use Rattle.lookup_name_calls.proofs.Refused.{find-refused}
 use Rattle.lookup_name_calls.proofs.find.Goals as goal
 
-pub returns-then-c-ne0 : goal.returns-then-c-ne0
-returns-then-c-ne0 c = find-refused _ _ c.check-c.ensures c.if-c-ne0.true
+pub returns-in_err-c : goal.returns-in_err-c
+returns-in_err-c c =
+    let p = err_from_is_err_and c.from_residual.result c.from_residual.ensures.1 in
+    rw (p.1, p.2) (find-refused _ _ c.in_err-c.ensures)
 
 pub returns-then-not-is_name : goal.returns-then-not-is_name
 unfolding find
-returns-then-not-is_name c =
-    rw (
-      passed c.check-c.ensures c.if-c-ne0.false _ _,
-      sym c.is_name.ensures ∙ c.if-not-is_name.true,
-    )
+returns-then-not-is_name c = rw (passed c.in_ok-c.ensures _ _, sym c.is_name.ensures ∙ c.if-not-is_name.true)
 
 pub find_in-requires : goal.find_in-requires
-find_in-requires c =
-    let g = c.check-c.ensures in
-    place_low _ _ (g.held c.if-c-ne0.false) (g.located c.if-c-ne0.false)
+find_in-requires c = let k = c.in_ok-c.ensures in place_low _ _ k.held k.located
 
 pub returns : goal.returns
 unfolding find
 returns c =
-    let g = c.check-c.ensures in
-    rw (
-      passed g c.if-c-ne0.false _ _,
-      sym c.is_name.ensures ∙ c.if-not-is_name.false,
-    ) (c.find_in.ensures ∙ ap given (found_is _ _ (g.held c.if-c-ne0.false) (g.located c.if-c-ne0.false)))
+    let k = c.in_ok-c.ensures in
+    rw (passed k _ _, sym c.is_name.ensures ∙ c.if-not-is_name.false)
+    (ap given (c.find_in.ensures ∙ found_is _ _ k.held k.located))

@@ -10,39 +10,49 @@ use Rattle.book_write.proofs.Reports.{whole_refused, whole_written}
 use Rattle.merge.specs.Joined.{merged_entries}
 use Rattle.merge_calls.proofs.Whole.{whole_image, whole_length, whole_small, write_room}
 use Rattle.merge_calls.proofs.write_chosen.Goals as goal
+use Rattle.merge_calls.proofs.write_chosen.Goals.{After-records_at-start}
+
+-- where the records begin, and where the image ends
+starts_at : (c : After-records_at-start) → c.records_at-start.result ≡ records_at today c.args.count
+starts_at c = rw c.today-l.ensures at c.records_at-start.ensures
+
+total_small : (c : After-records_at-start) → c.records_at-start.result + c.args.size ≤ 55559
+total_small c = let q = c.requires in whole_small q.0 q.1 q.2 q.3 (starts_at c)
+
+total_is :
+    (c : After-records_at-start) → let a = c.args in
+    c.records_at-start.result + a.size ≡ length (book_image (merged_entries a.first.now a.second.now))
+total_is c = let q = c.requires in whole_length q.0 q.1 q.2 q.3 (starts_at c)
 
 pub records_at-start-requires : goal.records_at-start-requires
 records_at-start-requires c = c.requires.1
 
 pub overflow_add-total : goal.overflow_add-total
 overflow_add-total c =
-    let starts : c.records_at-start.result ≡ records_at today c.args.count = rw c.today-l.ensures at c.records_at-start.ensures in
-    let small : c.records_at-start.result + c.args.size ≤ 55559 = let q = c.requires in whole_small q.0 q.1 q.2 q.3 starts in
+    let small = total_small (goal.at.overflow_add-total c).After-records_at-start in
     omega (arith, small)
 
 pub returns-then-dst-total : goal.returns-then-dst-total
 returns-then-dst-total c =
-    let starts : c.records_at-start.result ≡ records_at today c.args.count = rw c.today-l.ensures at c.records_at-start.ensures in
-    let total : let a = c.args in c.records_at-start.result + a.size ≡ length (book_image (merged_entries a.first.now a.second.now)) = let q = c.requires in whole_length q.0 q.1 q.2 q.3 starts in
+    let total = total_is (goal.at.returns-then-dst-total c).After-records_at-start in
     let a = c.args in
     whole_refused today (merged_entries a.first.now a.second.now) a.dst.now total c.if-dst-total.true
 
 pub pass-requires : goal.pass-requires
 pass-requires c =
-    let starts : c.records_at-start.result ≡ records_at today c.args.count = rw c.today-l.ensures at c.records_at-start.ensures in
+    let starts = starts_at (goal.at.pass-requires c).After-records_at-start in
     let q = c.requires in
     write_room q.0 q.1 q.2 q.3 starts (omega (arith, c.if-dst-total.false))
 
 pub finish-requires : goal.finish-requires
 finish-requires c =
-    let starts : c.records_at-start.result ≡ records_at today c.args.count = rw c.today-l.ensures at c.records_at-start.ensures in
-    let small : c.records_at-start.result + c.args.size ≤ 55559 = let q = c.requires in whole_small q.0 q.1 q.2 q.3 starts in
+    let small = total_small (goal.at.finish-requires c).After-records_at-start in
     (c.requires.1, omega (arith, small))
 
 pub returns : goal.returns
 returns c =
-    let starts : c.records_at-start.result ≡ records_at today c.args.count = rw c.today-l.ensures at c.records_at-start.ensures in
-    let total : let a = c.args in c.records_at-start.result + a.size ≡ length (book_image (merged_entries a.first.now a.second.now)) = let q = c.requires in whole_length q.0 q.1 q.2 q.3 starts in
+    let starts = starts_at (goal.at.returns c).After-records_at-start in
+    let total = total_is (goal.at.returns c).After-records_at-start in
     let q = c.requires in
     let fits : c.records_at-start.result + c.args.size ≤ length c.args.dst.now = omega (
       arith,

@@ -1,6 +1,7 @@
 -- `merge_read::is_due_too` meets its contract: by whether the one is due.
 -- No loop.
-use mathlib.Core.Path.{◌∙◌, sym}
+use mathlib.Core.Path.{◌∙◌, ap, sym}
+use mathlib.Core.Bool.{not}
 use Rattle.merge_read.proofs.Dues.{due_other, due_same}
 use Rattle.merge_read.proofs.is_due_too.Goals as goal
 
@@ -9,4 +10,5 @@ returns-then-due c =
     c.equal.ensures ∙ sym (due_same c.args.name.now c.args.other.now (sym c.requires ∙ c.if-due.true))
 
 pub returns : goal.returns
-returns c = sym (due_other c.args.name.now c.args.other.now (sym c.requires ∙ c.if-due.false))
+returns c =
+    ap not c.is_empty.ensures ∙ sym (due_other c.args.name.now c.args.other.now (sym c.requires ∙ c.if-due.false))

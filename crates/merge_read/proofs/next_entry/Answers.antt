@@ -2,8 +2,10 @@
 -- (proofs/Turning). No loop.
 use mathlib.Core.Path.{sym}
 use native.Mathlib.Omega.{arith}
-use Rattle.merge_read.proofs.Turning.{due_low, loaded_few, loaded_fits, loaded_short, loaded_size, turned}
+use Rattle.merge_read.proofs.Turning.{due_low, loaded_few, loaded_fits, loaded_short, loaded_size, none_next, turned}
 use Rattle.merge_read.proofs.next_entry.Goals as goal
+use Rattle.merge_read.proofs.next_entry.Goals.{else-not-first_due-via-else-not-first_due}
+use Rattle.merge_read.proofs.next_entry.Goals.{else-not-first_due-via-then-not-first_due+else-not-second_due}
 
 pub slice_bounds-s-end : goal.slice_bounds-s-end
 slice_bounds-s-end c = loaded_fits c.requires.0
@@ -39,8 +41,19 @@ move_on-requires-2 c =
     let q = c.requires in
     (q.1, λ t. due_low q.1 q.0 c.is_due_too-second_due.ensures cc)
 
+pub returns-then-not-second_due : goal.returns-then-not-second_due
+returns-then-not-second_due c =
+    let q = c.requires in
+    none_next q.0 q.1 c.is_due-first_due.ensures c.is_due_too-second_due.ensures
+    (rw (c.if-not-first_due.true, c.if-not-second_due.true))
+
 pub returns : goal.returns
 returns c =
     let q = c.requires in
     turned q.0 q.1 c.is_due-first_due.ensures c.is_due_too-second_due.ensures c.choose-e.ensures
+    (elim c.else-not-first_due.branch [
+      | else-not-first_due-via-then-not-first_due+else-not-second_due w ↦
+          rw (w.if-not-first_due.true, w.if-not-second_due.false)
+      | else-not-first_due-via-else-not-first_due w ↦ rw w.if-not-first_due.false
+    ])
     c.move_on.ensures c.move_on-2.ensures

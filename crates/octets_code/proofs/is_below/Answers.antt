@@ -1,23 +1,7 @@
--- `octets_code::is_below` meets its contract: what stands behind the common prefix decides.
--- No loop.
-use borrow.Author.Tests.{le-leb, lt-leb}
-use Rattle.octets_code.proofs.Loops.{below_at_lem}
+-- `octets_code::is_below` meets its contract: the library's order of slices is byte order. No loop.
+use Rattle.std.proofs.Common.{◌∙◌}
+use Rattle.octets_code.proofs.Methods.{below_is}
 use Rattle.octets_code.proofs.is_below.Goals as goal
 
-pub returns-then-b-i : goal.returns-then-b-i
-returns-then-b-i c =
-    let s = c.args in
-    rw (le-leb _ _ c.if-b-i.true) at
-    (below_at_lem s.a.now s.b.now c.common_prefix-i.result c.common_prefix-i.ensures)
-
-pub returns-then-a-i : goal.returns-then-a-i
-returns-then-a-i c =
-    let s = c.args in
-    rw (lt-leb _ _ c.if-b-i.false, le-leb _ _ c.if-a-i.true) at
-    (below_at_lem s.a.now s.b.now c.common_prefix-i.result c.common_prefix-i.ensures)
-
 pub returns : goal.returns
-returns c =
-    let s = c.args in
-    rw (lt-leb _ _ c.if-b-i.false, lt-leb _ _ c.if-a-i.false) at
-    (below_at_lem s.a.now s.b.now c.common_prefix-i.result c.common_prefix-i.ensures)
+returns c = c.is_lt.ensures ∙ below_is c.args.a.now c.args.b.now c.cmp.result c.cmp.ensures

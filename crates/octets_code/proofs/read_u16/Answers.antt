@@ -1,20 +1,10 @@
--- `octets_code::read_u16` meets its contract, by the laws of `number_at` at width 2: in range, and past the end.
--- No loop.
-use mathlib.Core.Path.{sym}
-use native.Mathlib.Numerals.{add-one}
-use native.Mathlib.Omega.{arith}
-use Rattle.octets.specs.Octets.{from_be}
-use Rattle.octets_code.proofs.Loops.{number_in, number_out}
+-- `octets_code::read_u16` meets its contract, in range and past the end. No loop.
+use Rattle.std.proofs.Common.{sym}
+use Rattle.octets_code.proofs.Methods.{number_out, read_two}
 use Rattle.octets_code.proofs.read_u16.Goals as goal
 
-pub returns-then-s-lt2 : goal.returns-then-s-lt2
-returns-then-s-lt2 c = sym (number_out 2 _ _ (omega arith))
+pub returns-in-Some : goal.returns-in-Some
+returns-in-Some c = read_two c.args.s.now c.args.at c.in-Some.bytes c.in-Some.ensures.0 c.in-Some.ensures.1 c.from_be_bytes.ensures
 
-pub returns-then-s-at : goal.returns-then-s-at
-returns-then-s-at c = sym (number_out 2 _ _ (omega arith))
-
-pub returns : goal.returns
-unfolding from_be
-returns c =
-    let s = c.args in
-    omega (arith, simp add-one at c.pair.ensures, number_in 2 s.s.now s.at (omega arith))
+pub returns-in-None : goal.returns-in-None
+returns-in-None c = sym (number_out 2 c.args.s.now c.args.at c.in-None.ensures)

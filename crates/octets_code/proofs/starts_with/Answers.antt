@@ -1,10 +1,7 @@
--- `octets_code::starts_with` meets its contract: the common prefix is all of `prefix`.
--- No loop.
-use mathlib.Core.Path.{sym}
-use Rattle.octets_code.proofs.Loops.{begins-common}
+-- `octets_code::starts_with` meets its contract: the library compares `prefix` with as many bytes. No loop.
+use Rattle.std.proofs.Common.{◌∙◌}
+use Rattle.octets_code.proofs.Methods.{begins_is}
 use Rattle.octets_code.proofs.starts_with.Goals as goal
 
 pub returns : goal.returns
-returns c =
-    let s = c.args in
-    rw c.common_prefix.ensures (sym (begins-common s.prefix.now s.s.now))
+returns c = c.starts_with.ensures.value ∙ begins_is c.args.prefix.now c.args.s.now

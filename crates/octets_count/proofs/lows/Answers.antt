@@ -1,40 +1,39 @@
-use Prim.Native.Nat.{◌≤◌}
-use mathlib.Core.Path.{◌∙◌, ap, sym}
-use lib.ListN.{drop}
-use lib.Seq.{take_all}
-use native.Mathlib.Omega.{arith}
+use Rattle.std.proofs.Common.{◌≡◌, ◌+◌, ◌*◌, ◌/◌, ap, arith, drop, length, length-drop, length-take, take}
 use Rattle.octets_count.specs.Counts.{low_count, stretch}
-use Rattle.octets_count.proofs.Laws.{low_both, low_front, low_more, low_none}
+use Rattle.octets_count.proofs.Laws.{low_all, low_few, low_next, low_none}
 use Rattle.octets_count.proofs.lows.Goals as goal
 
-pub loop-i-init : goal.loop-i-init
-loop-i-init c = (omega arith, omega arith, sym low_none)
+pub loop-one-init : goal.loop-one-init
+loop-one-init c = let e = ap low_count c.as_chunks.ensures.back in omega (arith, low_none)
 
-pub overflow_cast-count : goal.overflow_cast-count
-overflow_cast-count c =
-    let few : c.lows_of_stretch.result ≤ stretch = omega (arith, c.lows_of_stretch.ensures, low_front stretch (drop c.loop-i.i c.args.s.now)) in
-    omega (arith, few)
+counted : (c : goal.After-lows_of_stretch) → c.loop-one.count + c.lows_of_stretch.result
+    ≡ low_count (take ((c.loop-one.one-index + 1) * stretch) c.args.s.now)
+    + low_count (drop (length c.args.s.now / stretch * stretch) c.args.s.now)
+counted c =
+    let s = c.args.s.now in
+    let i = c.loop-one.one-index in
+    let n = low_next stretch (length s / stretch) s i (omega arith) in
+    let e = rw c.as_chunks.ensures.front at c.lows_of_stretch.ensures in
+    omega arith
 
 pub overflow_add-count : goal.overflow_add-count
 overflow_add-count c =
-    let few : c.lows_of_stretch.result ≤ stretch = omega (arith, c.lows_of_stretch.ensures, low_front stretch (drop c.loop-i.i c.args.s.now)) in
-    omega (arith, few)
+    let s = c.args.s.now in
+    let i = c.loop-one.one-index in
+    omega (
+      arith,
+      counted c,
+      low_few (take ((i + 1) * stretch) s),
+      length-take ((i + 1) * stretch) s,
+      low_few (drop (length s / stretch * stretch) s),
+      length-drop (length s / stretch * stretch) s,
+    )
 
-pub loop-i-preserved : goal.loop-i-preserved
-loop-i-preserved c =
-    let few : c.lows_of_stretch.result ≤ stretch = omega (arith, c.lows_of_stretch.ensures, low_front stretch (drop c.loop-i.i c.args.s.now)) in
-    let b = low_both c.loop-i.i stretch c.args.s.now in
-    (omega arith, omega (arith, few), omega arith)
-
-pub loop-i-2-init : goal.loop-i-2-init
-loop-i-2-init c = c.loop-i.invariant
-
-pub loop-i-2-preserved : goal.loop-i-2-preserved
-loop-i-2-preserved c =
-    let m = low_more c.loop-i-2.i c.args.s.now (omega arith) in
-    (omega arith, omega arith, omega arith)
+pub loop-one-preserved : goal.loop-one-preserved
+loop-one-preserved c = counted c
 
 pub returns : goal.returns
 returns c =
     let s = c.args.s.now in
-    c.loop-i-2.invariant.2 ∙ ap low_count (take_all c.loop-i-2.i s (omega arith))
+    let i : c.loop-one.one-index ≡ length s / stretch = omega arith in
+    omega (arith, (rw i at c.loop-one.invariant), low_all (length s / stretch * stretch) s)

@@ -1,14 +1,8 @@
--- `octets_count::lows_of_stretch` meets its contract. The loop's invariant: the count is that of the stretch's first j
--- bytes, and at most j. The measure is how many are left.
-use Prim.Native.Nat.{◌-◌, ◌≤◌}
-use mathlib.Core.Path.{◌≡◌}
-use lib.ListN.{drop, take}
-use Rattle.octets_count.specs.Counts.{low_count, stretch}
+-- `octets_count::lows_of_stretch` meets its contract. The loop's invariant: the count is that of the bytes so far, and
+-- there are no more of them than bytes.
+use Rattle.std.proofs.Common.{◌≡◌, ◌≤◌, take}
+use Rattle.octets_count.specs.Counts.{low_count}
 use Rattle.octets_count.proofs.lows_of_stretch.Given as goal
 
-abbrev pub invariant-loop-j : goal.invariant-loop-j
-invariant-loop-j l =
-    (l.j ≤ stretch) × (l.count ≤ l.j) × (l.count ≡ low_count (take l.j (drop l.at l.s)))
-
-abbrev pub decreases-loop-j : goal.decreases-loop-j
-decreases-loop-j l = stretch - l.j
+abbrev pub invariant-loop-x : goal.invariant-loop-x
+invariant-loop-x l = (l.count ≤ l.x-index) × (l.count ≡ low_count (take l.x-index l.s))

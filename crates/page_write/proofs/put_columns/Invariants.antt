@@ -1,6 +1,5 @@
 -- `page_write::put_columns` meets its contract. The loop's invariant: the columns put in, and those left, are all of
--- them. The measure is the number of columns left.
-use Prim.Native.Nat.{◌-◌, ◌≤◌}
+-- them.
 use mathlib.Core.Path.{◌≡◌}
 use mathlib.Core.List.{◌++◌}
 use lib.ListN.{drop, length, take}
@@ -9,8 +8,5 @@ use Rattle.page_write.proofs.put_columns.Given as goal
 
 abbrev pub invariant-loop-j : goal.invariant-loop-j
 invariant-loop-j l =
-    (l.j ≤ page_columns) × (length l.line ≡ page_columns)
+    (length l.line ≡ page_columns)
     × (take l.j l.line ++ drop l.j (padded page_columns (take l.n l.row)) ≡ padded page_columns (take l.n l.row))
-
-abbrev pub decreases-loop-j : goal.decreases-loop-j
-decreases-loop-j l = page_columns - l.j

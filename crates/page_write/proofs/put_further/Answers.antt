@@ -1,33 +1,42 @@
-use Prim.Native.Nat.{◌-◌}
-use native.Mathlib.Omega.{arith}
+use Rattle.std.proofs.Common.{◌<◌, ◌≡◌, ◌++◌, ◌∙◌, ap, arith, length, min}
+use Rattle.std.specs.Slice.Iter.{chunks_rest, chunks_size}
+use Rattle.page.specs.Page.{name_columns}
 use Rattle.page_write.proofs.Writing.{go_end, go_on, go_room, go_start, part_fits}
 use Rattle.page_write.proofs.put_further.Goals as goal
+use Rattle.page_write.proofs.put_further.Goals.{In-Some}
 
-pub loop-from-init : goal.loop-from-init
-loop-from-init c = go_start _ _ _
+-- the part that comes next, of what is left
+next_part : (c : In-Some) → let left = chunks_rest c.loop-part.part-iterator in
+    (0 < length left) × (left ≡ c.in-Some.part.now ++ chunks_rest c.next.new.self)
+    × (length c.in-Some.part.now ≡ min name_columns (length left))
+next_part c = let f = c.in-Some.ensures.steps.1 in (f.2, f.0, rw c.loop-part.invariant.1 at f.1)
 
-pub overflow_add-to : goal.overflow_add-to
-overflow_add-to c = omega (arith, c.least.ensures, c.loop-from.invariant.upto)
-
-pub slice_bounds-put_line-end : goal.slice_bounds-put_line-end
-slice_bounds-put_line-end c = omega (arith, c.least.ensures, c.loop-from.invariant.upto)
+pub loop-part-init : goal.loop-part-init
+loop-part-init c =
+    let i = c.into_iter-part-iterator.ensures.into_iter_gives in (
+      go_start _ _ (ap chunks_rest i ∙ c.chunks-part-items.ensures.rest),
+      ap chunks_size i ∙ c.chunks-part-items.ensures.size,
+    )
 
 pub put_line-requires : goal.put_line-requires
 put_line-requires c =
-    (go_room c.loop-from.invariant c.loop-from-test.true c.requires, part_fits c.loop-from.invariant c.loop-from-test.true c.least.ensures)
+    let n = next_part (goal.at.put_line-requires c).In-Some in
+    (go_room c.loop-part.invariant.0 _ _ n.0 n.1 n.2 c.requires, part_fits c.loop-part.invariant.0 _ _ n.0 n.1 n.2)
 
 pub overflow_add-end : goal.overflow_add-end
-overflow_add-end c = omega (arith, go_room c.loop-from.invariant c.loop-from-test.true c.requires)
+overflow_add-end c =
+    let n = next_part (goal.at.overflow_add-end c).In-Some in
+    omega (arith, go_room c.loop-part.invariant.0 _ _ n.0 n.1 n.2 c.requires)
 
-pub loop-from-smaller : goal.loop-from-smaller
-loop-from-smaller c = omega (arith, c.least.ensures, c.loop-from-test.true)
-
-pub loop-from-preserved : goal.loop-from-preserved
-loop-from-preserved c =
-    go_on c.loop-from.invariant c.loop-from-test.true c.least.ensures c.put_line.auto.dst c.put_line.ensures
+pub loop-part-preserved : goal.loop-part-preserved
+loop-part-preserved c =
+    let n = next_part (goal.at.loop-part-preserved c).In-Some in (
+      go_on c.loop-part.invariant.0 _ _ n.0 n.1 n.2 c.put_line.auto.dst c.put_line.ensures,
+      c.in-Some.ensures.steps.0 ∙ c.loop-part.invariant.1,
+    )
 
 pub shape_of-dst : goal.shape_of-dst
-shape_of-dst c = c.loop-from.invariant.long
+shape_of-dst c = c.loop-part.invariant.0.long
 
 pub returns : goal.returns
-returns c = go_end c.loop-from.invariant c.requires c.loop-from-test.false
+returns c = go_end c.loop-part.invariant.0 c.requires c.in-None.ensures.steps.1.0

@@ -11,7 +11,7 @@ use Rattle.book.specs.Book.{in_book}
 use Rattle.panel.specs.Panel.{highlighted, held_in, offered_for, panel_of, row_with, typed_in, typing}
 use Rattle.panel_typing.proofs.Text.{typed_length}
 use Rattle.panel_typing.specs.Typing.{moved_row, takes}
-use Rattle.panel_rows.specs.Rows.{Rows, row_at}
+use Rattle.panel_rows.specs.Rows.{Rows}
 use Rattle.panel_rows.proofs.Rows.{on_row_of}
 use Rattle.panel_keys.proofs.Acts as acts
 use Rattle.panel_keys.proofs.act.Goals as goal

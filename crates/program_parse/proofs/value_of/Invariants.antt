@@ -1,12 +1,7 @@
 -- `program_parse::value_of` meets its contract. The loop's invariant: the digits that are left, on the value so far,
--- give the whole value, and it is below the power of ten of the digits passed. The measure is how many are left.
---
-use Prim.Native.Nat.{◌-◌}
+-- give the whole value, and it is below the power of ten of the digits passed.
 use Rattle.program_parse.proofs.Digits.{Valuing}
 use Rattle.program_parse.proofs.value_of.Given as goal
 
-abbrev pub invariant-loop-i : goal.invariant-loop-i
-invariant-loop-i l = Valuing l.s l.n l.i l.v
-
-abbrev pub decreases-loop-i : goal.decreases-loop-i
-decreases-loop-i l = l.n - l.i
+abbrev pub invariant-loop-b : goal.invariant-loop-b
+invariant-loop-b l = Valuing l.s l.n l.b-index l.v

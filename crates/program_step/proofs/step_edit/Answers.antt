@@ -4,4 +4,4 @@ use Rattle.program_step.proofs.Editing.{edit_done}
 use Rattle.program_step.proofs.step_edit.Goals as goal
 
 pub returns : goal.returns
-returns c = edit_done c.perform-w.ensures c.print_edit.ensures c.turned_after.ensures
+returns c = edit_done c.perform-answer.ensures c.print_edit.ensures c.turned_after.ensures

@@ -7,9 +7,9 @@ use Rattle.script.specs.Run.{bench}
 use Rattle.script_calls.proofs.Playing.{Playing}
 use Rattle.script_calls.proofs.play.Given as goal
 
-abbrev pub invariant-loop-at : goal.invariant-loop-at
-invariant-loop-at l =
+abbrev pub invariant-loop-len : goal.invariant-loop-len
+invariant-loop-len l =
     Playing l.script (bench l.initial.first l.initial.second false) l.initial.out l.at l.slot (bench l.first l.second l.turned) l.out
 
-abbrev pub decreases-loop-at : goal.decreases-loop-at
-decreases-loop-at l = length l.script - l.at
+abbrev pub decreases-loop-len : goal.decreases-loop-len
+decreases-loop-len l = length l.script - l.at

@@ -1,15 +1,14 @@
 -- `script_step::call` meets its contract: by the call's kind; the counts of a book that was written are small.
--- No loop, so no invariant.
 use native.Mathlib.Omega.{arith}
 use Rattle.script_step.proofs.Calling.{set_called, withdraw_called}
 use Rattle.script_step.proofs.call.Goals as goal
 
-pub returns-then-set : goal.returns-then-set
-returns-then-set c =
+pub returns-in-Set : goal.returns-in-Set
+returns-in-Set c =
     let a = c.args in
-    set_called a.name.now a.book.now a.dst.now a.score c.if-set.true (omega arith) c.set.ensures
+    rw c.in-Set.is (set_called a.name.now a.book.now a.dst.now c.in-Set.score (omega arith) c.set.ensures)
 
-pub returns : goal.returns
-returns c =
+pub returns-in-Withdraw : goal.returns-in-Withdraw
+returns-in-Withdraw c =
     let a = c.args in
-    withdraw_called a.name.now a.book.now a.dst.now a.score c.if-set.false c.withdraw.ensures
+    rw c.in-Withdraw.is (withdraw_called a.name.now a.book.now a.dst.now c.withdraw.ensures)

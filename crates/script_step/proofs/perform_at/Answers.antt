@@ -1,22 +1,22 @@
 -- `script_step::perform_at` meets its contract: the call that the kind names, with the name behind the 7 bytes in
--- front. No loop, so no invariant.
-use mathlib.Core.Path.{refl}
+-- front.
 use native.Mathlib.Omega.{arith}
-use Rattle.script.proofs.Script.{CallStands, call-stands}
-use Rattle.script_step.proofs.Calling.{call-parts, part_name}
+use Rattle.script.proofs.Script.{call-stands}
+use Rattle.script_step.proofs.Calling.{part_name, set_part, withdraw_part}
 use Rattle.script_step.proofs.perform_at.Goals as goal
 
-pub bounds-s-0 : goal.bounds-s-0
-bounds-s-0 c =
-    let stands : CallStands c.args.s.now = call-stands _ c.requires in
-    omega (arith, stands.long)
+pub slice_bounds-name-end : goal.slice_bounds-name-end
+slice_bounds-name-end c = omega (arith, (call-stands c.args.s.now c.requires).whole, c.read_u16.ensures)
 
-pub slice_bounds-perform-end : goal.slice_bounds-perform-end
-slice_bounds-perform-end c =
-    let stands : CallStands c.args.s.now = call-stands _ c.requires in
-    omega (arith, stands.whole, c.read_u16.ensures)
+pub bounds-s-0 : goal.bounds-s-0
+bounds-s-0 c = omega (arith, (call-stands c.args.s.now c.requires).long)
+
+pub returns-then-s-eq0 : goal.returns-then-s-eq0
+returns-then-s-eq0 c =
+    let s = c.args.s.now in
+    rw (set_part s (part_name s c.read_u16.ensures) c.if-s-eq0.true c.read_u32-score.ensures) at c.perform.ensures
 
 pub returns : goal.returns
 returns c =
     let s = c.args.s.now in
-    rw (call-parts s refl (part_name s c.read_u16.ensures) c.read_u32-score.ensures) at c.perform.ensures
+    rw (withdraw_part s (part_name s c.read_u16.ensures) c.if-s-eq0.false) at c.perform-2.ensures

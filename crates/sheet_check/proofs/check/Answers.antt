@@ -5,36 +5,39 @@ use Rattle.octets.proofs.Numbers.{Bytes}
 use Rattle.frame_code.proofs.Checked.{Framed, frame_held, no_end_lem, no_frame, other_end}
 use Rattle.sheet_check.proofs.Answer.{is_sheet, must_end, rows_walk, sheet_format}
 use Rattle.sheet_check.proofs.check.Goals as goal
+use Rattle.sheet_check.proofs.check.Goals.{In_ok-entries}
 
-pub returns-in_default : goal.returns-in_default
-returns-in_default c =
-    let bytes : Bytes c.args.buf.now = λ i. (omega (arith, c.shared_slice_known-1.given i)) in
-    no_frame sheet_format _ bytes c.check_frame.ensures c.in_default.is
+-- the frame has passed
+framed : (c : In_ok-entries) → Framed 0x11 c.args.buf.now c.in_ok-entries.field-0.entries c.in_ok-entries.field-0.total
+framed c = frame_held _ _ c.check_frame.ensures c.in_ok-entries.was
+
+bytes : (c : In_ok-entries) → Bytes c.args.buf.now
+bytes c = λ i. omega (arith, c.type_inv.buf i)
+
+pub returns-in_err-entries : goal.returns-in_err-entries
+returns-in_err-entries c =
+    rw c.from_residual.ensures
+    (no_frame sheet_format _ (λ i. omega (arith, c.type_inv.buf i)) c.check_frame.ensures c.in_err-entries.was)
 
 pub rows_end-requires : goal.rows_end-requires
 rows_end-requires c =
-    let framed : Framed 0x11 c.args.buf.now c.in-Holds.entries c.in-Holds.total = frame_held _ _ c.check_frame.ensures c.in-Holds.is in
-    (framed.few, framed.long)
+    let f = framed (goal.at.rows_end-requires c).In_ok-entries in (f.few, f.long)
 
-pub returns-in_default-rows_end : goal.returns-in_default-rows_end
-returns-in_default-rows_end c =
-    let framed : Framed 0x11 c.args.buf.now c.in-Holds.entries c.in-Holds.total = frame_held _ _ c.check_frame.ensures c.in-Holds.is in
-    let bytes : Bytes c.args.buf.now = λ i. (omega (arith, c.shared_slice_known-1.given i)) in
-    let f = framed in
-    no_end_lem sheet_format _ bytes f (rows_walk f) (must_end f) c.rows_end.ensures
-    c.in_default-rows_end.is
+pub returns-in_err-end : goal.returns-in_err-end
+returns-in_err-end c =
+    let w = (goal.at.returns-in_err-end c).In_ok-entries in
+    let f = framed w in
+    rw c.from_residual-in_err-end.ensures
+    (no_end_lem sheet_format _ (bytes w) f (rows_walk f) (must_end f) c.rows_end.ensures c.in_err-end.was)
 
 pub returns-then-end-total : goal.returns-then-end-total
 returns-then-end-total c =
-    let framed : Framed 0x11 c.args.buf.now c.in-Holds.entries c.in-Holds.total = frame_held _ _ c.check_frame.ensures c.in-Holds.is in
-    let bytes : Bytes c.args.buf.now = λ i. (omega (arith, c.shared_slice_known-1.given i)) in
-    let f = framed in
-    other_end sheet_format _ bytes f (rows_walk f) (must_end f) c.rows_end.ensures
-    c.in-At.is c.if-end-total.true
+    let w = (goal.at.returns-then-end-total c).In_ok-entries in
+    let f = framed w in
+    other_end sheet_format _ (bytes w) f (rows_walk f) (must_end f) c.rows_end.ensures c.in_ok-end.was
+    c.if-end-total.true
 
 pub returns : goal.returns
 returns c =
-    let framed : Framed 0x11 c.args.buf.now c.in-Holds.entries c.in-Holds.total = frame_held _ _ c.check_frame.ensures c.in-Holds.is in
-    let bytes : Bytes c.args.buf.now = λ i. (omega (arith, c.shared_slice_known-1.given i)) in
-    is_sheet framed bytes c.rows_end.ensures c.in-At.is
-    c.if-end-total.false
+    let w = (goal.at.returns c).In_ok-entries in
+    is_sheet (framed w) (bytes w) c.rows_end.ensures c.in_ok-end.was c.if-end-total.false

@@ -10,6 +10,7 @@ use Rattle.entries.specs.Names.{is_name}
 use Rattle.octets.proofs.Stores.{part_bytes}
 use Rattle.sheet_check.specs.Check.{row_is, row_length, row_name}
 use Rattle.sheet_check.proofs.row_is.Goals as goal
+use Rattle.sheet_check.proofs.row_is.Goals.{After-is_name}
 
 pub returns-then-s-lt-ENTRY_OVERHEAD : goal.returns-then-s-lt-ENTRY_OVERHEAD
 unfolding row_is
@@ -17,7 +18,7 @@ returns-then-s-lt-ENTRY_OVERHEAD c =
     let s = c.args.s.now in rw (lt-leb (row_length s) (length s) (omega arith))
 
 pub overflow_cast-len : goal.overflow_cast-len
-overflow_cast-len c = omega (arith, c.shared_slice_known-3-1.given 0)
+overflow_cast-len c = omega (arith, c.type_inv.s 0)
 
 pub returns-then-s-len : goal.returns-then-s-len
 unfolding row_is
@@ -25,17 +26,22 @@ returns-then-s-len c =
     let s = c.args.s.now in
     rw (lt-leb (row_length s) (length s) (omega arith))
 
-pub returns-then-not-is_name : goal.returns-then-not-is_name
+-- all its bytes are there
+lengths : (c : After-is_name) → let prev = c.args.prev.now in let s = c.args.s.now in
+    row_is prev s ≡ (is_name (row_name s) && below prev (row_name s))
 unfolding row_is
+lengths c = let s = c.args.s.now in rw (le-leb (row_length s) (length s) (omega arith))
+
+named : (c : After-is_name) → is_name (row_name c.args.s.now) ≡ c.is_name.result
+named c = let s = c.args.s.now in rw (part_bytes s 1 (get_or s 0 0)) at (sym c.is_name.ensures)
+
+pub returns-then-not-is_name : goal.returns-then-not-is_name
 returns-then-not-is_name c =
-    let lengths : row_is (c.args.prev.now) (c.args.s.now) ≡ (is_name (row_name (c.args.s.now)) && below (c.args.prev.now) (row_name (c.args.s.now))) = rw (le-leb (row_length c.args.s.now) (length c.args.s.now) (omega arith)) in
-    let named : is_name (row_name (c.args.s.now)) ≡ c.is_name.result = rw (part_bytes c.args.s.now 1 (get_or c.args.s.now 0 0)) at (sym c.is_name.ensures) in
-    rw (lengths, named, c.if-not-is_name.true)
+    let w = (goal.at.returns-then-not-is_name c).After-is_name in
+    rw (lengths w, named w, c.if-not-is_name.true)
 
 pub returns : goal.returns
-unfolding row_is
 returns c =
-    let lengths : row_is (c.args.prev.now) (c.args.s.now) ≡ (is_name (row_name (c.args.s.now)) && below (c.args.prev.now) (row_name (c.args.s.now))) = rw (le-leb (row_length c.args.s.now) (length c.args.s.now) (omega arith)) in
-    let named : is_name (row_name (c.args.s.now)) ≡ c.is_name.result = rw (part_bytes c.args.s.now 1 (get_or c.args.s.now 0 0)) at (sym c.is_name.ensures) in
-    rw (lengths, named, c.if-not-is_name.false)
-    (rw (part_bytes c.args.s.now 1 (get_or c.args.s.now 0 0)) at c.is_below.ensures)
+    let w = (goal.at.returns c).After-is_name in
+    let s = c.args.s.now in
+    rw (lengths w, named w, c.if-not-is_name.false) (rw (part_bytes s 1 (get_or s 0 0)) at c.is_below.ensures)

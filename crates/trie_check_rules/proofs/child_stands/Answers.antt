@@ -23,5 +23,5 @@ returns-then-not-p c =
 pub returns : goal.returns
 returns c =
     let a = c.args in
-    child_own a.p a.n c.if-n-eq0.false c.own_size.result c.less.result c.if-n-p.false
-    (not-false a.p.own c.if-not-p.false) c.less.ensures c.own_size.ensures
+    child_own a.p a.n c.if-n-eq0.false c.own_size.result c.saturating_sub.result c.if-n-p.false
+    (not-false a.p.own c.if-not-p.false) c.saturating_sub.ensures c.own_size.ensures

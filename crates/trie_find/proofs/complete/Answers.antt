@@ -1,4 +1,3 @@
-use Prim.Native.Nat.{◌-◌}
 use native.Mathlib.Omega.{arith}
 use Rattle.trie_find.proofs.Offering.{offering-full, offering-length, offering-none, offering_on}
 use Rattle.trie_find.proofs.Offering.{offering_ready, offering_room, offering_start}
@@ -21,7 +20,8 @@ returns-then-queue-eq0 c =
 pub next_turn-turn-requires : goal.next_turn-turn-requires
 next_turn-turn-requires c =
     offering_ready c.args.trie.now c.args.prefix.now c.args.k c.args.dst.now c.loop-offered.dst c.loop-offered.queue
-    c.loop-offered.offered c.loop-offered.bytes c.loop-offered.invariant c.loop-offered-test.true c.requires.2 (omega (arith, c.if-queue-eq0.false))
+    c.loop-offered.offered c.loop-offered.bytes c.loop-offered.invariant c.loop-offered-test.true c.requires.2
+    (omega (arith, c.if-queue-eq0.false))
 
 pub put_leaf-bytes-requires : goal.put_leaf-bytes-requires
 put_leaf-bytes-requires c =

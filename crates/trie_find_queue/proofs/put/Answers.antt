@@ -14,7 +14,7 @@ pub put_at-requires : goal.put_at-requires
 put_at-requires c =
     let a = rank_most c.args.x (waits c.args.q) in
     let b = length-take c.args.q.count c.args.q.nodes in
-    (omega (arith, a, b, c.rank_among-i.ensures), omega (arith, c.requires.2), omega (arith, c.requires.2, c.requires.3))
+    (omega (arith, a, b, c.rank_among-i.ensures), omega arith, omega arith)
 
 pub returns : goal.returns
 returns c =

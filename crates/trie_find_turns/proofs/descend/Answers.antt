@@ -1,4 +1,3 @@
-use Prim.Native.Nat.{◌-◌}
 use mathlib.Core.Path.{◌∙◌, ◌≡◌, ap, sym}
 use mathlib.Core.Bool.{false}
 use native.Mathlib.Omega.{arith}
@@ -7,6 +6,10 @@ use Rattle.trie_find_queue.specs.Waits.{path_of}
 use Rattle.trie_find_turns.proofs.Leading.{heading_on, heading_start, nobody_reaches, toward_ahead}
 use Rattle.trie_find_turns.proofs.Leading.{toward_here, toward_inside, toward_onward, toward_short, toward_stuck}
 use Rattle.trie_find_turns.proofs.descend.Goals as goal
+use Rattle.trie_find_turns.proofs.descend.Goals.{In-loop-node}
+
+not_begun : (c : In-loop-node) → begins c.args.prefix.now (path_of c.loop-node.node) ≡ false
+not_begun c = sym c.is_begun.ensures ∙ c.loop-node-test.true
 
 pub loop-node-init : goal.loop-node-init
 loop-node-init c = heading_start _ _ _ c.requires
@@ -21,11 +24,11 @@ is_stuck-requires c =
 
 pub returns-then-is_stuck : goal.returns-then-is_stuck
 returns-then-is_stuck c =
-    let not_begun : begins c.args.prefix.now (path_of c.loop-node.node) ≡ false = sym c.is_begun.ensures ∙ c.loop-node-test.true in
+    let n = not_begun (goal.at.returns-then-is_stuck c).In-loop-node in
     let bs = c.args.trie.now in
     let p = c.args.prefix.now in
     λ ws d. nobody_reaches bs ws c.nobody.result
-    (toward_stuck bs p c.loop-node.node ws (c.loop-node.invariant.keeps ws d) not_begun
+    (toward_stuck bs p c.loop-node.node ws (c.loop-node.invariant.keeps ws d) n
     (sym c.is_stuck.ensures ∙ c.if-is_stuck.true))
     c.nobody.ensures
 
@@ -44,9 +47,9 @@ loop-node-smaller c =
 
 pub loop-node-preserved : goal.loop-node-preserved
 loop-node-preserved c =
-    let not_begun : begins c.args.prefix.now (path_of c.loop-node.node) ≡ false = sym c.is_begun.ensures ∙ c.loop-node-test.true in
+    let n = not_begun (goal.at.loop-node-preserved c).In-loop-node in
     heading_on c.args.trie.now c.args.prefix.now c.args.x c.loop-node.node c.loop-node.invariant
-    not_begun (sym c.is_stuck.ensures ∙ c.if-is_stuck.false)
+    n (sym c.is_stuck.ensures ∙ c.if-is_stuck.false)
     c.next_on_way-node.result c.next_on_way-node.ensures
 
 pub returns : goal.returns

@@ -1,6 +1,7 @@
-use Rattle.std.proofs.Common.{ℕ, ◌*◌, ◌+◌, ◌-◌, ◌<◌, arith, refl, subst}
+use Rattle.std.proofs.Common.{ℕ, ◌*◌, ◌+◌, ◌-◌, ◌<◌, arith, get_or, length-take, refl, subst}
 use Rattle.entries.specs.Names.{longest_name}
-use Rattle.trie_write.proofs.Turning.{deep, kept, not_one, turn, turn_end, turn_ready, turn_start}
+use Rattle.trie_write_runs.specs.Runs.{no_run}
+use Rattle.trie_write.proofs.Turning.{deep, not_one, turn, turn_end, turn_ready, turn_start}
 use Rattle.trie_write.proofs.Turning.{under_falls, under_low, under_ready}
 use Rattle.trie_write.proofs.+group.Goals as goal
 
@@ -12,18 +13,17 @@ overflow_add-d t c =
     let p = c.split-count.ensures in
     omega (
       arith,
-      deep c.requires (not_one c.requires c.if-rows-eq1.false) p.0 p.1 c.loop-i.invariant refl c.loop-i-test.true
-          c.run_at-r.ensures,
+      deep c.requires (not_one c.requires c.if-rows-eq1.false) p.0 p.1 c.loop-i.invariant refl c.loop-i-test.true,
     )
 
 pub group-n-requires : goal.group-n-requires
 group-n-requires t c =
     let p = c.split-count.ensures in
-    let n = not_one c.requires c.if-rows-eq1.false in (
-      subst (λ (x : ℕ). (longest_name - (c.args.rows.d + c.run_at-r.result.len)) * 2048 +
-          (c.run_at-r.result.hi - c.run_at-r.result.lo) < x) c.decreases
-          (under_falls c.requires n p.0 p.1 c.loop-i.invariant refl c.loop-i-test.true c.run_at-r.ensures),
-      under_ready c.requires n p.0 p.1 c.loop-i.invariant refl c.loop-i-test.true c.run_at-r.ensures,
+    let n = not_one c.requires c.if-rows-eq1.false in
+    let r = get_or c.loop-i.runs (c.loop-i.i - 1) no_run in (
+      subst (λ (x : ℕ). (longest_name - (c.args.rows.d + r.len)) * 2048 + (r.hi - r.lo) < x) c.decreases
+          (under_falls c.requires n p.0 p.1 c.loop-i.invariant refl c.loop-i-test.true),
+      under_ready c.requires n p.0 p.1 c.loop-i.invariant refl c.loop-i-test.true,
     )
 
 pub overflow_cast-n : goal.overflow_cast-n
@@ -32,20 +32,20 @@ overflow_cast-n t c =
     omega (
       arith,
       under_low c.requires (not_one c.requires c.if-rows-eq1.false) p.0 p.1 c.loop-i.invariant refl
-          c.loop-i-test.true c.run_at-r.ensures c.group-n.ensures,
+          c.loop-i-test.true c.group-n.ensures,
     )
 
 pub loop-i-preserved : goal.loop-i-preserved
 loop-i-preserved t c =
     let p = c.split-count.ensures in
     turn c.requires (not_one c.requires c.if-rows-eq1.false) p.0 p.1 c.loop-i.invariant refl c.loop-i-test.true
-    c.run_at-r.ensures c.group-n.ensures c.with_under-filled.result c.with_under-filled.ensures c.put_run.ensures
+    c.group-n.ensures c.with_under.result c.with_under.ensures refl
 
 pub finish-requires : goal.finish-requires
 finish-requires t c =
     let p = c.split-count.ensures in
     let n = not_one c.requires c.if-rows-eq1.false in (
-      kept c.requires n p.0 p.1 c.loop-i.invariant refl,
+      omega (arith, p.0.few, length-take c.split-count.result c.loop-i.runs),
       turn_ready c.requires n p.0 p.1 c.loop-i.invariant refl c.loop-i-test.false,
     )
 

@@ -7,24 +7,25 @@ pub overflow_sub-all : goal.overflow_sub-all
 overflow_sub-all t c = (row_long c.requires).0
 
 pub returns-then-len-eq0 : goal.returns-then-len-eq0
-returns-then-len-eq0 t c = lone-none c.requires (sym c.least-len.ensures ∙ c.if-len-eq0.true)
+returns-then-len-eq0 t c = lone-none c.requires (sym c.min-len.ensures ∙ c.if-len-eq0.true)
 
 pub lone-n-requires : goal.lone-n-requires
 lone-n-requires t c = (
-  subst (λ (x : ℕ). longest_name - (c.args.d + c.least-len.result) < x) c.decreases
-      (lone_falls c.requires c.least-len.ensures c.if-len-eq0.false),
-  lone_ready c.requires c.least-len.ensures c.if-len-eq0.false c.args.dst.now refl,
+  subst (λ (x : ℕ). longest_name - (c.args.d + c.min-len.result) < x) c.decreases
+      (lone_falls c.requires c.min-len.ensures c.if-len-eq0.false),
+  lone_ready c.requires c.min-len.ensures c.if-len-eq0.false c.args.dst.now refl,
 )
 
 pub overflow_cast-under : goal.overflow_cast-under
 overflow_cast-under t c = omega (
   arith,
-  lone_low c.requires c.least-len.ensures c.if-len-eq0.false refl c.lone-n.ensures,
+  lone_low c.requires c.min-len.ensures c.if-len-eq0.false refl c.lone-n.ensures,
 )
 
-pub finish_one-requires : goal.finish_one-requires
-finish_one-requires t c = lone_finish c.requires c.least-len.ensures c.if-len-eq0.false refl c.lone-n.ensures
+pub finish-requires : goal.finish-requires
+finish-requires t c =
+    (omega arith, lone_finish c.requires c.min-len.ensures c.if-len-eq0.false refl c.lone-n.ensures)
 
 pub returns : goal.returns
-returns t c = lone_grouped c.requires c.least-len.ensures c.if-len-eq0.false refl c.lone-n.ensures
-    c.finish_one.ensures
+returns t c = lone_grouped c.requires c.min-len.ensures c.if-len-eq0.false refl c.lone-n.ensures
+    c.finish.ensures

@@ -7,6 +7,10 @@ use lib.ListN.{length}
 use native.Mathlib.Omega.{arith}
 use Rattle.trie_write.proofs.Whole.{measured, ready, refused, size_is, small, wrote}
 use Rattle.trie_write.proofs.write_rows.Goals as goal
+use Rattle.trie_write.proofs.write_rows.Goals.{After-group-size}
+
+low : (c : After-group-size) → c.group-size.result ≤ 802816
+low c = small c.requires.0 c.requires.1 c.highest_of-high.ensures c.group-size.ensures
 
 pub highest_of-high-requires : goal.highest_of-high-requires
 highest_of-high-requires c = (c.requires.0, omega arith, omega arith)
@@ -16,9 +20,7 @@ group-size-requires c =
     ready c.requires.0 c.requires.1 c.highest_of-high.ensures (λ t. absurd (false≢true t)) (λ t. absurd (false≢true t))
 
 pub overflow_add-total : goal.overflow_add-total
-overflow_add-total c =
-    let low : c.group-size.result ≤ 802816 = small c.requires.0 c.requires.1 c.highest_of-high.ensures c.group-size.ensures in
-    omega (arith, low)
+overflow_add-total c = omega (arith, low (goal.at.overflow_add-total c).After-group-size)
 
 pub shape_of-dst-then-dst-total : goal.shape_of-dst-then-dst-total
 shape_of-dst-then-dst-total c =
@@ -30,8 +32,7 @@ returns-then-dst-total c =
 
 pub put_frame-requires : goal.put_frame-requires
 put_frame-requires c =
-    let low : c.group-size.result ≤ 802816 = small c.requires.0 c.requires.1 c.highest_of-high.ensures c.group-size.ensures in
-    (omega (arith, low), omega (arith, c.requires.0.few))
+    (omega (arith, low (goal.at.put_frame-requires c).After-group-size), omega (arith, c.requires.0.few))
 
 pub group-requires : goal.group-requires
 group-requires c =

@@ -15,7 +15,7 @@ overflow_add-result-2 c =
       size_of_most c.args.f.score,
       c.size_of-score.ensures,
       child_size_le c.args.r c.args.f c.requires.1,
-      c.child_field_size-child.ensures,
+      c.child_part-child.ensures,
     )
 
 pub overflow_add-result-3 : goal.overflow_add-result-3
@@ -23,10 +23,10 @@ overflow_add-result-3 c =
     omega (
       arith,
       (node_length_lem c.args.r c.args.f c.requires.0 c.requires.1 c.size_of-score.ensures
-          c.child_field_size-child.ensures).1,
+          c.child_part-child.ensures).1,
     )
 
 pub returns : goal.returns
 returns c =
     node_length_lem c.args.r c.args.f c.requires.0 c.requires.1 c.size_of-score.ensures
-    c.child_field_size-child.ensures
+    c.child_part-child.ensures
