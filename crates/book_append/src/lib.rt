@@ -10,7 +10,9 @@ ghost use Rattle.book_append.specs.Append.{AppendDone, Fits, after_given, cursor
 
 use book_write::Slot;
 
-// Where an entry is put; without `store` it is only measured.
+// Where an entry is put; without `store` it is only measured. The flag stays: one pass both measures and puts, so that
+// the two end alike, and a closure or an Option of the buffer in its place would have to be lent anew for each entry,
+// with the same two cases in every contract.
 #[derive(Clone, Copy)]
 pub struct EntryTarget {
     pub slot: Slot,

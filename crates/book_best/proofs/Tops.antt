@@ -1,14 +1,14 @@
 -- The best so far of a range, taken stretch by stretch: one position, or a block by its peak.
 use Prim.Native.Nat.{◌*◌, ◌+◌, ◌<◌, ◌≤◌, min, ℕ}
 use mathlib.Core.Path.{◌≡◌}
-use mathlib.Core.Bool.{false}
+use mathlib.Core.Bool.{false, true}
 use mathlib.Core.List.{List}
 use lib.Dec.{ltb}
 use lib.ListN.{length}
 use native.Mathlib.Omega.{arith}
 use borrow.Author.Tests.{ltb-false, ltb-true}
 use Rattle.octets.proofs.Tests.{by_test}
-use Rattle.entries.specs.Entries.{Entry, at, outranks}
+use Rattle.entries.specs.Entries.{Entry, at, outranks, rising}
 use Rattle.entries.proofs.Rank.{not_outranks_trans, outranks_asym, outranks_high, outranks_irrefl}
 use Rattle.entries.proofs.Span.{later_not, span_best, span_top, span_unique}
 use Rattle.book.specs.Book.{block_size, in_book, peak, today}
@@ -42,15 +42,14 @@ module _ (es : List Entry) (i end : ℕ) where
         tops = span_top es i (i + block_size) (omega arith) (omega arith);
       })
 
-module _ {buf : List ℕ} {n : ℕ} (h : Held buf n) where
-  abbrev es : List Entry
-  es = in_book buf
+-- es are the entries of the book in a buffer that was checked
+module _
+    {buf : List ℕ} {n : ℕ} (h : Held buf n) {es : List Entry} (v : in_book buf ≡ es) {first end b i : ℕ}
+    (t : Tops es first end b i) (l : end ≤ length es)
+  where
+    sorted : rising es ≡ true
+    sorted = rw (← v) (held-valid h).order
 
-  -- the peak of a block stands in its place
-  pub held-peak : (j : ℕ) → block_size * j < n → peak_at today buf n j ≡ peak es j
-  held-peak j l = rw h.count ((held_stored h).peak_at j (omega (arith, h.count)))
-
-  module _ {first end b i : ℕ} (t : Tops es first end b i) (l : end ≤ n) where
     -- a turn: behind the positions that b tops lie those that c tops, so a tie is b's
     pub tops_turn : {c next : ℕ} → Tops es i end c next → Tops es first end (better_of buf b c) next
     tops_turn {c} {next} u =
@@ -58,10 +57,10 @@ module _ {buf : List ℕ} {n : ℕ} (h : Held buf n) where
         (λ w. rw w (kept (ltb-false _ _ w)))
       where
         inside : c < length es
-        inside = omega (arith, h.count)
+        inside = omega arith
 
         scored : (k : ℕ) → k < length es → score_at buf k ≡ (at es k).score
-        scored = (held_stored h).scored_at
+        scored = rw (← v) (held_stored h).scored_at
 
         -- a position that neither b nor c outranks is outranked by none that they top
         each :
@@ -86,7 +85,7 @@ module _ {buf : List ℕ} {n : ℕ} (h : Held buf n) where
         kept : score_at buf c ≤ score_at buf b → Tops es first end b next
         kept w =
             let p : (at es c).score ≤ (at es b).score = rw (scored b (omega arith), scored c inside) at w in
-            let y = later_not es (held-valid h).order b c (omega arith) inside p in
+            let y = later_not es sorted b c (omega arith) inside p in
             record { low = t.low; high = omega arith; within = u.within; tops = each b (outranks_irrefl (at es b)) y }
 
     -- what tops the whole range is its best
@@ -94,7 +93,7 @@ module _ {buf : List ℕ} {n : ℕ} (h : Held buf n) where
     tops_best g =
         record {
           is_best =
-              span_unique es (held-valid h).order first end b t.low (omega arith) (omega (arith, h.count))
+              span_unique es sorted first end b t.low (omega arith) (omega arith)
               (λ k lo hi. t.tops k lo (omega arith));
           low = t.low;
           high = omega arith;

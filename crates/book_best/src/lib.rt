@@ -2,11 +2,10 @@
 // holds whole.
 #![tactic(auto)]
 
-ghost use Rattle.std.specs.Prelude.{◌≡◌, ◌*◌, ◌<◌, ◌≤◌};
-ghost use Rattle.book.specs.Book.{block_size, in_book, peak};
-ghost use Rattle.book_laws.specs.Held.{Held};
+ghost use Rattle.std.specs.Prelude.{◌<◌, ◌≤◌, length};
 ghost use Rattle.book_best.specs.Best.{BestIn, Tops};
 
+use book_held::Book;
 use limits::BLOCK_SIZE;
 
 // The best of some positions in a row, and the position behind them.
@@ -16,23 +15,15 @@ struct Stretch {
     next: usize,
 }
 
-// The peak of block j.
-fn peak_of(book: &[u8], n: usize, j: usize) -> usize
-    requires { Held book.now n × (block_size * j < n) }
-    ensures { result ≡ peak (in_book book.now) j }
-{
-    book_layout::peak_at(book, book_layout::today(), n, j)
-}
-
 // The positions to take at once from i on: a block that begins there and ends in the range, else i alone.
-fn stretch_at(book: &[u8], n: usize, i: usize, end: usize) -> Stretch
-    requires { Held book.now n × (i < end) × (end ≤ n) }
-    ensures { Tops (in_book book.now) i end result.best result.next }
+fn stretch_at(book: &Book<'_>, i: usize, end: usize) -> Stretch
+    requires { (i < end) × (end ≤ length book.now) }
+    ensures { Tops book.now i end result.best result.next }
 {
     if i % BLOCK_SIZE == 0 {
         if BLOCK_SIZE <= end - i {
             return Stretch {
-                best: peak_of(book, n, i / BLOCK_SIZE),
+                best: book.peak(i / BLOCK_SIZE),
                 next: i + BLOCK_SIZE,
             };
         }
@@ -44,17 +35,19 @@ fn stretch_at(book: &[u8], n: usize, i: usize, end: usize) -> Stretch
 }
 
 // The best-ranked of the positions from first to before end.
-pub fn best_in(book: &[u8], n: usize, first: usize, end: usize) -> usize
-    requires { Held book.now n × (first < end) × (end ≤ n) }
-    ensures { BestIn (in_book book.now) first end result }
+pub fn best_in(book: &Book<'_>, first: usize, end: usize) -> usize
+    requires { (first < end) × (end ≤ length book.now) }
+    ensures { BestIn book.now first end result }
 {
-    let start = stretch_at(book, n, first, end);
+    let image = book.image();
+    let start = stretch_at(book, first, end);
     let mut b = start.best;
     let mut i = start.next;
+    // it goes on by one position or by a whole block, so it counts no index
     while i < end {
         // later positions, so that they need a higher score
-        let more = stretch_at(book, n, i, end);
-        b = book_layout::better(book, b, more.best);
+        let more = stretch_at(book, i, end);
+        b = book_layout::better(image, b, more.best);
         i = more.next;
     }
     b

@@ -1,11 +1,11 @@
 -- The answer of the check: none where a test of `checks` fails, the number of entries where none does; and where the
 -- key stands then.
 use Prim.Native.Nat.{◌<◌, ◌≤◌, ℕ}
-use mathlib.Core.Path.{◌∙◌, ◌≡◌, refl, subst, sym}
+use mathlib.Core.Path.{◌∙◌, ◌≡◌, refl, subst}
 use mathlib.Core.Bool.{◌&&◌, false, false≢true, true}
 use mathlib.Core.List.{List, []}
 use mathlib.Core.Option as maybe
-use Rattle.std.specs.Prelude.{None, Option, Some, ok_or}
+use Rattle.std.specs.Prelude.{None, Option, Some}
 use lib.Dec.{leb}
 use lib.ListN.{drop, length}
 use borrow.Author.Tests.{eq-eqb, le-leb, lt-leb}
@@ -20,7 +20,7 @@ use Rattle.frame_code.specs.declared.Frame.{Frame}
 use Rattle.frame_code.proofs.Checked.{Checkable, Framed, accepted, body_failed, no_end_lem, no_frame, other_end, told_end}
 use Rattle.frame_code.proofs.Held.{image_damaged, image_held}
 use Rattle.book.specs.declared.Layout.{Layout}
-use Rattle.book.specs.Book.{block_size, in_book, is_book_in, read_in, records_at, today}
+use Rattle.book.specs.Book.{block_size, in_book, is_book, is_book_in, read_in, records_at, today}
 use Rattle.book.specs.Checks.{is_old}
 use Rattle.book.specs.Records.{names_from}
 use Rattle.book_laws.specs.Held.{HeldIn}
@@ -30,8 +30,9 @@ use Rattle.book_laws.proofs.Stored.{read_names, stored}
 use Rattle.book_seek.specs.Seek.{Seeking}
 use Rattle.book_check_walk.specs.Walks.{Reaches}
 use Rattle.book_check_walk.specs.declared.Walked.{Walked}
-use Rattle.book_check.specs.Checked.{CheckedAs, CheckedIn, Located}
+use Rattle.book_check.specs.Checked.{CheckedIn, Declined, Known, Located}
 use Rattle.book_check.specs.declared.Checked.{Checked}
+use Rattle.book_check.specs.declared.CheckedImage.{CheckedImage}
 use Rattle.answer.specs.declared.Refusal.TheVariants as refusal
 
 pub book_format : (l : Layout) → Checkable l.version (body_is l) (read_in l)
@@ -112,14 +113,17 @@ located l buf key n start w h f g off t = go (read_in l buf) refl h.is_it h.coun
         (subst (λ (x : ℕ). Seeking key x (names_from l.heads n 0 [] (drop x buf)) w.seek) f
         (g.seeks off)))
 
--- What a call is told: of an old book, of one that is damaged, of one that is read.
-pub told : (book key : List ℕ) (r : Option Checked) → is_old book ≡ false → CheckedIn today book key r
-    → CheckedAs book key (ok_or r refusal.NotLaidOut)
-told book key None t u = record { refusal = rw (t, u) }
-told book key (Some c) t u =
-    record {
-      held = u.0;
-      located =
-          subst (λ (x : ℕ). Seeking key (records_at today x) (names (in_book book)) c.seek) (sym u.0.count)
-          (u.1 refl u.0.is_it);
-    }
+-- What a call is told: of a book that is damaged, and of one that is read. l is the layout of today.
+pub declined :
+    {book : List ℕ} {l : Layout} → l ≡ today → is_old book ≡ false → is_book_in l book ≡ false
+    → Declined book refusal.NotLaidOut
+declined {book} e t u =
+    let d : is_book book ≡ false = rw e at u in
+    record { refusal = rw (t, d) }
+
+pub known :
+    {book key : List ℕ} {l : Layout} {f : CheckedImage} {c : Checked} → l ≡ today → CheckedIn l book key (Some f)
+    → c.book ≡ in_book book → c.seek ≡ f.seek → Known book key c
+known {book} {key} {l} {f} e u b s =
+    let w : CheckedIn today book key (Some f) = subst (λ (x : Layout). CheckedIn x book key (Some f)) e u in
+    record { is_it = w.0.is_it; entries = b; located = rw s (w.1 refl w.0.is_it) }

@@ -29,7 +29,7 @@ module _ {book : List ℕ} {r : Refusal} (c : Declined book r) (ds : List Check)
 -- it goes on
 module _ {book key : List ℕ} {x : Checked} (c : Known book key x) (ds : List Check) where
   clear : unless {A = ℕ} (checks book) 0 ≡ given 0
-  clear = book_clear book c.held.is_it
+  clear = book_clear book c.is_it
 
   pub passed : {A : Type 0} (a : A) → unless (checks book ++ ds) a ≡ unless ds a
   passed a = unless_clear {B = ℕ} (checks book) 0 0 clear ds a

@@ -7,10 +7,11 @@ use Rattle.answer.specs.declared.Refusal.{Refusal}
 use Rattle.book.specs.declared.Layout.{Layout}
 use Rattle.book.specs.Book.{in_book, in_book_in, is_book_in, records_at, today}
 use Rattle.book.specs.Checks.{book_checks}
-use Rattle.book_laws.specs.Held.{Held, HeldIn}
+use Rattle.book_laws.specs.Held.{HeldIn}
 use Rattle.book_seek.specs.Seek.{Seeking}
 use Rattle.book_seek.specs.declared.Seek.{Seek}
 use Rattle.book_check.specs.declared.Checked.{Checked}
+use Rattle.book_check.specs.declared.CheckedImage.{CheckedImage}
 
 -- where the key stands among the names of a book that has no heads
 abbrev pub Located : Layout → List ℕ → List ℕ → Seek → Type 0
@@ -19,14 +20,15 @@ Located l buf key s =
     → Seeking key (records_at l (length (in_book_in l buf))) (names (in_book_in l buf)) s
 
 -- an image that is no book in this layout; or how many entries the book has, and where the key stands
-abbrev pub CheckedIn : Layout → List ℕ → List ℕ → Option Checked → Type 0
+abbrev pub CheckedIn : Layout → List ℕ → List ℕ → Option CheckedImage → Type 0
 CheckedIn l buf key None = is_book_in l buf ≡ false
 CheckedIn l buf key (Some c) = HeldIn l buf c.n × Located l buf key c.seek
 
 -- what a call knows of its book: how many entries it has, and where the key stands among their names
 pub record Known (book key : List ℕ) (c : Checked) : Type 0 where
-  pub held : Held book c.n
-  pub located : Seeking key (records_at today c.n) (names (in_book book)) c.seek
+  pub is_it : is_book_in today book ≡ true
+  pub entries : c.book ≡ in_book book
+  pub located : Seeking key (records_at today (length (in_book book))) (names (in_book book)) c.seek
 
 -- what it declines with for the book's sake
 pub record Declined (book : List ℕ) (r : Refusal) : Type 0 where

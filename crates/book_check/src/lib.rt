@@ -8,18 +8,26 @@ ghost use Rattle.book_check.specs.Checked.{CheckedAs, CheckedIn};
 
 use answer::Refusal;
 use book::Layout;
+use book_held::Book;
 use book_seek::Seek;
 use limits::OLD_BOOK_VERSION;
 
-// What is known of a book that was checked: how many entries it has, and where the key stands among their names.
+// An image that was checked: how many entries it has, and where the key stands among their names.
 #[derive(Clone, Copy)]
-pub struct Checked {
+pub struct CheckedImage {
     pub n: usize,
     pub seek: Seek,
 }
 
+// A book that was checked, and where the key stands among its names.
+#[derive(Drop)]
+pub struct Checked<'a> {
+    pub book: Book<'a>,
+    pub seek: Seek,
+}
+
 // Checks the book at the front of a buffer, laid out so, and finds where a key stands among its names.
-pub fn check_in(buf: &[u8], l: Layout, key: &[u8]) -> Option<Checked>
+pub fn check_in(buf: &[u8], l: Layout, key: &[u8]) -> Option<CheckedImage>
     ensures { CheckedIn l buf.now key.now result }
 {
     let frame = frame_code::check_frame(buf, l.version)?;
@@ -38,7 +46,7 @@ pub fn check_in(buf: &[u8], l: Layout, key: &[u8]) -> Option<Checked>
         return None;
     }
     let seek = walked.seek;
-    Some(Checked { n, seek })
+    Some(CheckedImage { n, seek })
 }
 
 // Whether byte 0 is an old version's; an empty buffer has none.
@@ -50,11 +58,18 @@ pub fn is_old(book: &[u8]) -> bool
 
 // Checks the book at the front of a buffer, as every call but the converter does first, and finds where a key stands
 // among its names: an old book is declined whatever follows byte 0, and then one that is damaged.
-pub fn check(book: &[u8], key: &[u8]) -> Result<Checked, Refusal>
+pub fn check<'a>(book: &'a [u8], key: &[u8]) -> Result<Checked<'a>, Refusal>
     ensures { CheckedAs book.now key.now result }
 {
     if is_old(book) {
         return Err(Refusal::OldVersion);
     }
-    check_in(book, book_layout::today(), key).ok_or(Refusal::NotLaidOut)
+    let Some(found) = check_in(book, book_layout::today(), key) else {
+        return Err(Refusal::NotLaidOut);
+    };
+    let seek = found.seek;
+    Ok(Checked {
+        book: Book::new(book, found.n),
+        seek,
+    })
 }

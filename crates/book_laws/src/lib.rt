@@ -4,7 +4,8 @@
 
 use limits::LONGEST_NAME;
 
-// A place between records: where the next record starts, its position, and the name before it.
+// A place between records: where the next record starts, its position, and the name before it, an array with a length,
+// as there is no heap.
 #[derive(Clone, Copy)]
 pub struct Cursor {
     pub at: usize,

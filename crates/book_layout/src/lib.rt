@@ -58,7 +58,7 @@ pub fn buckets(heads: bool, n: usize) -> usize
     if !heads {
         return 0;
     }
-    (n + BUCKET_SIZE - 1) / BUCKET_SIZE
+    n.div_ceil(BUCKET_SIZE)
 }
 
 // How many blocks n entries have, the last perhaps shorter.
@@ -66,7 +66,7 @@ pub fn blocks(n: usize) -> usize
     requires { n ≤ max_entries }
     ensures { result ≡ ceil n block_size }
 {
-    (n + BLOCK_SIZE - 1) / BLOCK_SIZE
+    n.div_ceil(BLOCK_SIZE)
 }
 
 // Whether the name at a position is a bucket's head.

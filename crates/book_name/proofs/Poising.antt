@@ -17,22 +17,19 @@ use Rattle.octets.proofs.Tests.{and_true_both, by_test}
 use Rattle.entries.specs.Entries.{Entry, at}
 use Rattle.entries.specs.Names.{longest_name}
 use Rattle.entries.proofs.Valid.{name_length}
-use Rattle.book.specs.Book.{in_book, is_book, today}
+use Rattle.book.specs.Book.{in_book, today}
 use Rattle.book_laws.specs.Ahead.{name_before, record_at}
 use Rattle.book_laws.specs.Cursor.{cursor_of}
 use Rattle.book_laws.specs.Held.{Held}
 use Rattle.book_laws.specs.declared.Cursor.{Cursor}
 use Rattle.book_laws.proofs.Front.{last_next}
-use Rattle.book_laws.proofs.Held.{held_stored, held-valid}
 use Rattle.book_laws.proofs.Standing.{kept_there, name_allowed, next_there, own_there, own_within, record_inside}
 use Rattle.book_laws.proofs.Standing.{rest_there}
+use Rattle.book_laws.proofs.Stored.{StoredIn}
+use Rattle.book_held.proofs.Places.{entries_stored, entries_valid}
 use Rattle.book_read.specs.Record.{Inside, Read, parts_at}
 use Rattle.book_laws.specs.declared.Parts.{Parts}
 use Rattle.book_name.specs.Poised.{Poised, Starts, kept_at}
-
--- a checked book, its entries counted
-pub held_of : (book : List ℕ) → is_book book ≡ true → Held book (length (in_book book))
-held_of book h = record { is_it = h; count = refl }
 
 -- the parts of a record, as its first two bytes say them
 parts-plain : (i : ℕ) (s : List ℕ)
@@ -48,48 +45,44 @@ pub record Naming (es : List Entry) (first i k index : ℕ) (name : List ℕ) (l
   pub upto : index ≤ i + 1
   pub last : first < index → (take len name ≡ (at es (index - 1)).name) × (len ≤ longest_name)
 
+-- es are the entries of the book in a buffer that was checked
 module _
-    (book : List ℕ) (ok : is_book book ≡ true) {first i k index len : ℕ} {name : List ℕ}
-    (g : Naming (in_book book) first i k index name len) (h : index < length (in_book book))
+    {book : List ℕ} {n : ℕ} (held : Held book n) {es : List Entry} (v : in_book book ≡ es)
+    {first i k index len : ℕ} {name : List ℕ} (g : Naming es first i k index name len) (h : index < length es)
   where
-    abbrev es : List Entry
-    es = in_book book
-
     abbrev w : List ℕ
-    w = (at (in_book book) index).name
+    w = (at es index).name
 
     abbrev kept : ℕ
-    kept = kept_at (in_book book) index
+    kept = kept_at es index
 
     abbrev own : ℕ
-    own = length w - kept_at (in_book book) index
+    own = length w - kept_at es index
 
     abbrev s : List ℕ
     s = drop k book
 
-    held : Held book (length (in_book book))
-    held = held_of book ok
+    stored : StoredIn today book es
+    stored = entries_stored held v
 
     two_bytes : (get_or s 0 0 ≡ kept) × (get_or s 1 0 ≡ own)
     two_bytes =
         let z : k + 0 ≡ k = omega arith in (
-          get_or-drop k book 0 0
-              ∙ rw (z, g.poised.stands) (kept_there today book es (held_stored held) refl index h),
-          get_or-drop k book 1 0
-              ∙ rw g.poised.stands (own_there today book es (held_stored held) refl index h),
+          get_or-drop k book 0 0 ∙ rw (z, g.poised.stands) (kept_there today book es stored refl index h),
+          get_or-drop k book 1 0 ∙ rw g.poised.stands (own_there today book es stored refl index h),
         )
 
     parts : parts_at today.heads index s ≡ record { kept = kept; start = 2; own = own }
     parts = parts-plain index s ∙ rw (two_bytes.0, two_bytes.1)
 
     whole : kept + own ≡ length w
-    whole = own_within today book es (held_stored held) refl index h
+    whole = own_within today book es stored refl index h
 
     short : length w ≤ longest_name
-    short = name_length w (name_allowed es (held-valid held) index h)
+    short = name_length w (name_allowed es (entries_valid held v) index h)
 
     within : k + 2 + own ≤ length book
-    within = rw g.poised.stands (record_inside today book es (held_stored held) refl index h)
+    within = rw g.poised.stands (record_inside today book es stored refl index h)
 
     pub naming-inside : Inside today.heads s index (length name)
     naming-inside =
@@ -111,7 +104,7 @@ module _
           ∙ ap (λ m. drop (m + 2) book) g.poised.stands in
           rw told at r.bytes
           ∙ ap (λ b. sets name kept (take own b)) d
-          ∙ ap (sets name kept) (rest_there today book es (held_stored held) refl index h)
+          ∙ ap (sets name kept) (rest_there today book es stored refl index h)
 
       own_long : length (drop kept w) ≡ own
       own_long = length-drop kept w
@@ -133,8 +126,7 @@ module _
       naming_short = rw told (omega (arith, whole, short))
 
       pub naming_on :
-          index ≤ i
-          → Naming (in_book book) first i (k + (p.start + p.own)) (index + 1) new (p.kept + p.own)
+          index ≤ i → Naming es first i (k + (p.start + p.own)) (index + 1) new (p.kept + p.own)
       naming_on below =
           record {
             poised = record { stands = stands; keeps = keeps };
@@ -148,7 +140,7 @@ module _
         where
           stands : k + (p.start + p.own) ≡ record_at es (index + 1)
           stands =
-              let n = next_there today book es (held_stored held) refl index h in
+              let n = next_there today book es stored refl index h in
               let o = g.poised.stands in
               rw (told, add-one index) (omega arith)
 

@@ -2,25 +2,23 @@
 // the one before.
 #![tactic(auto)]
 
-ghost use Rattle.std.specs.Prelude.{◌≡◌, true, ◌+◌, ◌<◌, ◌≤◌, length};
-ghost use Rattle.entries.specs.Entries.{at, max_entries};
+ghost use Rattle.std.specs.Prelude.{◌≡◌, ◌+◌, ◌<◌, ◌≤◌, length};
+ghost use Rattle.entries.specs.Entries.{at};
 ghost use Rattle.entries.specs.Names.{longest_name};
-ghost use Rattle.book.specs.Book.{in_book, is_book, records_at, today};
+ghost use Rattle.book.specs.Book.{records_at, today};
 ghost use Rattle.book_laws.specs.Cursor.{name_in};
-ghost use Rattle.book_laws.specs.Held.{Held};
 ghost use Rattle.book_name.specs.Poised.{Poised, Starts};
 
+use book_held::Book;
 use book_laws::Cursor;
 use limits::{BOOK_HEADS, LONGEST_NAME};
 
 // A cursor in front of a book's first record.
-fn first(n: usize) -> Cursor
-    requires { n ≤ max_entries }
-    ensures { (result.at ≡ records_at today n) × (result.index ≡ 0) }
+fn first(book: &Book<'_>) -> Cursor
+    ensures { (result.at ≡ records_at today (length book.now)) × (result.index ≡ 0) }
 {
-    let at = book_layout::records_at(book_layout::today(), n);
     Cursor {
-        at: at,
+        at: book.records_start(),
         index: 0,
         name: [0u8; LONGEST_NAME],
         len: 0,
@@ -43,17 +41,17 @@ pub fn primed(prefix: &[u8], index: usize, at: usize) -> Cursor
 }
 
 // From a cursor at or before a position to the one behind it: it holds the name there.
-pub fn read_to(book: &[u8], from: Cursor, i: usize) -> Cursor
-    requires { (is_book book.now ≡ true) × (i < length (in_book book.now)) × (from.index ≤ i)
-        × Poised (in_book book.now) from }
-    ensures { (name_in result ≡ (at (in_book book.now) i).name) × (result.len ≤ longest_name)
-        × (result.index ≡ i + 1) × Poised (in_book book.now) result }
+pub fn read_to(book: &Book<'_>, from: Cursor, i: usize) -> Cursor
+    requires { (i < length book.now) × (from.index ≤ i) × Poised book.now from }
+    ensures { (name_in result ≡ (at book.now i).name) × (result.len ≤ longest_name)
+        × (result.index ≡ i + 1) × Poised book.now result }
 {
+    let image = book.image();
     let mut name = from.name;
     let mut len = from.len;
     let mut at = from.at;
     for index in from.index..i + 1 {
-        let p = book_read::read_name(book, at, BOOK_HEADS, index, &mut name);
+        let p = book_read::read_name(image, at, BOOK_HEADS, index, &mut name);
         at += p.start + p.own;
         len = p.kept + p.own;
     }
@@ -66,9 +64,9 @@ pub fn read_to(book: &[u8], from: Cursor, i: usize) -> Cursor
 }
 
 // The name at a position, read from the first record on.
-pub fn name_at(book: &[u8], n: usize, i: usize) -> Cursor
-    requires { Held book.now n × (i < n) }
-    ensures { (name_in result ≡ (at (in_book book.now) i).name) × (result.len ≤ longest_name) }
+pub fn name_at(book: &Book<'_>, i: usize) -> Cursor
+    requires { i < length book.now }
+    ensures { (name_in result ≡ (at book.now i).name) × (result.len ≤ longest_name) }
 {
-    read_to(book, first(n), i)
+    read_to(book, first(book), i)
 }

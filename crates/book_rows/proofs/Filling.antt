@@ -2,6 +2,7 @@
 use Prim.Native.Nat.{◌*◌, ◌+◌, ◌-◌, ◌<◌, ◌≤◌, ℕ}
 use mathlib.Core.Path.{◌∙◌, ◌≡◌, ap, sym}
 use mathlib.Core.Logic.{◌⊎◌, inl, inr}
+use mathlib.Core.Bool.{true}
 use mathlib.Core.List.{List}
 use lib.Dec.{eqb, ltb}
 use lib.ListN.{drop, get_or, length, length-set, set}
@@ -11,14 +12,11 @@ use borrow.Author.Tests.{eqb-false, eqb-true, ltb-false, ltb-true}
 use Rattle.octets.proofs.Order.{begins-take}
 use Rattle.octets.proofs.Stores.{sets-stands, stays}
 use Rattle.octets.proofs.Tests.{by_test}
-use Rattle.entries.specs.Entries.{Entry, at}
+use Rattle.entries.specs.Entries.{Entry, at, valid}
 use Rattle.entries.specs.Names.{longest_name}
-use Rattle.entries.proofs.Valid.{name_length}
-use Rattle.book.specs.Book.{in_book}
+use Rattle.entries.proofs.Valid.{name_length, valid_of}
 use Rattle.book_laws.specs.Cursor.{name_in}
-use Rattle.book_laws.specs.Held.{Held}
 use Rattle.book_laws.specs.declared.Cursor.{Cursor}
-use Rattle.book_laws.proofs.Held.{held-valid}
 use Rattle.book_laws.proofs.Standing.{name_allowed}
 use Rattle.book_name.specs.Poised.{Poised}
 use Rattle.book_rows.specs.Rows.{Placed, Put, RowIs, RowRoom, Wanted}
@@ -132,7 +130,6 @@ module _
             let a = ltb-false (get_or wanted j 0) c.index v in
             absurd (omega (arith, b, i, g.wants.least j h a))))
 
--- the names of a checked book are short
-pub held_short_lem : {book : List ℕ} {n : ℕ} → Held book n → (i : ℕ) → i < length (in_book book)
-    → length (at (in_book book) i).name ≤ longest_name
-held_short_lem {book} held i h = name_length (at (in_book book) i).name (name_allowed (in_book book) (held-valid held) i h)
+-- the names of a book are short
+pub short_lem : (es : List Entry) → valid es ≡ true → (i : ℕ) → i < length es → length (at es i).name ≤ longest_name
+short_lem es ok i h = name_length (at es i).name (name_allowed es (valid_of es ok) i h)

@@ -8,19 +8,18 @@ use native.Mathlib.Omega.{arith}
 use Rattle.octets.proofs.Order.{begins-length}
 use Rattle.octets.proofs.Tests.{by_test}
 use Rattle.entries.specs.Completion.{begun, first_match, matches}
-use Rattle.entries.specs.Entries.{Entry, at}
+use Rattle.entries.specs.Entries.{Entry, at, valid}
+use Rattle.entries.proofs.Valid.{valid_of}
 use Rattle.entries_laws.specs.Place.{place}
 use Rattle.entries_laws.proofs.Place.{place_first, place_most}
-use Rattle.book.specs.Book.{in_book, today}
+use Rattle.book.specs.Book.{today}
 use Rattle.book_laws.specs.Ahead.{record_at}
-use Rattle.book_laws.specs.Held.{Held}
 use Rattle.book_laws.specs.declared.Cursor.{Cursor}
 use Rattle.book_laws.proofs.Front.{last_next}
-use Rattle.book_laws.proofs.Held.{held-valid}
 use Rattle.book_name.specs.Poised.{Poised, Starts, kept_at}
 use Rattle.book_name.proofs.Poising.{common_few, poised_primed}
 use Rattle.book_rows.specs.Rows.{Fillable}
-use Rattle.book_rows.proofs.Filling.{held_short_lem}
+use Rattle.book_rows.proofs.Filling.{short_lem}
 
 -- the first of the entries that a prefix begins, where there is one
 record First (p : List ℕ) (es : List Entry) (i : ℕ) : Type 0 where
@@ -59,10 +58,7 @@ first_of p (e ∷ es) (suc i) h b =
     by_test (begun p e) (first_here p e es (suc i))
     (λ t. first_there p e es i t (first_of p es i (omega arith) b))
 
-module _ {book : List ℕ} {n : ℕ} (held : Held book n) (prefix : List ℕ) where
-  abbrev es : List Entry
-  es = in_book book
-
+module _ (es : List Entry) (ok : valid es ≡ true) (prefix : List ℕ) where
   -- the record of the first match keeps no more bytes than the prefix has
   kept_few : (i : ℕ) → i < length es → First prefix es i → (f : ℕ) → f ≡ first_match prefix es
       → kept_at es f ≤ length prefix
@@ -79,17 +75,18 @@ module _ {book : List ℕ} {n : ℕ} (held : Held book n) (prefix : List ℕ) wh
       → (c.index ≤ i) × Poised es c
   primed_match {c} {first} s e r i h b =
       let m = first_of prefix es i h b in
-      let f : first ≡ first_match prefix es = e ∙ place_first prefix es (held-valid held).order m.some in
+      let f : first ≡ first_match prefix es = e ∙ place_first prefix es (valid_of es ok).order m.some in
       let l : length prefix ≤ length (at es i).name = begins-length prefix (at es i).name b in (
         omega (arith, s.position, f, m.low),
-        poised_primed es prefix s r (omega (arith, l, held_short_lem held i h)) (rw f m.is) (kept_few i h m first f),
+        poised_primed es prefix s r (omega (arith, l, short_lem es ok i h)) (rw f m.is) (kept_few i h m first f),
       )
 
   pub fillable_primed :
       {c : Cursor} {first from : ℕ} → Starts prefix first from c → first ≡ place false prefix es
       → from ≡ record_at es first
       → (wanted : List ℕ)
-      → ((j : ℕ) → j < length wanted → (get_or wanted j 0 < length es) × (begun prefix (at es (get_or wanted j 0)) ≡ true))
+      → ((j : ℕ) → j < length wanted
+      → (get_or wanted j 0 < length es) × (begun prefix (at es (get_or wanted j 0)) ≡ true))
       → Fillable es c wanted
   fillable_primed s e r wanted m =
       record {

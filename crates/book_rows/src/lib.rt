@@ -4,10 +4,9 @@
 
 ghost use Rattle.std.specs.Prelude.{◌*◌, ◌+◌, ◌<◌, ◌≤◌, length};
 ghost use Rattle.entries.specs.Names.{longest_name};
-ghost use Rattle.book.specs.Book.{in_book};
-ghost use Rattle.book_laws.specs.Held.{Held};
 ghost use Rattle.book_rows.specs.Rows.{Fillable, Filled, Nearer, Placed, Put, RowRoom, Wanted};
 
+use book_held::Book;
 use book_laws::Cursor;
 use limits::LONGEST_NAME;
 
@@ -62,21 +61,15 @@ fn put_rows(c: Cursor, wanted: &[usize], rows: &mut [u8], lens: &mut [usize])
 
 // Stores the names at the positions wanted: the name at the j-th as row j, and its length. The records are read once,
 // from the cursor up to the last one wanted.
-pub fn fill(
-    book: &[u8],
-    n: usize,
-    start: Cursor,
-    wanted: &[usize],
-    rows: &mut [u8],
-    lens: &mut [usize],
-)
-    requires { Held book.now n × Fillable (in_book book.now) start wanted.now
+pub fn fill(book: &Book<'_>, start: Cursor, wanted: &[usize], rows: &mut [u8], lens: &mut [usize])
+    requires { Fillable book.now start wanted.now
         × RowRoom (length wanted.now) (length rows.old) (length lens.old) }
-    ensures { Filled (in_book book.now) wanted.now rows.new
-        lens.new }
+    ensures { Filled book.now wanted.now rows.new lens.new }
 {
+    let n = book.len();
     let mut c = start;
     let mut next = next_wanted(wanted, start.index, n);
+    // it goes on from one position wanted to the next, so it counts no index
     while next < n {
         c = book_name::read_to(book, c, next);
         put_rows(c, wanted, rows, lens);

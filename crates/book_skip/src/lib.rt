@@ -2,29 +2,28 @@
 // are looked at only where they decide.
 #![tactic(auto)]
 
-ghost use Rattle.std.specs.Prelude.{◌≡◌, false};
+ghost use Rattle.std.specs.Prelude.{length};
 ghost use Rattle.entries.specs.Entries.{names};
-ghost use Rattle.book.specs.Book.{in_book_in, records_at};
-ghost use Rattle.book_laws.specs.Held.{HeldIn};
+ghost use Rattle.book.specs.Book.{records_at, today};
 ghost use Rattle.book_seek.specs.Seek.{Seeking};
 
-use book::Layout;
+use book_held::Book;
 use book_seek::{Order, Record, Seek};
 use limits::HEADER_BYTES;
 
-// Where the key stands among the names of a book of n entries, in a layout without heads: the records are passed until
-// a name is past the key.
-pub fn seek(book: &[u8], l: Layout, n: usize, key: &[u8]) -> Seek
-    requires { HeldIn l book.now n × (l.heads ≡ false) }
-    ensures { Seeking key.now (records_at l n) (names (in_book_in l book.now)) result }
+// Where the key stands among the names of a book: the records are passed until a name is past the key.
+pub fn seek(book: &Book<'_>, key: &[u8]) -> Seek
+    ensures { Seeking key.now (records_at today (length book.now)) (names book.now) result }
 {
-    let start = book_layout::records_at(l, n);
+    let image = book.image();
+    let n = book.len();
+    let start = book.records_start();
     let mut at = start;
     let mut s = book_seek::begin(start);
     let mut limit = book_seek::limit(s, key);
     for index in 0..n {
-        let kept = book[at] as usize;
-        let own = book[at + 1] as usize;
+        let kept = image[at] as usize;
+        let own = image[at + 1] as usize;
         let from = at + HEADER_BYTES;
         let end = from + own;
         if kept < limit {
@@ -34,7 +33,7 @@ pub fn seek(book: &[u8], l: Layout, n: usize, key: &[u8]) -> Seek
                 end: end,
                 kept: kept,
             };
-            s = book_seek::pass(s, record, &book[from..end], key);
+            s = book_seek::pass(s, record, &image[from..end], key);
             if s.order == Order::Past {
                 return s;
             }

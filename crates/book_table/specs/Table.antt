@@ -25,7 +25,7 @@ pub record TableRoom (n names lens scores : ℕ) : Type 0 where
   pub counted : n ≤ lens
   pub scored : n ≤ scores
 
--- the first n rows are the entries es
-pub record Unpacked (es : List Entry) (n : ℕ) (names lens scores : List ℕ) : Type 0 where
-  pub table : Table names (take n lens) scores
-  pub same : entries names (take n lens) scores ≡ es
+-- the first rows are the entries es
+pub record Unpacked (es : List Entry) (names lens scores : List ℕ) : Type 0 where
+  pub table : Table names (take (length es) lens) scores
+  pub same : entries names (take (length es) lens) scores ≡ es

@@ -12,8 +12,9 @@ use Rattle.std.specs.Prelude.{Err, Result}
 use Rattle.octets.proofs.Lists.{in_map}
 use Rattle.octets.proofs.Tests.{by_test}
 use Rattle.entries.specs.Completion.{completion, matches, max_count, range_start}
-use Rattle.entries.specs.Entries.{Entry, at, by_rank, names, rising}
+use Rattle.entries.specs.Entries.{Entry, at, by_rank, names, rising, valid}
 use Rattle.entries.proofs.TopK.{top_k_lem}
+use Rattle.entries.proofs.Valid.{valid_of}
 use Rattle.entries_laws.specs.Place.{place}
 use Rattle.entries_laws.proofs.Place.{place_first, place-matches, place_most}
 use Rattle.answer.specs.Answers.{writing}
@@ -21,8 +22,7 @@ use Rattle.answer.specs.declared.Offered.{Offered}
 use Rattle.answer.specs.declared.Refusal.{Refusal}
 use Rattle.book.specs.Book.{in_book, records_at, today}
 use Rattle.book_laws.specs.Ahead.{record_at}
-use Rattle.book_laws.specs.Held.{Held}
-use Rattle.book_laws.proofs.Held.{held-valid}
+use Rattle.book_held.proofs.Places.{entries_valid}
 use Rattle.book_check.specs.declared.Checked.{Checked}
 use Rattle.book_seek.specs.Seek.{Seeking}
 use Rattle.book_seek.specs.declared.Seek.{Seek}
@@ -61,96 +61,100 @@ module _ (es : List Entry) (p : List ℕ) where
       positive f = omega arith
 
 -- the places of a key that was sought
-module _ {book : List ℕ} {n : ℕ} (held : Held book n) {p : List ℕ} {s : Seek}
-    (g : Seeking p (records_at today n) (names (in_book book)) s) where
-  placed : s.place ≡ place false p (in_book book)
-  placed = seeking_place (in_book book) g
+module _ (es : List Entry) {p : List ℕ} {s : Seek} (g : Seeking p (records_at today (length es)) (names es) s) where
+  placed : s.place ≡ place false p es
+  placed = seeking_place es g
 
-  past : s.past ≡ place true p (in_book book)
-  past = seeking_past (in_book book) g
+  past : s.past ≡ place true p es
+  past = seeking_past es g
 
-  from : s.at ≡ record_at (in_book book) (place false p (in_book book))
-  from = g.index ∙ rw (held.count, placed)
+  from : s.at ≡ record_at es (place false p es)
+  from = g.index ∙ rw placed refl
 
-  pub sought_most : s.past ≤ n
-  sought_most = omega (arith, past, place_most true p (in_book book), held.count)
+  pub sought_most : s.past ≤ length es
+  sought_most = omega (arith, past, place_most true p es)
 
 -- the machine before its first turn, of k that may be offered, when the matches were put into the slots
-abbrev pub start_of : ℕ → Seek → ℕ → ℕ → Progress
-start_of n seek k filled =
+abbrev pub start_of : Seek → ℕ → ℕ → Progress
+start_of seek k filled =
     record {
       turns = k;
       filled = filled;
       offered = replicate max_count 0;
       count = 0;
       looks = filled;
-      entries = n;
       first = seek.place;
       from = seek.at;
     }
 
-rises : {book : List ℕ} {n : ℕ} → Held book n → rising (in_book book) ≡ true
-rises held = (held-valid held).order
+rises : (es : List Entry) → valid es ≡ true → rising es ≡ true
+rises es ok = (valid_of es ok).order
 
-module _ {book : List ℕ} {n : ℕ} (held : Held book n) {seek : Seek} {k : ℕ} {xs ys : List Range} {filled : ℕ}
-    (waits : MayWait k (length xs)) (put : Put (in_book book) seek.place seek.past xs 0 ys filled) where
-  module _ {p : List ℕ} (g : Seeking p (records_at today n) (names (in_book book)) seek) where
-    first_range : open_range (in_book book) seek.place seek.past ≡ match_range (in_book book) p
-    first_range = rw (placed held g, past held g) (sym (match_is (in_book book) p (rises held)))
+module _ {es : List Entry} (ok : valid es ≡ true) {seek : Seek} {k : ℕ} {xs ys : List Range} {filled : ℕ}
+    (waits : MayWait k (length xs)) (put : Put es seek.place seek.past xs 0 ys filled) where
+  module _ {p : List ℕ} (g : Seeking p (records_at today (length es)) (names es) seek) where
+    first_range : open_range es seek.place seek.past ≡ match_range es p
+    first_range = rw (placed es g, past es g) (sym (match_is es p (rises es ok)))
 
-    opened : take filled ys ≡ match_range (in_book book) p
+    opened : take filled ys ≡ match_range es p
     opened = put.opened ∙ first_range
 
-    looked : filled ≡ length (match_range (in_book book) p)
+    looked : filled ≡ length (match_range es p)
     looked = let l = ap length first_range in omega (arith, put.filled)
 
-    runs : Runnable book ys (start_of n seek k filled)
+    runs : Runnable es ys (start_of seek k filled)
     runs =
-        let one = open_length (in_book book) (range_start p (in_book book)) (range_start p (in_book book) + length (matches p (in_book book))) in
+        let one = open_length es (range_start p es) (range_start p es + length (matches p es)) in
         record {
-          held = held;
+          entries = ok;
           going = record {
             room = omega (arith, looked, one, waits.enough, put.size);
             few = omega (arith, waits.few);
             places = refl;
             seen = omega (arith, looked, one);
-            inside = λ t m. open_inside (in_book book) (range_start p (in_book book)) (range_start p (in_book book) + length (matches p (in_book book)))
-                (stop_fits (in_book book) p (rises held)) t (rw opened at m);
+            inside = λ t m.
+                open_inside es (range_start p es) (range_start p es + length (matches p es))
+                (stop_fits es p (rises es ok)) t (rw opened at m);
           };
         }
 
     -- and when it has run, it offers what the machine of the definitions does
-    offered_all : {s : Progress} → Ran (in_book book) ys (start_of n seek k filled) s → Offers (in_book book) p k s
+    offered_all : {s : Progress} → Ran es ys (start_of seek k filled) s → Offers es p k s
     unfolding machine
     offered_all {s} ran =
         record {
-          offered = ran.offered ∙ ap (λ rs. (run k (in_book book) rs).offered) opened;
+          offered = ran.offered ∙ ap (λ rs. (run k es rs).offered) opened;
           looks = ran.looks ∙ rw (opened, looked);
           few = ran.few (omega arith);
           places = ran.places;
-          entries = ran.entries ∙ held.count;
-          first = ran.first ∙ placed held g;
-          from = ran.from ∙ from held g;
+          first = ran.first ∙ placed es g;
+          from = ran.from ∙ from es g;
         }
 
-  pub start_runs : Sought book n seek → Runnable book ys (start_of n seek k filled)
+  pub start_runs : Sought es seek → Runnable es ys (start_of seek k filled)
   start_runs q = runs q.located
 
-  pub start_offers : {s : Progress} → Ran (in_book book) ys (start_of n seek k filled) s → OffersAll book n seek k s
+  pub start_offers : {s : Progress} → Ran es ys (start_of seek k filled) s → OffersAll es seek k s
   start_offers ran p g = offered_all g ran
 
 -- the answer of a machine that has run, where nothing was refused
 module _ {book p : List ℕ} {k room lent : ℕ} {c : Checked} (a : Asked book p k room lent c) where
-  pub sought : Sought book c.n c.seek
-  sought = record { key = p; located = a.known.located }
+  located : Seeking p (records_at today (length c.book)) (names c.book) c.seek
+  located = rw a.known.entries a.known.located
 
-  module _ {s : Progress} (all : OffersAll book c.n c.seek k s) where
+  pub sought : Sought c.book c.seek
+  sought = record { key = p; located = located }
+
+  rises_in : rising (in_book book) ≡ true
+  rises_in = (entries_valid {n = length (in_book book)} (record { is_it = a.known.is_it; count = refl }) refl).order
+
+  module _ {s : Progress} (all : OffersAll c.book c.seek k s) where
     o : Offers (in_book book) p k s
-    o = all p a.known.located
+    o = rw (← a.known.entries) (all p located)
 
     -- the entries offered are the completion
     listed : entries_at (in_book book) (so_far s) ≡ completion (in_book book) p k
-    listed = rw o.offered (machine_promise (in_book book) p k (rises a.known.held)).completes
+    listed = rw o.offered (machine_promise (in_book book) p k rises_in).completes
 
     at_most : length (completion (in_book book) p k) ≤ k
     unfolding completion
@@ -164,29 +168,30 @@ module _ {book p : List ℕ} {k room lent : ℕ} {c : Checked} (a : Asked book p
         omega (arith, at_most)
 
     -- what is to be known before the answer is written
-    pub writable : {dst : List ℕ} → room ≡ length dst → Writable book p dst s
+    pub writable : {dst : List ℕ} → room ≡ length dst → Writable c.book p dst s
     writable {dst} e =
-        record {
-          held = record { is_it = a.known.held.is_it; count = o.entries };
-          inside = λ i m. machine-inside (in_book book) p k (rises a.known.held) i (rw o.offered at m);
+        rw a.known.entries
+        (record {
+          inside = λ i m. machine-inside (in_book book) p k rises_in i (rw o.offered at m);
           matching = λ i m.
-              ((top_k_lem (in_book book) p k (rises a.known.held)).among (at (in_book book) i)
+              ((top_k_lem (in_book book) p k rises_in).among (at (in_book book) i)
               (rw listed at (in_map (at (in_book book)) i (so_far s) m))).1;
           first = o.first;
           from = rw o.first o.from;
           few = o.few;
           room = omega (arith, counted, a.fits, e);
-        }
+        })
 
     -- the answer and the destination are those of completion
     pub completed :
         (dst : List ℕ) {dest : List ℕ} → room ≡ length dst → {r : Result Offered Refusal}
-        → Completed (outcome_of (in_book book) s dst) r dest → Completed (complete_book book p k dst lent) r dest
+        → Completed (outcome_of c.book s dst) r dest → Completed (complete_book book p k dst lent) r dest
     unfolding complete_from writing
     completed dst {dest} e {r} d = subst (λ o. Completed o r dest) is d
       where
-        is : outcome_of (in_book book) s dst ≡ complete_book book p k dst lent
+        is : outcome_of c.book s dst ≡ complete_book book p k dst lent
         is = rw (
+          a.known.entries,
           listed,
           o.looks,
           ← e,
@@ -196,7 +201,7 @@ module _ {book p : List ℕ} {k room lent : ℕ} {c : Checked} (a : Asked book p
 
     pub completed_over :
         (dst : List ℕ) {dest : List ℕ} → room ≡ length dst → {r : Result Offered Refusal}
-        → Completed (outcome_of (in_book book) s dst) r dest → {xs ys : List Range} → length ys ≡ length xs
+        → Completed (outcome_of c.book s dst) r dest → {xs ys : List Range} → length ys ≡ length xs
         → CompletedOver (complete_book book p k dst lent) r dest xs ys
     unfolding complete_from writing
     completed_over dst e d size = record {

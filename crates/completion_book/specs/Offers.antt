@@ -4,16 +4,15 @@ use Rattle.std.specs.Prelude.{length, ltb}
 use Rattle.octets.specs.Lists.{◌∈◌}
 use Rattle.octets.specs.Octets.{overwrite}
 use Rattle.entries.specs.Completion.{begun, max_count}
-use Rattle.entries.specs.Entries.{Entry, at, names}
+use Rattle.entries.specs.Entries.{Entry, at, names, valid}
 use Rattle.entries.specs.Names.{is_prefix}
 use Rattle.entries_laws.specs.Place.{place}
 use Rattle.answer.specs.Answers.{Check, OfferedCounts, Outcome, ◌when◌, entries_bytes, given, refused, unless}
 use Rattle.answer.specs.Reports.{number_of}
 use Rattle.answer.specs.declared.Refusal.{Refusal}
-use Rattle.book.specs.Book.{in_book, is_book, records_at, today}
+use Rattle.book.specs.Book.{records_at, today}
 use Rattle.book.specs.Checks.{book_checks}
 use Rattle.book_laws.specs.Ahead.{record_at}
-use Rattle.book_laws.specs.Held.{Held}
 use Rattle.book_check.specs.Checked.{Known}
 use Rattle.book_check.specs.declared.Checked.{Checked}
 use Rattle.book_seek.specs.Seek.{Seeking}
@@ -52,43 +51,41 @@ AskedAs book p k room lent (Err r) =
     (a : OfferedCounts) → unless (asked_checks book p k room lent) a ≡ refused (number_of r)
 AskedAs book p k room lent (Ok c) = Asked book p k room lent c
 
--- a key was sought in the book of n entries, and stands so
-pub record Sought (book : List ℕ) (n : ℕ) (s : Seek) : Type 0 where
+-- a key was sought in the book of these entries, and stands so
+pub record Sought (es : List Entry) (s : Seek) : Type 0 where
   pub key : List ℕ
-  pub located : Seeking key (records_at today n) (names (in_book book)) s
+  pub located : Seeking key (records_at today (length es)) (names es) s
 
--- what is offered by a machine that has run: the machine of the definitions; it knows the book's entries and where the
--- matches of the prefix p begin
+-- what is offered by a machine that has run: the machine of the definitions; it knows where the matches of the prefix p
+-- begin
 pub record Offers (es : List Entry) (p : List ℕ) (k : ℕ) (s : Progress) : Type 0 where
   pub offered : so_far s ≡ (machine es p k).offered
   pub looks : s.looks ≡ (machine es p k).looks
   pub few : s.count ≤ max_count
   pub places : length s.offered ≡ max_count
-  pub entries : s.entries ≡ length es
   pub first : s.first ≡ place false p es
   pub from : s.from ≡ record_at es (place false p es)
 
 -- the same for every prefix that stands so
-abbrev pub OffersAll : List ℕ → ℕ → Seek → ℕ → Progress → Type 0
-OffersAll book n seek k s =
-    (p : List ℕ) → Seeking p (records_at today n) (names (in_book book)) seek → Offers (in_book book) p k s
+abbrev pub OffersAll : List Entry → Seek → ℕ → Progress → Type 0
+OffersAll es seek k s =
+    (p : List ℕ) → Seeking p (records_at today (length es)) (names es) seek → Offers es p k s
 
--- positions of a book that was checked, of names that the prefix p begins, and room for their entries; it is known
--- where these names begin
-pub record Writable (book p dst : List ℕ) (s : Progress) : Type 0 where
-  pub held : Held book s.entries
-  pub inside : (i : ℕ) → i ∈ so_far s → i < length (in_book book)
-  pub matching : (i : ℕ) → i ∈ so_far s → begun p (at (in_book book) i) ≡ true
-  pub first : s.first ≡ place false p (in_book book)
-  pub from : s.from ≡ record_at (in_book book) s.first
+-- positions of a book's entries, of names that the prefix p begins, and room for their entries; it is known where these
+-- names begin
+pub record Writable (es : List Entry) (p dst : List ℕ) (s : Progress) : Type 0 where
+  pub inside : (i : ℕ) → i ∈ so_far s → i < length es
+  pub matching : (i : ℕ) → i ∈ so_far s → begun p (at es i) ≡ true
+  pub first : s.first ≡ place false p es
+  pub from : s.from ≡ record_at es s.first
   pub few : s.count ≤ max_count
   pub room : entry_room * s.count ≤ length dst
 
--- the positions is, their names in rows, and room for their entries
-pub record Written (book is rows lens dst : List ℕ) : Type 0 where
-  pub is_it : is_book book ≡ true
-  pub inside : (i : ℕ) → i ∈ is → i < length (in_book book)
-  pub filled : Filled (in_book book) is rows lens
+-- the positions is of entries such as a book may have, their names in rows, and room for their entries
+pub record Written (es : List Entry) (is rows lens dst : List ℕ) : Type 0 where
+  pub entries : valid es ≡ true
+  pub inside : (i : ℕ) → i ∈ is → i < length es
+  pub filled : Filled es is rows lens
   pub row_room : RowRoom (length is) (length rows) (length lens)
   pub few : length is ≤ max_count
   pub room : entry_room * length is ≤ length dst

@@ -5,10 +5,8 @@ ghost use Rattle.std.specs.Prelude.{◌≡◌, true, ◌+◌, ◌<◌, ◌≤◌
 ghost use Rattle.std.proofs.lemmas.List.Edits.{sets};
 ghost use Rattle.octets.specs.Octets.{overwrite};
 ghost use Rattle.entries.specs.Completion.{max_count};
-ghost use Rattle.entries.specs.Entries.{at};
+ghost use Rattle.entries.specs.Entries.{at, valid};
 ghost use Rattle.answer.specs.Answers.{entries_bytes, entry_bytes};
-ghost use Rattle.book.specs.Book.{in_book, is_book};
-ghost use Rattle.book_laws.specs.Held.{Held};
 ghost use Rattle.completion.specs.Complete.{Completed, complete_book, entry_room};
 ghost use Rattle.completion_turn.specs.Turns.{so_far};
 ghost use Rattle.completion_book.specs.Offers.{AskedAs, MayWait, OffersAll, Sought, Writable, Written};
@@ -16,6 +14,7 @@ ghost use Rattle.completion_book.specs.Offers.{entries_at, outcome_of};
 
 use answer::{Offered, Refusal};
 use book_check::Checked;
+use book_held::Book;
 use book_seek::Seek;
 use completion::Range;
 use completion_turn::Progress;
@@ -34,13 +33,13 @@ const NO_RANGE: Range = Range {
 
 // Checks what completion is asked, in the table's order: how many entries the book has, and where the prefix stands
 // among their names.
-pub fn check_asked(
-    book: &[u8],
+pub fn check_asked<'a>(
+    book: &'a [u8],
     prefix: &[u8],
     k: usize,
     room: usize,
     lent: usize,
-) -> Result<Checked, Refusal>
+) -> Result<Checked<'a>, Refusal>
     ensures { AskedAs book.now prefix.now k room lent result }
 {
     let c = book_check::check(book, prefix)?;
@@ -63,22 +62,28 @@ pub fn check_asked(
 }
 
 // Writes the entry at a position, whose name is given, as an answer entry: where it ends.
-fn put_position(book: &[u8], position: usize, name: &[u8], dst: &mut [u8], to: usize) -> usize
-    requires { (is_book book.now ≡ true) × (position < length (in_book book.now))
-        × (name.now ≡ (at (in_book book.now) position).name) × (to + entry_room ≤ length dst.old) }
+fn put_position(book: &Book<'_>, position: usize, name: &[u8], dst: &mut [u8], to: usize) -> usize
+    requires { (valid book.now ≡ true) × (position < length book.now)
+        × (name.now ≡ (at book.now position).name) × (to + entry_room ≤ length dst.old) }
     ensures { (dst.new ≡ sets dst.old to
-        (entry_bytes (at (in_book book.now) position)))
-        × (result ≡ to + length (entry_bytes (at (in_book book.now) position))) }
+        (entry_bytes (at book.now position)))
+        × (result ≡ to + length (entry_bytes (at book.now position))) }
 {
-    answer_write::put_entry(dst, to, name, book_layout::score_at(book, position))
+    answer_write::put_entry(dst, to, name, book.score(position))
 }
 
 // Writes the entries at the positions offered, in order, with their names from the rows: their bytes.
-fn put_entries(book: &[u8], offered: &[usize], rows: &[u8], lens: &[usize], dst: &mut [u8]) -> usize
+fn put_entries(
+    book: &Book<'_>,
+    offered: &[usize],
+    rows: &[u8],
+    lens: &[usize],
+    dst: &mut [u8],
+) -> usize
     requires { Written book.now offered.now rows.now lens.now dst.old }
     ensures { (dst.new ≡ overwrite dst.old
-        (entries_bytes (entries_at (in_book book.now) offered.now)))
-        × (result ≡ length (entries_bytes (entries_at (in_book book.now) offered.now))) }
+        (entries_bytes (entries_at book.now offered.now)))
+        × (result ≡ length (entries_bytes (entries_at book.now offered.now))) }
 {
     let mut end = 0;
     for (i, position) in offered.iter().enumerate() {
@@ -89,25 +94,27 @@ fn put_entries(book: &[u8], offered: &[usize], rows: &[u8], lens: &[usize], dst:
     end
 }
 
-// Writes the entries offered, in order: their bytes. The names are unpacked in one pass over the records of the matches,
-// up to the last one offered.
-fn put_offered(book: &[u8], prefix: &[u8], s: Progress, dst: &mut [u8]) -> usize
+// Writes the entries offered, in order: their bytes. The names are unpacked in one pass over the records of the
+// matches, up to the last one offered.
+fn put_offered(book: &Book<'_>, prefix: &[u8], s: Progress, dst: &mut [u8]) -> usize
     requires { Writable book.now prefix.now dst.old s }
     ensures { (dst.new ≡ overwrite dst.old
-        (entries_bytes (entries_at (in_book book.now) (so_far s))))
-        × (result ≡ length (entries_bytes (entries_at (in_book book.now) (so_far s)))) }
+        (entries_bytes (entries_at book.now (so_far s))))
+        × (result ≡ length (entries_bytes (entries_at book.now (so_far s)))) }
 {
+    // `len` says that the entries are valid, so that their names fit the rows
+    let _entries = book.len();
     let start = book_name::primed(prefix, s.first, s.from);
     let mut rows = [0u8; ROWS];
     let mut lens = [0usize; MAX_COUNT];
-    book_rows::fill(book, s.entries, start, s.so_far(), &mut rows, &mut lens);
+    book_rows::fill(book, start, s.so_far(), &mut rows, &mut lens);
     put_entries(book, s.so_far(), &rows, &lens, dst)
 }
 
 // The answer of a machine that has run: the entries offered are written.
-pub fn write_answer(book: &[u8], prefix: &[u8], s: Progress, dst: &mut [u8]) -> Offered
+pub fn write_answer(book: &Book<'_>, prefix: &[u8], s: Progress, dst: &mut [u8]) -> Offered
     requires { Writable book.now prefix.now dst.old s }
-    ensures { Completed (outcome_of (in_book book.now) s dst.old) (Ok result) dst.new }
+    ensures { Completed (outcome_of book.now s dst.old) (Ok result) dst.new }
 {
     let bytes = put_offered(book, prefix, s, dst);
     Offered {
@@ -119,18 +126,19 @@ pub fn write_answer(book: &[u8], prefix: &[u8], s: Progress, dst: &mut [u8]) -> 
 
 // The positions that completion offers from a book that was checked, for the prefix that was sought in it. The matching
 // positions are the first open range; the open ranges wait in the slots that are lent.
-pub fn offers_over(book: &[u8], n: usize, seek: Seek, k: usize, ranges: &mut [Range]) -> Progress
-    requires { Held book.now n × Sought book.now n seek × MayWait k (length ranges.old) }
-    ensures { OffersAll book.now n seek k result }
+pub fn offers_over(book: &Book<'_>, seek: Seek, k: usize, ranges: &mut [Range]) -> Progress
+    requires { Sought book.now seek × MayWait k (length ranges.old) }
+    ensures { OffersAll book.now seek k result }
 {
-    let filled = completion_turn::put(book, n, seek.place, seek.past, ranges, 0);
+    // `len` says that the entries are valid, so that they stand in name order
+    let _entries = book.len();
+    let filled = completion_turn::put(book, seek.place, seek.past, ranges, 0);
     let start = Progress {
         turns: k,
         filled,
         offered: [0; MAX_COUNT],
         count: 0,
         looks: filled,
-        entries: n,
         first: seek.place,
         from: seek.at,
     };
@@ -138,12 +146,12 @@ pub fn offers_over(book: &[u8], n: usize, seek: Seek, k: usize, ranges: &mut [Ra
 }
 
 // The same for callers who lend no slots.
-pub fn offers(book: &[u8], n: usize, seek: Seek, k: usize) -> Progress
-    requires { Held book.now n × Sought book.now n seek × (k ≤ max_count) }
-    ensures { OffersAll book.now n seek k result }
+pub fn offers(book: &Book<'_>, seek: Seek, k: usize) -> Progress
+    requires { Sought book.now seek × (k ≤ max_count) }
+    ensures { OffersAll book.now seek k result }
 {
     let mut ranges = [NO_RANGE; MAX_COUNT];
-    offers_over(book, n, seek, k, &mut ranges)
+    offers_over(book, seek, k, &mut ranges)
 }
 
 // Completion for callers who lend no ranges.
@@ -152,6 +160,6 @@ pub fn complete_in(book: &[u8], prefix: &[u8], k: usize, dst: &mut [u8]) -> Resu
         dst.new }
 {
     let c = check_asked(book, prefix, k, dst.len(), k)?;
-    let s = offers(book, c.n, c.seek, k);
-    Ok(write_answer(book, prefix, s, dst))
+    let s = offers(&c.book, c.seek, k);
+    Ok(write_answer(&c.book, prefix, s, dst))
 }

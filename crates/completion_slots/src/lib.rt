@@ -2,9 +2,10 @@
 #![tactic(auto)]
 
 ghost use Rattle.std.specs.Prelude.{◌≡◌, ◌<◌, ◌≤◌, length};
-ghost use Rattle.book.specs.Book.{in_book};
 ghost use Rattle.completion_turn.specs.Slots.{best_of, without_best};
 ghost use Rattle.completion_turn.specs.Turns.{Ran, Runnable};
+
+use book_held::Book;
 
 // The best of the first n slots.
 fn best_of(ranges: &[completion::Range], n: usize) -> completion_turn::BestRange
@@ -35,14 +36,15 @@ pub fn take_best(ranges: &mut [completion::Range], n: usize) -> completion::Rang
 
 // Turns until as many are offered as were asked for, or no range is open.
 pub fn run(
-    book: &[u8],
+    book: &Book<'_>,
     ranges: &mut [completion::Range],
     start: completion_turn::Progress,
 ) -> completion_turn::Progress
     requires { Runnable book.now ranges.old start }
-    ensures { Ran (in_book book.now) ranges.old start result }
+    ensures { Ran book.now ranges.old start result }
 {
     let mut p = start;
+    // a queue: each turn takes a range out and may put two
     while 0 < p.turns && 0 < p.filled {
         let r = take_best(ranges, p.filled);
         p = completion_turn::turn(book, ranges, p, r);

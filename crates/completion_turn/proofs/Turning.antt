@@ -50,7 +50,6 @@ pub record GoesOn (es : List Entry) (xs : List Range) (p : Progress) (ys : List 
   pub looks : s.looks + (run s.turns es (waiting ys s)).looks ≡ p.looks + (run p.turns es (waiting xs p)).looks
   pub few : p.count ≤ max_count → s.count ≤ max_count
   pub places : length s.offered ≡ length p.offered
-  pub entries : s.entries ≡ p.entries
   pub first : s.first ≡ p.first
   pub from : s.from ≡ p.from
 
@@ -128,7 +127,6 @@ module _ {es : List Entry} (ri : rising es ≡ true) {xs : List Range} {p : Prog
         looks = rw (t, o) refl;
         few = λ h. omega (arith, g.few);
         places = places;
-        entries = refl;
         first = refl;
         from = refl;
       }
@@ -178,7 +176,6 @@ module _ {es : List Entry} (ri : rising es ≡ true) {xs : List Range} {p : Prog
           looks = rw step (omega (arith, ap (λ r. length (parts es r)) taken));
           few = λ h. omega (arith, g.few);
           places = places;
-          entries = refl;
           first = refl;
           from = refl;
         }
@@ -200,7 +197,6 @@ goes_start g = record {
   looks = refl;
   few = λ h. h;
   places = refl;
-  entries = refl;
   first = refl;
   from = refl;
 }
@@ -216,7 +212,6 @@ goes_turn a b =
       looks = b.looks ∙ a.looks;
       few = λ h. b.few (a.few h);
       places = b.places ∙ a.places;
-      entries = b.entries ∙ a.entries;
       first = b.first ∙ a.first;
       from = b.from ∙ a.from;
     }
@@ -232,7 +227,6 @@ goes_end {es} {xs} {ys} {p} {s} a t =
       looks = sym (add-zero s.looks) ∙ ap (λ m. s.looks + m.looks) (sym r) ∙ a.looks;
       few = a.few;
       places = a.places;
-      entries = a.entries;
       first = a.first;
       from = a.from;
     }

@@ -1,10 +1,8 @@
 -- The machine between two turns, what a turn gives, and what a whole run does.
-use Rattle.std.specs.Prelude.{◌*◌, ◌+◌, ◌-◌, ◌<◌, ◌≤◌, ℕ, ◌≡◌, List, ◌++◌, length, set, take}
+use Rattle.std.specs.Prelude.{◌*◌, ◌+◌, ◌-◌, ◌<◌, ◌≤◌, ℕ, ◌≡◌, true, List, ◌++◌, length, set, take}
 use Rattle.octets.specs.Lists.{◌∈◌}
 use Rattle.entries.specs.Completion.{max_count}
-use Rattle.entries.specs.Entries.{Entry, at}
-use Rattle.book.specs.Book.{in_book}
-use Rattle.book_laws.specs.Held.{Held}
+use Rattle.entries.specs.Entries.{Entry, at, max_entries, valid}
 use Rattle.completion.specs.declared.Range.{Range}
 use Rattle.completion.specs.Machine.{open_range, parts, run}
 use Rattle.completion_turn.specs.declared.Progress.{Progress}
@@ -17,8 +15,8 @@ pub record RangeInside (es : List Entry) (r : Range) : Type 0 where
   pub within : r.last < length es
   pub scored : r.score ≡ (at es r.best).score
 
--- the positions from i to before j, if there are any, put as an open range behind the first m of the slots xs: the slots
--- are then ys, the first k of them filled
+-- the positions from i to before j, if there are any, put as an open range behind the first m of the slots xs: the
+-- slots are then ys, the first k of them filled
 pub record Put (es : List Entry) (i j : ℕ) (xs : List Range) (m : ℕ) (ys : List Range) (k : ℕ) : Type 0 where
   pub opened : take k ys ≡ take m xs ++ open_range es i j
   pub filled : k ≡ m + length (open_range es i j)
@@ -37,7 +35,6 @@ last_of p r =
       offered = set p.offered p.count r.best;
       count = p.count + 1;
       looks = p.looks;
-      entries = p.entries;
       first = p.first;
       from = p.from;
     }
@@ -51,7 +48,6 @@ next_of p r n =
       offered = set p.offered p.count r.best;
       count = p.count + 1;
       looks = p.looks + n;
-      entries = p.entries;
       first = p.first;
       from = p.from;
     }
@@ -72,20 +68,20 @@ pub record Going (es : List Entry) (xs : List Range) (p : Progress) : Type 0 whe
   pub seen : p.looks ≤ 2 * p.count + 1
   pub inside : (r : Range) → r ∈ waiting xs p → RangeInside es r
 
--- what a turn asks: the book was checked, and r was taken out of the open ranges, which leaves a slot
-pub record Turning (book : List ℕ) (xs : List Range) (p : Progress) (r : Range) : Type 0 where
-  pub held : Held book p.entries
-  pub inside : RangeInside (in_book book) r
+-- what a turn asks: no more entries than a book may have, and r was taken out of the open ranges, which leaves a slot
+pub record Turning (es : List Entry) (xs : List Range) (p : Progress) (r : Range) : Type 0 where
+  pub entries : length es ≤ max_entries
+  pub inside : RangeInside es r
   pub some : 0 < p.turns
   pub some_open : 0 < p.filled
   pub room : p.filled + p.turns ≤ length xs + 1
   pub count : p.count < max_count
   pub seen : p.looks ≤ 2 * p.count + 1
 
--- what a run asks: the book was checked
-pub record Runnable (book : List ℕ) (xs : List Range) (p : Progress) : Type 0 where
-  pub held : Held book p.entries
-  pub going : Going (in_book book) xs p
+-- what a run asks: a machine over entries such as a book may have
+pub record Runnable (es : List Entry) (xs : List Range) (p : Progress) : Type 0 where
+  pub entries : valid es ≡ true
+  pub going : Going es xs p
 
 -- s is p once it has run: what is offered and the looks are those of the machine of the definitions
 pub record Ran (es : List Entry) (xs : List Range) (p s : Progress) : Type 0 where
@@ -93,6 +89,5 @@ pub record Ran (es : List Entry) (xs : List Range) (p s : Progress) : Type 0 whe
   pub looks : s.looks ≡ p.looks + (run p.turns es (waiting xs p)).looks
   pub few : p.count ≤ max_count → s.count ≤ max_count
   pub places : length s.offered ≡ length p.offered
-  pub entries : s.entries ≡ p.entries
   pub first : s.first ≡ p.first
   pub from : s.from ≡ p.from

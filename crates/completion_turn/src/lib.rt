@@ -4,12 +4,11 @@
 
 ghost use Rattle.std.specs.Prelude.{◌≡◌, [], ◌∷◌, ◌<◌, ◌≤◌, length};
 ghost use Rattle.entries.specs.Completion.{max_count};
-ghost use Rattle.book.specs.Book.{in_book};
-ghost use Rattle.book_laws.specs.Held.{Held};
 ghost use Rattle.completion.specs.Machine.{open_range};
 ghost use Rattle.completion_turn.specs.Slots.{better_range, is_ahead};
 ghost use Rattle.completion_turn.specs.Turns.{Put, Turned, Turning, so_far};
 
+use book_held::Book;
 use limits::MAX_COUNT;
 
 // The best of some slots: which slot, and its range.
@@ -30,8 +29,6 @@ pub struct Progress {
     pub offered: [usize; MAX_COUNT],
     pub count: usize,
     pub looks: usize,
-    // the book's entries
-    pub entries: usize,
     // the position of the first match, and where its record begins
     pub first: usize,
     pub from: usize,
@@ -69,15 +66,15 @@ pub fn better_range(b: BestRange, i: usize, x: completion::Range) -> BestRange
 }
 
 // The positions from first to before end as an open range: one look.
-pub fn open_range(book: &[u8], n: usize, first: usize, end: usize) -> completion::Range
-    requires { Held book.now n × (first < end) × (end ≤ n) }
-    ensures { open_range (in_book book.now) first end ≡ result ∷ [] }
+pub fn open_range(book: &Book<'_>, first: usize, end: usize) -> completion::Range
+    requires { (first < end) × (end ≤ length book.now) }
+    ensures { open_range book.now first end ≡ result ∷ [] }
 {
-    let best = book_best::best_in(book, n, first, end);
+    let best = book_best::best_in(book, first, end);
     completion::Range {
         first: first,
         best: best,
-        score: book_layout::score_at(book, best),
+        score: book.score(best),
         last: end - 1,
     }
 }
@@ -85,33 +82,32 @@ pub fn open_range(book: &[u8], n: usize, first: usize, end: usize) -> completion
 // Puts the positions from first to before end, if there are any, as an open range behind the filled slots: how many are
 // filled then.
 pub fn put(
-    book: &[u8],
-    n: usize,
+    book: &Book<'_>,
     first: usize,
     end: usize,
     ranges: &mut [completion::Range],
     filled: usize,
 ) -> usize
-    requires { Held book.now n × (end ≤ n) × (filled < length ranges.old) }
-    ensures { Put (in_book book.now) first end ranges.old filled ranges.new result }
+    requires { (end ≤ length book.now) × (filled < length ranges.old) }
+    ensures { Put book.now first end ranges.old filled ranges.new result }
 {
     if end <= first {
         return filled;
     }
-    ranges[filled] = open_range(book, n, first, end);
+    ranges[filled] = open_range(book, first, end);
     filled + 1
 }
 
 // Offers the best of the range that was taken out and, unless it is the last to be offered, puts its parts: the
 // positions left and right of its best.
 pub fn turn(
-    book: &[u8],
+    book: &Book<'_>,
     ranges: &mut [completion::Range],
     p: Progress,
     r: completion::Range,
 ) -> Progress
     requires { Turning book.now ranges.old p r }
-    ensures { Turned (in_book book.now) ranges.old p r ranges.new result }
+    ensures { Turned book.now ranges.old p r ranges.new result }
 {
     let count = p.count;
     let behind = p.filled - 1;
@@ -123,8 +119,8 @@ pub fn turn(
     if p.turns == 1 {
         return s;
     }
-    let left = put(book, p.entries, r.first, r.best, ranges, behind);
-    let both = put(book, p.entries, r.best + 1, r.last + 1, ranges, left);
+    let left = put(book, r.first, r.best, ranges, behind);
+    let both = put(book, r.best + 1, r.last + 1, ranges, left);
     s.filled = both;
     s.looks = p.looks + (both - behind);
     s

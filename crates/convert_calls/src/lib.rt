@@ -12,9 +12,8 @@ use convert_write::Conversion;
 fn convert_in(book: &[u8], from: Layout, to: Layout, dst: &mut [u8]) -> Result<Size, Refusal>
     ensures { Answered (convert_in from to book.now dst.old) result dst.new }
 {
-    let n = book_check::check_in(book, from, &[])
-        .ok_or(Refusal::NotLaidOut)?
-        .n;
+    let checked = book_check::check_in(book, from, &[]).ok_or(Refusal::NotLaidOut)?;
+    let n = checked.n;
     let c = Conversion { from, to, n };
     if !convert_write::fits(book, c, dst.len()) {
         return Err(Refusal::TooShort);

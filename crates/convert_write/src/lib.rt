@@ -107,7 +107,8 @@ fn pass_record(book: &[u8], src: Source, name: &mut [u8], dst: &mut [u8], to: En
     pass_anew(book, src, name, dst, to)
 }
 
-// Passes all records, and answers where the last one ends; without `store` they are only measured.
+// Passes all records, and answers where the last one ends; without `store` they are only measured, by the same pass, so
+// that both give one length.
 fn pass(book: &[u8], c: Conversion, dst: &mut [u8], store: bool) -> usize
     requires { PassRoom book.now c dst.old store }
     ensures { BookDone c.to store (in_book_in c.from book.now) dst.old

@@ -32,12 +32,13 @@ pub fn set(book: &[u8], name: &[u8], score: u32, dst: &mut [u8]) -> Result<Size,
     }
     let found = c.seek;
     if found.same {
-        return edit_rescore::write_score(book, c.n, found.place, score, dst);
+        return edit_rescore::write_score(&c.book, found.place, score, dst);
     }
-    if MAX_ENTRIES <= c.n {
+    let n = c.book.len();
+    if MAX_ENTRIES <= n {
         return Err(Refusal::Full);
     }
-    edit_copy::write_with(book_layout::today(), book, c.n, found, name, score, dst)
+    edit_copy::write_with(book_layout::today(), book, n, found, name, score, dst)
 }
 
 // Removes a name: the result stands at the front of another buffer.
@@ -52,5 +53,6 @@ pub fn withdraw(book: &[u8], name: &[u8], dst: &mut [u8]) -> Result<Size, Refusa
     let Some(_) = lookup_find::find_in(book, c.seek) else {
         return Err(Refusal::NotHeld);
     };
-    edit_copy::write_without(book_layout::today(), book, c.n, c.seek, name, dst)
+    let n = c.book.len();
+    edit_copy::write_without(book_layout::today(), book, n, c.seek, name, dst)
 }

@@ -1,6 +1,6 @@
 -- The bytes of an edit's result, as copies of the old image's.
-use Rattle.std.specs.Prelude.{◌+◌, ◌-◌, ◌<◌, ◌≤◌, min, suc, ℕ, ◌≡◌, false, List, [], ◌++◌, ◌∷◌, leb, drop, get_or, length, take}
-use Rattle.std.specs.Prelude.{Option, Some, None}
+use Rattle.std.specs.Prelude.{◌+◌, ◌-◌, ◌<◌, ◌≤◌, min, suc, ℕ, ◌≡◌, false, List, [], ◌++◌, ◌∷◌, leb, drop, get_or}
+use Rattle.std.specs.Prelude.{None, Option, Some, length, take}
 use Rattle.std.proofs.lemmas.List.Edits.{sets}
 use Rattle.octets.specs.Lists.{if◌then◌otherwise◌}
 use Rattle.octets.specs.Octets.{be}

@@ -89,8 +89,8 @@ fn behind_new(book: &[u8], end: usize, n: usize, s: Seek) -> Behind
     }
 }
 
-// Behind the record at index `at` that is left out, which keeps so many bytes and goes on with so many: the record there
-// keeps no more than that one did, and goes on with the bytes that it kept beyond them.
+// Behind the record at index `at` that is left out, which keeps so many bytes and goes on with so many: the record
+// there keeps no more than that one did, and goes on with the bytes that it kept beyond them.
 fn behind_gone(book: &[u8], end: usize, at: usize, kept: usize, own: usize) -> Behind
     requires { GoneRoom book.now end at kept own }
     ensures { result ≡ behind_gone book.now end at kept own }
@@ -128,8 +128,8 @@ fn behind_size(b: Behind, end: usize) -> usize
     }
 }
 
-// A plan for so many entries: behind the records in front of the place come so many bytes of a new record, and then what
-// stands `behind`.
+// A plan for so many entries: behind the records in front of the place come so many bytes of a new record, and then
+// what stands `behind`.
 fn make_plan(
     l: Layout,
     n: usize,
@@ -254,7 +254,9 @@ pub fn write_with(
     })
 }
 
-// Writes the book without the entry of a held name, where the destination has room. The seek tells where it stands.
+// Writes the book without the entry of a held name, where the destination has room. The seek tells where it stands. The
+// two writers stay apart: one asks for a name that is not held, the other for one that is, and one of the steps is the
+// first's alone, so that a function for both would be a switch on which steps to run.
 pub fn write_without(
     l: Layout,
     book: &[u8],

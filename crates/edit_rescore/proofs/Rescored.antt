@@ -4,14 +4,13 @@ use Prim.Native.Nat.{◌*◌, ◌+◌, ◌-◌, ◌/◌, ◌<◌, ◌^◌, ◌�
 use mathlib.Core.Path.{◌∙◌, ◌≡◌, ap, refl, sym}
 use mathlib.Core.Logic.{◌≢◌, ◌⊎◌, inl, inr}
 use mathlib.Core.Bool.{true}
-use mathlib.Core.List.{List, [], ◌++◌, ◌∷◌}
+use mathlib.Core.List.{List, ◌++◌, ◌∷◌}
 use lib.Dec.{eqb, ltb}
 use lib.ListN.{drop, length, length-set, set, take}
 use lib.Seq.{drop-set-add, drop-set-lt, get_or-set_other, get_or-set_same, map-set_same, set_split, take-set-le}
 use native.Mathlib.Numerals.{add-one}
 use native.Mathlib.Omega.{arith}
 use borrow.Author.Tests.{eqb-false, eqb-true, lt-ltb, ltb-false, ltb-true}
-use Rattle.octets.specs.Octets.{be}
 use Rattle.octets.proofs.Lists.{all-at, at_all}
 use Rattle.octets.proofs.Tests.{and_intro, by_test}
 use Rattle.entries.specs.Entries.{Entry, at, best, entry, holds, is_entry, names, no_entry, position, rising, valid, with}
@@ -19,7 +18,6 @@ use Rattle.entries.specs.Names.{is_name, is_score}
 use Rattle.entries_laws.proofs.Place.{position_at}
 use Rattle.entries_laws.proofs.Splice.{with-held}
 use Rattle.entries.proofs.Valid.{rising-names, valid-all, valid_intro, valid_of}
-use Rattle.book.specs.Records.{records}
 use Rattle.book.specs.Book.{block_size, book_image, offsets, peak, today}
 use Rattle.book.proofs.Reading.{image_length}
 use Rattle.edit_rescore.specs.Rescored.{rescored}

@@ -24,7 +24,7 @@ use Rattle.book.specs.Records.{records}
 use Rattle.book.specs.Book.{block_size, book_image, image_in, in_book, offsets, peak, peaks, records_at, scores, today}
 use Rattle.book_laws.specs.Check.{best_between, block_end, peak_start, peaks_start, score_start}
 use Rattle.book_laws.specs.Held.{Held}
-use Rattle.book_laws.proofs.Held.{held_stored}
+use Rattle.book_held.proofs.Places.{entries_stored}
 use Rattle.book.proofs.Reading.{length-offsets}
 use Rattle.book.proofs.Sections.{Sections, of_sections, sections_of}
 use Rattle.book_write.specs.Writing.{put_peak}
@@ -180,30 +180,28 @@ module _
         (sets_behind e top place peak_room T (rw length-be (omega arith))
         ∙ sets_behind d (be 4 s) (score_start i) score_room T (rw length-be (omega arith)))))
 
--- the stores of `rescore`, one after the other
+-- the stores of `rescore`, one after the other, where es are the entries of the book in a buffer that was checked
 pub rescored_whole :
-    (book d₀ : List ℕ) {d₁ d₂ d₃ : List ℕ} {n : ℕ} (i s : ℕ) {total place : ℕ} → Held book n → i < n
-    → total ≡ length (book_image (in_book book)) → total ≤ length d₀
+    (book : List ℕ) (es : List Entry) (d₀ : List ℕ) {d₁ d₂ d₃ : List ℕ} {n : ℕ} (i s : ℕ) {total place : ℕ}
+    → Held book (length es) → in_book book ≡ es → i < length es → n ≡ length es
+    → total ≡ length (book_image es) → total ≤ length d₀
     → s < 4294967296 → d₁ ≡ sets d₀ 0 (take total book) → place ≡ score_start i → d₂ ≡ sets d₁ place (be 4 s)
     → d₃ ≡ put_peak today n (i / block_size) d₂
-    → d₃ ≡ overwrite d₀ (book_image (rescored (in_book book) i s))
-rescored_whole book d₀ {d₁} {d₂} i s held h t room small copied there stored again =
-    let es = in_book book in
-    let image = image_in today (in_book book) in
-    let st = held_stored held in
-    let c = held.count in
-    let front : d₁ ≡ overwrite d₀ (image_in today (in_book book)) =
-    copied ∙ rw (t, front_of_lem (image_in today (in_book book)) book st.front)
-    (sets-overwrite d₀ (image_in today (in_book book)) (omega arith))
+    → d₃ ≡ overwrite d₀ (book_image (rescored es i s))
+rescored_whole book es d₀ {d₁} {d₂} i s held v h c t room small copied there stored again =
+    let image = image_in today es in
+    let st = entries_stored held v in
+    let front : d₁ ≡ overwrite d₀ (image_in today es) =
+    copied ∙ rw (t, front_of_lem (image_in today es) book st.front)
+    (sets-overwrite d₀ (image_in today es) (omega arith))
     in
-    let stand : begins (image_in today (in_book book)) d₁ ≡ true = rw front
+    let stand : begins (image_in today es) d₁ ≡ true = rw front
     (begins-append image (drop (length image) d₀)) in
-    let past : drop (length (image_in today (in_book book))) d₁ ≡ drop
-    (length (image_in today (rescored (in_book book) i s))) d₀ =
-    rw (front, rescored_image (in_book book) i s) (drop-append_seam image (drop (length image) d₀))
+    let past : drop (length (image_in today es)) d₁ ≡ drop (length (image_in today (rescored es i s))) d₀ =
+    rw (front, rescored_image es i s) (drop-append_seam image (drop (length image) d₀))
     in
     again
     ∙ ap (λ m. put_peak today m (i / block_size) d₂) c
     ∙ ap (put_peak today (length es) (i / block_size)) (stored ∙ ap (λ p. sets d₁ p (be 4 s)) there)
-    ∙ image_put (in_book book) st.ok i s (omega arith) small d₁ stand
-    ∙ ap (λ l. image_in today (rescored (in_book book) i s) ++ l) past
+    ∙ image_put es st.ok i s h small d₁ stand
+    ∙ ap (λ l. image_in today (rescored es i s) ++ l) past

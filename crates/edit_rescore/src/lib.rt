@@ -4,47 +4,44 @@
 
 ghost use Rattle.std.specs.Prelude.{◌≡◌, length, ◌<◌, ◌≤◌};
 ghost use Rattle.octets.specs.Octets.{overwrite};
-ghost use Rattle.book.specs.Book.{book_image, in_book};
-ghost use Rattle.book_laws.specs.Held.{Held};
+ghost use Rattle.book.specs.Book.{book_image};
 ghost use Rattle.answer.specs.Reports.{Answered};
 ghost use Rattle.book_write.specs.Whole.{whole_book};
 ghost use Rattle.edit_rescore.specs.Rescored.{rescored};
 
 use answer::{Refusal, Size};
+use book_held::Book;
 use limits::BLOCK_SIZE;
 
-// Writes the book of n entries and so many bytes with another score at position i, for which there is room: it has as
-// many bytes as before.
-fn rescore(book: &[u8], n: usize, i: usize, score: u32, total: usize, dst: &mut [u8])
-    requires { Held book.now n × (i < n) × (total ≡ length (book_image (in_book book.now)))
+// Writes a book, of so many bytes, with another score at position i, for which there is room: it has as many bytes as
+// before.
+fn rescore(book: &Book<'_>, i: usize, score: u32, total: usize, dst: &mut [u8])
+    requires { (i < length book.now) × (total ≡ length (book_image book.now))
         × (total ≤ length dst.old) }
-    ensures { dst.new ≡ overwrite dst.old
-        (book_image (rescored (in_book book.now) i score)) }
+    ensures { dst.new ≡ overwrite dst.old (book_image (rescored book.now i score)) }
 {
-    octets_code::copy(dst, 0, &book[..total]);
+    let image = book.image();
+    let n = book.len();
+    octets_code::copy(dst, 0, &image[..total]);
     octets_code::write_u32(dst, book_layout::score_start(i), score);
     book_write::put_peak(dst, book_layout::today(), n, i / BLOCK_SIZE);
 }
 
 // Writes the book with another score at a position, where the destination has room.
-pub fn write_score(
-    book: &[u8],
-    n: usize,
-    i: usize,
-    score: u32,
-    dst: &mut [u8],
-) -> Result<Size, Refusal>
-    requires { Held book.now n × (i < n) }
-    ensures { Answered (whole_book (rescored (in_book book.now) i score) dst.old) result
+pub fn write_score(book: &Book<'_>, i: usize, score: u32, dst: &mut [u8]) -> Result<Size, Refusal>
+    requires { i < length book.now }
+    ensures { Answered (whole_book (rescored book.now i score) dst.old) result
         dst.new }
 {
-    let total = book_layout::image_length(book);
+    let image = book.image();
+    let entries = book.len();
+    let total = book_layout::image_length(image);
     if dst.len() < total {
         return Err(Refusal::TooShort);
     }
-    rescore(book, n, i, score, total, dst);
+    rescore(book, i, score, total, dst);
     Ok(Size {
-        entries: n,
+        entries,
         bytes: total,
     })
 }

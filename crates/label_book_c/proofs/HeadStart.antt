@@ -58,7 +58,7 @@ module _ (book : List ℕ) (j : ℕ) where
   told_part k h =
       let b = is_there_lem k h in
       let l = length_is k h in
-      let p = (held_head (held book b.0) b.1).name in
+      let p = (held_head (held book b.0) refl b.1).name in
       record { returned = rw h; start = rw h; size = rw h; part = rw h (rw l at p) }
 
   pub told_refused : (n : ℕ) → head_length book j ≡ refused n → HeadTold book j n 0 0

@@ -80,6 +80,7 @@ fn answer_part(
     let mut kept = s.kept;
     let mut turned = s.turned;
     let mut works = s.works;
+    // by what `feed` uses: a line, or what is left
     while used < part.len() {
         let f = program_run::feed(&part[used..], kept, turned, line, first, second, out);
         let n = f.bytes;

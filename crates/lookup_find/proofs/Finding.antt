@@ -1,10 +1,10 @@
 -- What lookups by name learn of a book that was checked.
 use Prim.Native.Nat.{◌<◌, ◌≤◌, ℕ}
-use mathlib.Core.Path.{◌∙◌, ◌≡◌, ap, sym}
+use mathlib.Core.Path.{◌∙◌, ◌≡◌, ap, refl, sym}
 use mathlib.Core.Bool.{Bool, false, true}
-use mathlib.Core.List.{List, [], ◌∷◌}
+use mathlib.Core.List.{List}
 use mathlib.Core.Option as maybe
-use Rattle.std.specs.Prelude.{None, Option, Some}
+use Rattle.std.specs.Prelude.{None, Some}
 use lib.Dec.{ltb}
 use lib.ListN.{length}
 use native.Mathlib.Omega.{arith}
@@ -13,12 +13,12 @@ use Rattle.octets.specs.Lists.{if◌then◌otherwise◌}
 use Rattle.octets.specs.Octets.{same}
 use Rattle.octets.proofs.Order.{same_eq}
 use Rattle.octets.proofs.Tests.{and_true_both, by_test}
-use Rattle.entries.specs.Entries.{Entry, at, entry, holds, max_entries, names, position}
+use Rattle.entries.specs.Entries.{Entry, at, entry, holds, max_entries, names, position, rising}
 use Rattle.entries_laws.specs.Place.{is_at, place}
 use Rattle.entries_laws.proofs.Place.{place-absent, place-held, place_most, position_at}
 use Rattle.entries.proofs.Same.{entry_eq}
 use Rattle.answer.specs.Answers.{FoundCounts}
-use Rattle.book.specs.Book.{in_book}
+use Rattle.book.specs.Book.{in_book, is_book}
 use Rattle.book_laws.specs.Check.{score_at}
 use Rattle.book_laws.specs.Held.{Held}
 use Rattle.lookup.specs.Lookups.{found_in}
@@ -30,39 +30,56 @@ use Rattle.answer.specs.Reports.{finding}
 use Rattle.lookup_find.specs.Finding.{found_at}
 use Rattle.answer.specs.declared.Found.{Found}
 
--- what the search for a name told of a book that was checked: its place, where it stands or where there is a gap
-module _ (b w : List ℕ) {n start : ℕ} {s : Seek} (h : Held b n) (k : Seeking w start (names (in_book b)) s) where
-  pub place_low : s.place ≤ max_entries
-  place_low = omega (arith, seeking_place (in_book b) k, place_most false w (in_book b), (held-valid h).few)
+-- what the search for a name told of a book that was checked: the name's place, where it stands or where there
+-- is a gap
+module _
+    (b w : List ℕ) {start : ℕ} {s : Seek} (ok : is_book b ≡ true) (k : Seeking w start (names (in_book b)) s)
+  where
+    held : Held b (length (in_book b))
+    held = record { is_it = ok; count = refl }
 
-  abbrev i : ℕ
-  i = place false w (in_book b)
+    sorted : rising (in_book b) ≡ true
+    sorted = (held-valid held).order
 
-  told : s.same ≡ is_at (in_book b) i w
-  told = seeking_same (in_book b) k ∙ ap (λ j. is_at (in_book b) j w) (seeking_place (in_book b) k)
+    pub place_low : s.place ≤ max_entries
+    place_low = omega (arith, seeking_place (in_book b) k, place_most false w (in_book b), (held-valid held).few)
 
-  pub gap_there : s.same ≡ false → holds w (in_book b) ≡ false
-  gap_there t =
-      let z : is_at (in_book b) i w ≡ false = sym told ∙ t in
-      place-absent w (in_book b) (held-valid h).order (λ m. rw (lt-ltb i (length (in_book b)) m) at z)
+    abbrev i : ℕ
+    i = place false w (in_book b)
 
-  pub held_there : s.same ≡ true → (holds w (in_book b) ≡ true) × (position w (in_book b) ≡ i)
-  held_there t =
-      let a = and_true_both (ltb i (length (in_book b))) (same (at (in_book b) i).name w) (sym told ∙ t) in
-      place-held w (in_book b) (held-valid h).order (ltb-true i (length (in_book b)) a.0)
-      (same_eq (at (in_book b) i).name w a.1)
+    told : s.same ≡ is_at (in_book b) i w
+    told = seeking_same (in_book b) k ∙ ap (λ j. is_at (in_book b) j w) (seeking_place (in_book b) k)
 
-  -- so finding gives the place with its score, or none
-  pub found_is : found_at b s ≡ found_in w (in_book b)
-  unfolding found_in
-  found_is = by_test s.same there (λ t. rw (t, gap_there t))
-    where
-      there : s.same ≡ true → found_at b s ≡ found_in w (in_book b)
-      there t =
-          let f = held_there t in
-          let m = (position_at w (in_book b) f.0).0 in
-          let l : i < length (in_book b) = omega (arith, f.1) in
-          rw (t, f.0, f.1, seeking_place (in_book b) k, (held_stored h).scored_at i l)
+    pub gap_there : s.same ≡ false → holds w (in_book b) ≡ false
+    gap_there t =
+        let z : is_at (in_book b) i w ≡ false = sym told ∙ t in
+        place-absent w (in_book b) sorted (λ m. rw (lt-ltb i (length (in_book b)) m) at z)
+
+    pub held_there : s.same ≡ true → (holds w (in_book b) ≡ true) × (s.place ≡ position w (in_book b))
+    held_there t =
+        let a = and_true_both (ltb i (length (in_book b))) (same (at (in_book b) i).name w) (sym told ∙ t) in
+        let q = place-held w (in_book b) sorted (ltb-true i (length (in_book b)) a.0)
+        (same_eq (at (in_book b) i).name w a.1)
+        in
+        (q.0, seeking_place (in_book b) k ∙ sym q.1)
+
+    -- es are its entries
+    pub place_inside : {es : List Entry} → es ≡ in_book b → s.same ≡ true → s.place < length es
+    place_inside v t =
+        let f = held_there t in
+        let m = (position_at w (in_book b) f.0).0 in
+        rw (v, f.1) m
+
+    -- so finding gives the place with its score, or none
+    pub found_is : found_at b s ≡ found_in w (in_book b)
+    unfolding found_in
+    found_is = by_test s.same there (λ t. rw (t, gap_there t))
+      where
+        there : s.same ≡ true → found_at b s ≡ found_in w (in_book b)
+        there t =
+            let f = held_there t in
+            let m = (position_at w (in_book b) f.0).0 in
+            rw (t, f.0, f.1, (held_stored held).scored_at (position w (in_book b)) m)
 
 -- what is found, by what the search told
 module _ (b : List ℕ) (s : Seek) where

@@ -2,14 +2,14 @@
 // first name.
 #![tactic(auto)]
 
-ghost use Rattle.std.specs.Prelude.{◌≡◌, ◌&&◌, true, ◌+◌, ◌<◌, ◌≤◌, eqb, ltb};
+ghost use Rattle.std.specs.Prelude.{◌≡◌, ◌&&◌, true, ◌+◌, ◌<◌, ◌≤◌, eqb, length, ltb};
 ghost use Rattle.entries.specs.Entries.{at, max_entries};
-ghost use Rattle.book.specs.Book.{in_book, records_at, today};
-ghost use Rattle.book_laws.specs.Held.{Held};
+ghost use Rattle.book.specs.Book.{records_at, today};
 ghost use Rattle.lookup.specs.Lookups.{head_length, head_name};
 ghost use Rattle.answer.specs.Reports.{count_of};
 
 use answer::Refusal;
+use book_held::Book;
 use limits::HEADER_BYTES;
 
 // Whether a bucket of a book of n names has a head.
@@ -29,13 +29,15 @@ pub fn head_start(n: usize) -> usize
 }
 
 // The first name of a book with entries, a part of the book: its length is the byte before.
-fn first_name<'a>(book: &'a [u8], n: usize) -> &'a [u8]
-    requires { Held book.now n × (0 < n) }
-    ensures { result.now ≡ (at (in_book book.now) 0).name }
+fn first_name<'a>(book: &Book<'a>) -> &'a [u8]
+    requires { 0 < length book.now }
+    ensures { result.now ≡ (at book.now 0).name }
 {
+    let image = book.image();
+    let n = book.len();
     let start = head_start(n);
-    let end = start + book[start - 1] as usize;
-    &book[start..end]
+    let end = start + image[start - 1] as usize;
+    &image[start..end]
 }
 
 // The head name of a bucket, a part of the book; empty where `head_length` refuses.
@@ -45,8 +47,8 @@ pub fn head<'a>(book: &'a [u8], bucket: usize) -> &'a [u8]
     let Ok(c) = book_check::check(book, &[]) else {
         return &book[0..0];
     };
-    if has_head(c.n, bucket) {
-        return first_name(book, c.n);
+    if has_head(c.book.len(), bucket) {
+        return first_name(&c.book);
     }
     &book[0..0]
 }
@@ -56,8 +58,8 @@ pub fn head_length(book: &[u8], bucket: usize) -> Result<usize, Refusal>
     ensures { count_of result ≡ head_length book.now bucket }
 {
     let c = book_check::check(book, &[])?;
-    if !has_head(c.n, bucket) {
+    if !has_head(c.book.len(), bucket) {
         return Err(Refusal::NoSuchPlace);
     }
-    Ok(first_name(book, c.n).len())
+    Ok(first_name(&c.book).len())
 }

@@ -4,17 +4,13 @@ use mathlib.Core.Path.{◌∙◌, ◌≡◌, ap, sym}
 use mathlib.Core.Bool.{true}
 use mathlib.Core.List.{List}
 use lib.ListN.{length}
-use native.Mathlib.Omega.{arith}
 use borrow.Author.Tests.{lt-leb}
-use Rattle.entries.specs.Entries.{at, entry}
+use Rattle.entries.specs.Entries.{Entry, at, entry}
 use Rattle.entries.proofs.Same.{entry_eq}
 use Rattle.answer.specs.Answers.{writing, writing_image}
 use Rattle.book.specs.Book.{in_book, is_book}
-use Rattle.book_laws.specs.Check.{score_at}
-use Rattle.book_laws.specs.Held.{Held}
 use Rattle.lookup.specs.Lookups.{name_at}
 use Rattle.book.proofs.Checks.{read_not_old}
-use Rattle.book_laws.proofs.Held.{held_stored}
 use Rattle.answer.specs.Reports.{Answered}
 use Rattle.answer_write.specs.Entry.{one_entry}
 use Rattle.answer.specs.declared.Refusal.{Refusal}
@@ -29,11 +25,9 @@ unfolding name_at writing_image writing
 name_at-entry b i dst h l = rw (read_not_old b h, h, lt-leb (length (in_book b)) i l)
 
 pub at_position :
-    (b u dst : List ℕ) {left : List ℕ} {n : ℕ} (i s : ℕ) {r : Result Size Refusal} → Held b n → i < n → u ≡ (at (in_book b) i).name
-    → s ≡ score_at b i
+    (b u dst : List ℕ) {left : List ℕ} {es : List Entry} (i s : ℕ) {r : Result Size Refusal} → is_book b ≡ true
+    → es ≡ in_book b → i < length es → u ≡ (at es i).name → s ≡ (at es i).score
     → Answered (one_entry (entry u s) dst) r left → Answered (name_at b i dst) r left
-at_position b u dst {left} {n} i s h l e z a =
-    let c = h.count in
-    let m : i < length (in_book b) = omega arith in
-    let q = entry_eq (entry u s) (at (in_book b) i) e (z ∙ (held_stored h).scored_at i m) in
-    answered_as (name_at-entry b i dst h.is_it m ∙ ap (λ x. one_entry x dst) (sym q)) a
+at_position b u dst {left} {es} i s h v l e z a =
+    let q = entry_eq (entry u s) (at (in_book b) i) (e ∙ ap (λ x. (at x i).name) v) (z ∙ ap (λ x. (at x i).score) v) in
+    answered_as (name_at-entry b i dst h (rw v at l) ∙ ap (λ x. one_entry x dst) (sym q)) a

@@ -12,7 +12,8 @@ use answer::{Refusal, Size};
 pub fn check(book: &[u8]) -> Result<Size, Refusal>
     ensures { written_of result ≡ check_book book.now }
 {
-    let entries = book_check::check(book, &[])?.n;
+    let checked = book_check::check(book, &[])?;
+    let entries = checked.book.len();
     let bytes = book_layout::image_length(book);
     Ok(Size { entries, bytes })
 }
@@ -21,12 +22,13 @@ pub fn check(book: &[u8]) -> Result<Size, Refusal>
 pub fn name_at(book: &[u8], position: usize, dst: &mut [u8]) -> Result<Size, Refusal>
     ensures { Answered (name_at book.now position dst.old) result dst.new }
 {
-    let n = book_check::check(book, &[])?.n;
+    let c = book_check::check(book, &[])?;
+    let n = c.book.len();
     if n <= position {
         return Err(Refusal::NoSuchPlace);
     }
-    let cursor = book_name::name_at(book, n, position);
+    let cursor = book_name::name_at(&c.book, position);
     let len = cursor.len;
     let name = cursor.name;
-    answer_write::write_entry(&name[..len], book_layout::score_at(book, position), dst)
+    answer_write::write_entry(&name[..len], c.book.score(position), dst)
 }

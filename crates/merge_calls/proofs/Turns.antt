@@ -15,7 +15,7 @@ use Rattle.book.specs.Book.{today}
 use Rattle.book_laws.specs.Cursor.{cursor_of}
 use Rattle.book_append.specs.Append.{AppendDone, Fits, cursor_behind}
 use Rattle.book_append.proofs.Left.{Left, all_passed, next_fits, rest_left}
-use Rattle.merge.specs.Joined.{joined, merged_entries}
+use Rattle.merge.specs.Joined.{joined}
 use Rattle.merge_read.specs.Turns.{Loaded, Took, entries_left}
 use Rattle.merge_read.proofs.Turning.{left_none, left_some}
 use Rattle.merge_calls.specs.Merging.{PassDone, PassRoom}
@@ -25,23 +25,23 @@ use Rattle.merge_read.specs.declared.NextOfBoth.{NextOfBoth}
 use Rattle.merge_calls.specs.declared.MergePass.{MergePass}
 
 -- the entries left of both
-abbrev pub rest : List ℕ → List ℕ → NextInBook → NextInBook → List Entry
+abbrev pub rest : List Entry → List Entry → NextInBook → NextInBook → List Entry
 rest first second x y = joined (entries_left first x) (entries_left second y)
 
 -- x and y are the next entries of the books; the cursor w is where the next of both is put
 pub record PassLeft
-    (first second d₀ : List ℕ) (count at : ℕ) (store : Bool)
+    (first second : List Entry) (d₀ : List ℕ) (count at : ℕ) (store : Bool)
     (x : NextInBook) (a : List ℕ) (y : NextInBook) (b d : List ℕ) (w : Cursor) : Type 0 where
   pub of_first : Loaded first x a
   pub of_second : Loaded second y b
   pub order : w.index ≤ count
-  pub total : length (merged_entries first second) ≡ w.index + length (rest first second x y)
-  pub passing : Left today store count (cursor_behind at 0 []) (take count (merged_entries first second)) d₀ w
+  pub total : length (joined first second) ≡ w.index + length (rest first second x y)
+  pub passing : Left today store count (cursor_behind at 0 []) (take count (joined first second)) d₀ w
       (take (count - w.index) (rest first second x y)) d
 
 module _
-    {first : List ℕ} {n : ℕ} {second : List ℕ} {m : ℕ} {d : List ℕ} {count at : ℕ} {store : Bool}
-    (p : PassRoom first n second m d count at store)
+    {first second : List Entry} {d : List ℕ} {count at : ℕ} {store : Bool}
+    (p : PassRoom (joined first second) d count at store)
   where
     pub left_start :
         {x : NextInBook} {a : List ℕ} {y : NextInBook} {b : List ℕ} (prev : List ℕ) → Loaded first x a
@@ -68,7 +68,7 @@ module _
                   enough = f.enough;
                 });
             whole = λ {r} {new} q.
-                let s : AppendDone today store count (cursor_of at 0 prev 0) (take count (merged_entries first second)) d
+                let s : AppendDone today store count (cursor_of at 0 prev 0) (take count (joined first second)) d
                 r
                 new =
                 rw (z, l.1, k.1) at q
@@ -86,8 +86,8 @@ module _
         }
 
 module _
-    {first second d₀ : List ℕ} {count at : ℕ} {store : Bool} {x : NextInBook} {a : List ℕ} {y : NextInBook}
-    {b d : List ℕ} {w : Cursor} (v : PassLeft first second d₀ count at store x a y b d w)
+    {first second : List Entry} {d₀ : List ℕ} {count at : ℕ} {store : Bool} {x : NextInBook} {a : List ℕ}
+    {y : NextInBook} {b d : List ℕ} {w : Cursor} (v : PassLeft first second d₀ count at store x a y b d w)
   where
     abbrev told : ℕ → Bool → MergePass
     told passed more = record { entries = passed; end = w.at; more = more }
@@ -95,8 +95,8 @@ module _
     -- nothing is left to pass
     done :
         {passed : ℕ} {more : Bool} → passed ≡ w.index → take (count - w.index) (rest first second x y) ≡ []
-        → more ≡ ltb count (length (merged_entries first second))
-        → PassDone first second d₀ d count at store (told passed more)
+        → more ≡ ltb count (length (joined first second))
+        → PassDone (joined first second) d₀ d count at store (told passed more)
     done all e more =
         let p = all_passed v.passing e in
         record {
@@ -105,14 +105,14 @@ module _
         }
 
     -- none is left: the pass ends early
-    pub left_none_next : rest first second x y ≡ [] → PassDone first second d₀ d count at store (told w.index false)
+    pub left_none_next : rest first second x y ≡ [] → PassDone (joined first second) d₀ d count at store (told w.index false)
     left_none_next e =
         let z : length (rest first second x y) ≡ 0 = rw e in
         done refl (rw e (take-nil (count - w.index)))
-        (sym (le-ltb count (length (merged_entries first second)) (omega (arith, v.total, v.order))))
+        (sym (le-ltb count (length (joined first second)) (omega (arith, v.total, v.order))))
 
     -- or as many have been passed as were to be
-    pub left_end : count ≤ w.index → PassDone first second d₀ d count at store (told count (ltb 0 (x.len + y.len)))
+    pub left_end : count ≤ w.index → PassDone (joined first second) d₀ d count at store (told count (ltb 0 (x.len + y.len)))
     left_end h =
         let t = v.total in
         let o = v.order in
@@ -121,11 +121,11 @@ module _
         (by_test (ltb 0 (x.len + y.len))
         (λ s.
         let k = left_some v.of_first v.of_second (ltb-true 0 (x.len + y.len) s) in
-        s ∙ sym (lt-ltb count (length (merged_entries first second)) (omega arith)))
+        s ∙ sym (lt-ltb count (length (joined first second)) (omega arith)))
         (λ s.
         let z : x.len + y.len ≡ 0 = omega (arith, ltb-false 0 (x.len + y.len) s) in
         let e : length (rest first second x y) ≡ 0 = rw (left_none v.of_first v.of_second z) in
-        s ∙ sym (le-ltb count (length (merged_entries first second)) (omega arith))))
+        s ∙ sym (le-ltb count (length (joined first second)) (omega arith))))
 
     -- one turn
     module _

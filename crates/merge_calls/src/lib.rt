@@ -6,15 +6,17 @@ ghost use Rattle.std.specs.Prelude.{◌≡◌, ◌≤◌, length};
 ghost use Rattle.entries.specs.Entries.{max_entries};
 ghost use Rattle.answer.specs.Reports.{Answered};
 ghost use Rattle.book_write.specs.Whole.{whole_book};
-ghost use Rattle.merge.specs.Joined.{merge_books, merged_entries};
+ghost use Rattle.merge.specs.Joined.{joined, merge_books};
 ghost use Rattle.merge_calls.specs.Merging.{Both, PassDone, PassRoom, PassTold, records_length};
 
 use answer::{Refusal, Size};
 use book_append::EntryTarget;
+use book_held::Book;
 use book_write::Slot;
 use limits::{LONGEST_NAME, MAX_ENTRIES};
 
-// A pass over the entries chosen: how many were passed, where their records end, whether more are left.
+// A pass over the entries chosen: how many were passed, where their records end, whether more are left, which tells of
+// both books and makes neither number void.
 #[derive(Clone, Copy)]
 struct MergePass {
     entries: usize,
@@ -24,17 +26,15 @@ struct MergePass {
 
 // Passes the entries chosen from both books, at most count of them, as a book of so many: the first record at index at.
 fn pass(
-    first: &[u8],
-    n: usize,
-    second: &[u8],
-    m: usize,
+    first: &Book<'_>,
+    second: &Book<'_>,
     dst: &mut [u8],
     count: usize,
     at: usize,
     store: bool,
 ) -> MergePass
-    requires { PassRoom first.now n second.now m dst.old count at store }
-    ensures { PassDone first.now second.now dst.old dst.new count at
+    requires { PassRoom (joined first.now second.now) dst.old count at store }
+    ensures { PassDone (joined first.now second.now) dst.old dst.new count at
         store result }
 {
     let l = book_layout::today();
@@ -44,8 +44,8 @@ fn pass(
     let mut prev = [0u8; LONGEST_NAME];
     let mut prev_len = 0;
     let mut to_at = at;
-    let mut x = merge_read::first_name(first, n, &mut a);
-    let mut y = merge_read::first_name(second, m, &mut b);
+    let mut x = merge_read::first_name(first, &mut a);
+    let mut y = merge_read::first_name(second, &mut b);
     for index in 0..count {
         let Some(t) = merge_read::next_entry(first, x, &mut a, second, y, &mut b, &mut name) else {
             return MergePass {
@@ -77,29 +77,27 @@ fn pass(
 }
 
 // Measures the entries chosen, at most 1,024 of them, as if the first record stood at index 0.
-fn measure(first: &[u8], n: usize, second: &[u8], m: usize) -> MergePass
-    requires { Both first.now n second.now m }
-    ensures { PassTold first.now second.now max_entries 0 result }
+fn measure(first: &Book<'_>, second: &Book<'_>) -> MergePass
+    requires { Both first.now second.now }
+    ensures { PassTold (joined first.now second.now) max_entries 0 result }
 {
     let mut none = [0u8; 1];
-    pass(first, n, second, m, &mut none, MAX_ENTRIES, 0, false)
+    pass(first, second, &mut none, MAX_ENTRIES, 0, false)
 }
 
 // Writes the book of all entries chosen, which are count and whose records have size bytes, where the destination has
 // room.
 fn write_chosen(
-    first: &[u8],
-    n: usize,
-    second: &[u8],
-    m: usize,
+    first: &Book<'_>,
+    second: &Book<'_>,
     count: usize,
     size: usize,
     dst: &mut [u8],
 ) -> Result<Size, Refusal>
-    requires { Both first.now n second.now m × (count ≤ max_entries)
-        × (count ≡ length (merged_entries first.now second.now))
-        × (size ≡ records_length (merged_entries first.now second.now)) }
-    ensures { Answered (whole_book (merged_entries first.now second.now) dst.old)
+    requires { Both first.now second.now × (count ≤ max_entries)
+        × (count ≡ length (joined first.now second.now))
+        × (size ≡ records_length (joined first.now second.now)) }
+    ensures { Answered (whole_book (joined first.now second.now) dst.old)
         result dst.new }
 {
     let l = book_layout::today();
@@ -108,7 +106,7 @@ fn write_chosen(
     if dst.len() < total {
         return Err(Refusal::TooShort);
     }
-    pass(first, n, second, m, dst, count, start, true);
+    pass(first, second, dst, count, start, true);
     book_write::finish(dst, l, count, total);
     Ok(Size {
         entries: count,
@@ -125,11 +123,11 @@ pub fn merge(first: &[u8], second: &[u8], dst: &mut [u8]) -> Result<Size, Refusa
     if book_check::is_old(first) || book_check::is_old(second) {
         return Err(Refusal::OldVersion);
     }
-    let n = book_check::check(first, &[])?.n;
-    let m = book_check::check(second, &[])?.n;
-    let r = measure(first, n, second, m);
+    let one = book_check::check(first, &[])?;
+    let other = book_check::check(second, &[])?;
+    let r = measure(&one.book, &other.book);
     if r.more {
         return Err(Refusal::Full);
     }
-    write_chosen(first, n, second, m, r.entries, r.end, dst)
+    write_chosen(&one.book, &other.book, r.entries, r.end, dst)
 }

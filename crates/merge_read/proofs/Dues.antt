@@ -4,10 +4,10 @@ use Prim.Native.Nat.{◌<◌, ℕ}
 use mathlib.Core.Path.{◌∙◌, ◌≡◌, ap, refl, sym}
 use mathlib.Core.Bool.{Bool, ◌||◌, false, false≢true, not, true}
 use mathlib.Core.List.{List, [], ◌∷◌}
-use lib.Dec.{eqb, ltb}
+use lib.Dec.{eqb}
 use lib.ListN.{drop, length}
 use native.Mathlib.Omega.{arith}
-use borrow.Author.Tests.{eqb-false, eqb-true, le-ltb, lt-ltb, ne_eqb, not-false, not-true}
+use borrow.Author.Tests.{eqb-false, ne_eqb, not-false, not-true}
 use Rattle.octets.specs.Lists.{all, if◌then◌otherwise◌}
 use Rattle.octets.specs.Octets.{below, same}
 use Rattle.octets.proofs.Order.{below_asym, below_irrefl, below_total, same_eq, same_refl}

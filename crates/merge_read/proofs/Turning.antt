@@ -1,7 +1,7 @@
 -- One turn of two books: which entry is due, by the next names, and what it leaves.
 use Prim.Native.Nat.{◌+◌, ◌<◌, ◌≤◌, ℕ}
 use mathlib.Core.Path.{◌∙◌, ◌≡◌, ap, refl, sym}
-use mathlib.Core.Bool.{Bool, ◌||◌, false, false≢true, true}
+use mathlib.Core.Bool.{Bool, ◌||◌, false, true}
 use mathlib.Core.List.{List, [], ◌∷◌}
 use lib.Dec.{leb}
 use lib.ListN.{drop, length, take}
@@ -11,12 +11,9 @@ use borrow.Author.Tests.{leb-false, leb-true}
 use Rattle.octets.specs.Lists.{all, if◌then◌otherwise◌}
 use Rattle.octets.proofs.Lists.{all_drop}
 use Rattle.octets.proofs.Tests.{by_test}
-use Rattle.entries.specs.Entries.{at, entry, max_entries, rising}
+use Rattle.entries.specs.Entries.{Entry, at, entry, max_entries, rising}
 use Rattle.entries.specs.Names.{is_name, longest_name}
-use Rattle.entries.proofs.Valid.{rising-drop}
-use Rattle.book.specs.Book.{in_book}
-use Rattle.book_laws.specs.Check.{score_at}
-use Rattle.book_laws.proofs.Held.{held_few, held_stored, held-valid}
+use Rattle.entries.proofs.Valid.{rising-drop, valid_of}
 use Rattle.merge.specs.Joined.{joined}
 use Rattle.merge_read.specs.Turns.{Chosen, Loaded, Took, entries_left, is_due, steps}
 use Rattle.merge_read.proofs.Dues.{due_some, due_turn, due_of, none_due}
@@ -25,9 +22,9 @@ use Rattle.merge_read.specs.declared.Choice.{Choice}
 use Rattle.merge_read.specs.declared.NextInBook.{NextInBook}
 
 -- the next entry of one book
-module _ {book : List ℕ} {c : NextInBook} {name : List ℕ} (l : Loaded book c name) where
+module _ {es : List Entry} {c : NextInBook} {name : List ℕ} (l : Loaded es c name) where
   pub loaded_few : c.index ≤ max_entries
-  loaded_few = omega (arith, l.within, held_few l.held)
+  loaded_few = omega (arith, l.within, (valid_of es l.ok).few)
 
   pub loaded_fits : c.len ≤ length name
   loaded_fits = omega (arith, l.long, l.small)
@@ -38,42 +35,42 @@ module _ {book : List ℕ} {c : NextInBook} {name : List ℕ} (l : Loaded book c
   pub loaded_short : length (take c.len name) ≤ longest_name
   loaded_short = omega (arith, loaded_size, l.small)
 
-  order : rising (entries_left book c) ≡ true
-  order = rising-drop c.index (in_book book) (held-valid l.held).order
+  order : rising (entries_left es c) ≡ true
+  order = rising-drop c.index es (valid_of es l.ok).order
 
-  allowed : all (λ e. is_name e.name) (entries_left book c) ≡ true
-  allowed = all_drop (λ e. is_name e.name) c.index (in_book book) (held-valid l.held).allowed
+  allowed : all (λ e. is_name e.name) (entries_left es c) ≡ true
+  allowed = all_drop (λ e. is_name e.name) c.index es (valid_of es l.ok).allowed
 
   -- its name is the first of those left
-  head_name_lem : (at (entries_left book c) 0).name ≡ take c.len name
-  head_name_lem = ap (λ e. e.name) (at_left (in_book book) c.index) ∙ sym l.named
+  head_name_lem : (at (entries_left es c) 0).name ≡ take c.len name
+  head_name_lem = ap (λ e. e.name) (at_left es c.index) ∙ sym l.named
 
   -- there is one where it has a name
-  some_low : 0 < length (take c.len name) → c.index < c.n
+  some_low : 0 < length (take c.len name) → c.index < length es
   some_low h =
-      by_test (leb c.n c.index)
+      by_test (leb (length es) c.index)
       (λ t.
-      let i : c.n ≤ c.index = leb-true c.n c.index t in
-      let e = at_past (in_book book) c.index (omega (arith, l.held.count)) in
+      let i : length es ≤ c.index = leb-true (length es) c.index t in
+      let e = at_past es c.index i in
       let z : length (take c.len name) ≡ 0 = ap length (l.named ∙ ap (λ f. f.name) e) in
       omega arith)
-      (λ t. leb-false c.n c.index t)
+      (λ t. leb-false (length es) c.index t)
 
   -- the entry, from its name and its score
-  head_entry : {w : List ℕ} {s : ℕ} → w ≡ take c.len name → s ≡ score_at book c.index → c.index < c.n
-      → at (entries_left book c) 0 ≡ entry w s
+  head_entry : {w : List ℕ} {s : ℕ} → w ≡ take c.len name → s ≡ (at es c.index).score → c.index < length es
+      → at (entries_left es c) 0 ≡ entry w s
   head_entry e f h =
-      at_left (in_book book) c.index
-      ∙ rw (e, l.named, f, (held_stored l.held).scored_at c.index (omega (arith, l.held.count)))
+      at_left es c.index
+      ∙ rw (e, l.named, f)
 
 -- the next entries of both
 module _
-    {first : List ℕ} {x : NextInBook} {a second : List ℕ} {y : NextInBook} {b : List ℕ}
+    {first : List Entry} {x : NextInBook} {a : List ℕ} {second : List Entry} {y : NextInBook} {b : List ℕ}
     (l : Loaded first x a)
     (k : Loaded second y b)
   where
     -- one that is due is there
-    pub due_low : {f : Bool} → f ≡ is_due (take x.len a) (take y.len b) → f ≡ true → x.index < x.n
+    pub due_low : {f : Bool} → f ≡ is_due (take x.len a) (take y.len b) → f ≡ true → x.index < length first
     due_low e t = some_low l (due_some (take x.len a) (take y.len b) (sym e ∙ t))
 
     due_left : {f : Bool} → f ≡ is_due (take x.len a) (take y.len b)
@@ -81,7 +78,7 @@ module _
     due_left e = e ∙ rw (head_name_lem l, head_name_lem k)
 
 module _
-    {first : List ℕ} {x : NextInBook} {a second : List ℕ} {y : NextInBook} {b : List ℕ}
+    {first : List Entry} {x : NextInBook} {a : List ℕ} {second : List Entry} {y : NextInBook} {b : List ℕ}
     (l : Loaded first x a)
     (k : Loaded second y b)
     {f s : Bool} (p : f ≡ is_due (take x.len a) (take y.len b)) (q : s ≡ is_due (take y.len b) (take x.len a))
@@ -121,7 +118,7 @@ module _
 
 -- entries are left where there is a next name
 module _
-    {first : List ℕ} {x : NextInBook} {a second : List ℕ} {y : NextInBook} {b : List ℕ}
+    {first : List Entry} {x : NextInBook} {a : List ℕ} {second : List Entry} {y : NextInBook} {b : List ℕ}
     (l : Loaded first x a)
     (k : Loaded second y b)
   where
@@ -138,7 +135,7 @@ module _
         (λ t. let e = ended_both l k refl refl t in absurd (omega arith))
 
 module _
-    {first : List ℕ} {x : NextInBook} {a second : List ℕ} {y : NextInBook} {b : List ℕ}
+    {first : List Entry} {x : NextInBook} {a : List ℕ} {second : List Entry} {y : NextInBook} {b : List ℕ}
     (l : Loaded first x a)
     (k : Loaded second y b)
     {f s : Bool} (p : f ≡ is_due (take x.len a) (take y.len b)) (q : s ≡ is_due (take y.len b) (take x.len a))
@@ -159,11 +156,11 @@ module _
         (f || s) ≡ true
         → joined (entries_left first x) (entries_left second y)
         ≡ entry (take r.len name) r.score
-        ∷ joined (drop (x.index + steps f) (in_book first)) (drop (y.index + steps s) (in_book second))
+        ∷ joined (drop (x.index + steps f) first) (drop (y.index + steps s) second)
     turned_on h =
         rw (
-          ← drop-drop (steps f) x.index (in_book first),
-          ← drop-drop (steps s) y.index (in_book second),
+          ← drop-drop (steps f) x.index first,
+          ← drop-drop (steps s) y.index second,
           ← chosen h,
         ) (due_next l k p q h)
 

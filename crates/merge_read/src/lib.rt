@@ -1,20 +1,18 @@
 // The entries of two books read side by side, in name order. Of a name that both have, the entry is the first book's.
 #![tactic(auto)]
 
-ghost use Rattle.std.specs.Prelude.{◌≡◌, true, ◌+◌, ◌<◌, ◌≤◌, length};
-ghost use Rattle.entries.specs.Entries.{max_entries};
+ghost use Rattle.std.specs.Prelude.{◌≡◌, false, true, ◌+◌, ◌<◌, ◌≤◌, length};
 ghost use Rattle.entries.specs.Names.{longest_name};
-ghost use Rattle.book_laws.specs.Held.{Held};
 ghost use Rattle.merge_read.specs.Turns.{Chosen, Loaded, RecordStands, TookNext, is_due, steps};
 
+use book_held::Book;
 use limits::BOOK_HEADS;
 
-// The next entry of a book of n: its position, where the record behind it begins, the length of its name. Where no entry
-// is left the length is 0, which no name has, and no Option: the next names of both books are compared as slices, and
-// two Options of slices would be taken apart at each of the tests that now ask whether one is empty.
+// The next entry of a book: its position, where the record behind it begins, the length of its name. Where no
+// entry is left the length is 0, which no name has. It is no Option: the next names of both books are compared as
+// slices, and Options of slices would be taken apart at each of the tests that now ask whether one is empty.
 #[derive(Clone, Copy)]
 pub struct NextInBook {
-    pub n: usize,
     pub index: usize,
     pub at: usize,
     pub len: usize,
@@ -37,24 +35,20 @@ pub struct NextOfBoth {
 }
 
 // Reads the record of a position, at index at and behind the name in name: its own name takes that one's place.
-fn next_name(book: &[u8], n: usize, index: usize, at: usize, name: &mut [u8]) -> NextInBook
-    requires { Held book.now n × (index ≤ n) × (length name.old ≡ longest_name)
+fn next_name(book: &Book<'_>, index: usize, at: usize, name: &mut [u8]) -> NextInBook
+    requires { (index ≤ length book.now) × (length name.old ≡ longest_name)
         × RecordStands book.now at index name.old }
     ensures { Loaded book.now result name.new × (result.index ≡ index) }
 {
+    let image = book.image();
+    let n = book.len();
     if n <= index {
-        return NextInBook {
-            n,
-            index,
-            at,
-            len: 0,
-        };
+        return NextInBook { index, at, len: 0 };
     }
-    let p = book_read::read_name(book, at, BOOK_HEADS, index, name);
+    let p = book_read::read_name(image, at, BOOK_HEADS, index, name);
     let end = at + (p.start + p.own);
     let len = p.kept + p.own;
     NextInBook {
-        n,
         index,
         at: end,
         len,
@@ -62,23 +56,22 @@ fn next_name(book: &[u8], n: usize, index: usize, at: usize, name: &mut [u8]) ->
 }
 
 // The first entry of a book; its name to the front of name.
-pub fn first_name(book: &[u8], n: usize, name: &mut [u8]) -> NextInBook
-    requires { Held book.now n × (length name.old ≡ longest_name) }
+pub fn first_name(book: &Book<'_>, name: &mut [u8]) -> NextInBook
+    requires { length name.old ≡ longest_name }
     ensures { Loaded book.now result name.new × (result.index ≡ 0) }
 {
-    let start = book_layout::records_at(book_layout::today(), n);
-    next_name(book, n, 0, start, name)
+    next_name(book, 0, book.records_start(), name)
 }
 
-// The entry behind one that was due; another stays the next.
-fn move_on(book: &[u8], c: NextInBook, name: &mut [u8], due: bool) -> NextInBook
-    requires { Loaded book.now c name.old × (due ≡ true → c.index < c.n) }
+// The entry behind one that was due; another stays the next. Which it is, is told before either book is read on.
+fn move_on(book: &Book<'_>, c: NextInBook, name: &mut [u8], due: bool) -> NextInBook
+    requires { Loaded book.now c name.old × (due ≡ true → c.index < length book.now) }
     ensures { Loaded book.now result name.new × (result.index ≡ c.index + steps due) }
 {
     if !due {
         return c;
     }
-    next_name(book, c.n, c.index + 1, c.at, name)
+    next_name(book, c.index + 1, c.at, name)
 }
 
 // Whether the entry of this name comes next: there is one, and the other book has none left or its name is not below.
@@ -109,17 +102,17 @@ fn is_due_too(other: &[u8], name: &[u8], due: bool) -> bool
 // The next entry of the first book, named a, where that is due, else of the second, named b; its name is copied to the
 // front of name.
 fn choose(
-    first: &[u8],
+    first: &Book<'_>,
     i: usize,
     a: &[u8],
-    second: &[u8],
+    second: &Book<'_>,
     j: usize,
     b: &[u8],
     due: bool,
     name: &mut [u8],
 ) -> Choice
-    requires { (i ≤ max_entries) × (j ≤ max_entries) × (length a.now ≤ length name.old)
-        × (length b.now ≤ length name.old) }
+    requires { (due ≡ true → i < length first.now) × (due ≡ false → j < length second.now)
+        × (length a.now ≤ length name.old) × (length b.now ≤ length name.old) }
     ensures { Chosen first.now i a.now second.now j b.now due
         name.new result }
 {
@@ -127,22 +120,22 @@ fn choose(
         octets_code::copy(name, 0, a);
         return Choice {
             len: a.len(),
-            score: book_layout::score_at(first, i),
+            score: first.score(i),
         };
     }
     octets_code::copy(name, 0, b);
     Choice {
         len: b.len(),
-        score: book_layout::score_at(second, j),
+        score: second.score(j),
     }
 }
 
 // The entry that comes next of both books, their next names in a and b, if one is left; its name to the front of name.
 pub fn next_entry(
-    first: &[u8],
+    first: &Book<'_>,
     x: NextInBook,
     a: &mut [u8],
-    second: &[u8],
+    second: &Book<'_>,
     y: NextInBook,
     b: &mut [u8],
     name: &mut [u8],

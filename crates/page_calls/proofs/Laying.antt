@@ -11,13 +11,13 @@ use Rattle.page_write.specs.Lines.{page_bytes}
 use Rattle.page_write.proofs.Paging.{size_is}
 
 module _
-    {es : List Entry} {n : ℕ} {names lens scores : List ℕ} (u : Unpacked es n names lens scores) (ok : valid es ≡ true)
+    {es : List Entry} {names lens scores : List ℕ} (u : Unpacked es names lens scores) (ok : valid es ≡ true)
   where
-    pub table-valid : valid (entries names (take n lens) scores) ≡ true
+    pub table-valid : valid (entries names (take (length es) lens) scores) ≡ true
     table-valid = rw u.same ok
 
-    pub total_is : {total : ℕ} → total ≡ page_bytes (take n lens) → total ≡ length (page_image es)
+    pub total_is : {total : ℕ} → total ≡ page_bytes (take (length es) lens) → total ≡ length (page_image es)
     total_is e =
         e
-        ∙ size_is names (take n lens) scores u.table table-valid
+        ∙ size_is names (take (length es) lens) scores u.table table-valid
         ∙ ap (λ x. length (page_image x)) u.same

@@ -22,6 +22,7 @@ pub fn page_size(lens: &[u8]) -> usize
 {
     let mut lines = 1;
     for len in lens {
+        // rounded up, as the definition has it
         lines += (*len as usize + (NAME_COLUMNS - 1)) / NAME_COLUMNS;
     }
     lines * PAGE_LINE

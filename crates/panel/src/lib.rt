@@ -4,7 +4,7 @@
 use limits::LONGEST_NAME;
 
 // 48 bytes of text of which the first `len` are typed, the highlighted row, the rows; 48 bytes of which the first
-// `held_len` are the highlighted name, none without rows.
+// `held_len` are the highlighted name, none without rows. Arrays with a length, as document 01 has it: C lends the panel.
 #[repr(C)]
 #[derive(Clone, Copy)]
 pub struct Panel {

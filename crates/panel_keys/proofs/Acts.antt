@@ -9,11 +9,13 @@ use native.Mathlib.Omega.{arith}
 use borrow.Author.Tests.{eqb-true, not-false, not-true}
 use Rattle.octets.proofs.Tests.{and_true_both, by_test, or_false}
 use Rattle.entries.specs.Entries.{Entry}
+use Rattle.completion_turn.specs.declared.Progress.{Progress}
 use Rattle.panel.specs.declared.Panel.{Panel}
 use Rattle.panel.specs.Panel.{acts, appends, held_in, highlighted, lower_to, lowered, offered_for, on_held, panel_of}
 use Rattle.panel.specs.Panel.{row_with, typed_in, typing, typing_after}
 use Rattle.panel.proofs.Highlight.{start_on}
 use Rattle.panel_typing.specs.Typing.{changed_text, changes_text, moved_row, takes}
+use Rattle.panel_rows.specs.Rows.{Rows}
 
 module _ (es : List Entry) (p : Panel) (key : ℕ) where
   abbrev offered : List Entry
@@ -83,3 +85,24 @@ module _ (es : List Entry) (p : Panel) (key : ℕ) where
       → length (typed_in p) ≡ p.len → changes_text p.len key ≡ false → takes key (length offered) ≡ false
       → panel_of es (typing (typed_in p) i) ≡ after
   moved {i} m h l e t = leads_to (typed_in p) i (moves l e t ∙ ap (typing (typed_in p)) (sym m)) h
+
+-- the rows before the key acts, and the row i that has the held name
+pub record OnRows (es : List Entry) (p : Panel) (key : ℕ) (s : Progress) (i : ℕ) : Type 0 where
+  pub rows : Rows es (typed_in p) s
+  pub here : i ≡ row es p key
+  pub on : i ≤ s.count - 1
+  pub taking : takes key (length (offered_for es (typed_in p))) ≡ takes key s.count
+
+pub on_rows :
+    (es : List Entry) (p : Panel) (key : ℕ) {s : Progress} → Rows es (typed_in p) s → {lowered i : ℕ}
+    → lowered ≡ min p.highlight (s.count - 1) → i ≡ row_with (held_in p) (offered_for es (typed_in p)) lowered
+    → OnRows es p key s i
+on_rows es p key a l h =
+    let here = h ∙ ap (row_with (held_in p) (offered_for es (typed_in p)))
+    (l ∙ ap (λ n. min p.highlight (n - 1)) a.count) in
+    record {
+      rows = a;
+      here = here;
+      on = omega (arith, here, a.count, row_on es p key);
+      taking = ap (takes key) (sym a.count);
+    }

@@ -66,6 +66,7 @@ module _ (es : List Entry) (w : List ℕ) (r : rising es ≡ true) (s : Progress
       let b = length-map (so_far s) (at es) in
       let l = ap length listed in
       record {
+        sorted = r;
         inside = λ i m. machine-inside es w panel_count r i (rw o.offered at m);
         few = o.few;
         offered = listed;
@@ -211,17 +212,17 @@ off_rows w es h (j ∷ is) m =
 
 -- the row that has a name that was sought, among those offered for a text
 module _ (held : List ℕ) (es : List Entry) (w : List ℕ) (other : ℕ) {s : Progress} (a : Rows es w s)
-    (r : rising es ≡ true) {start : ℕ} {sought : Seek} (g : Seeking held start (names es) sought) where
+    {start : ℕ} {sought : Seek} (g : Seeking held start (names es) sought) where
   pub row_absent : sought.same ≡ false → other ≡ row_with held (offered_for es w) other
-  row_absent t = rw (← a.offered) (rw (off_rows held es (sought_absent es r g t) (so_far s) a.inside))
+  row_absent t = rw (← a.offered) (rw (off_rows held es (sought_absent es a.sorted g t) (so_far s) a.inside))
 
   module _ (t : sought.same ≡ true) {o : Option ℕ} (looked : o ≡ row_of sought.place (so_far s)) where
     row : row_of (position held es) (so_far s) ≡ o
-    row = sym (looked ∙ ap (λ i. row_of i (so_far s)) (sought_held es r g t).1)
+    row = sym (looked ∙ ap (λ i. row_of i (so_far s)) (sought_held es a.sorted g t).1)
 
     on : (holds held (map (at es) (so_far s)) ≡ ltb (row_in (position held es) (so_far s)) (length (so_far s)))
         × (position held (map (at es) (so_far s)) ≡ row_in (position held es) (so_far s))
-    on = on_row_lem held es r (sought_held es r g t).0 (so_far s) a.inside
+    on = on_row_lem held es a.sorted (sought_held es a.sorted g t).0 (so_far s) a.inside
 
     row_found : {i : ℕ} → o ≡ Some i → i ≡ row_with held (offered_for es w) other
     row_found e =
@@ -229,7 +230,9 @@ module _ (held : List ℕ) (es : List Entry) (w : List ℕ) (other : ℕ) {s : P
         rw (← a.offered) (rw (on.0, ← here.0, lt-ltb _ (length (so_far s)) here.1) (here.0 ∙ sym on.1))
 
     row_none : o ≡ None → other ≡ row_with held (offered_for es w) other
-    row_none e = rw (← a.offered) (rw (on.0, le-ltb (row_in (position held es) (so_far s)) (length (so_far s)) (no_row (position held es) (so_far s) (row ∙ e))))
+    row_none e =
+        let none = no_row (position held es) (so_far s) (row ∙ e) in
+        rw (← a.offered) (rw (on.0, le-ltb (row_in (position held es) (so_far s)) (length (so_far s)) none))
 
     pub row_or : {i : ℕ} → i ≡ unwrap_or o other → i ≡ row_with held (offered_for es w) other
     row_or {i} e = go o refl

@@ -1,10 +1,10 @@
 -- The rows of a panel as positions in the book.
-use Rattle.std.specs.Prelude.{◌<◌, ◌≤◌, ℕ, ◌≡◌, None, Option, Some, List, [], eqb, get_or, length, ltb}
+use Rattle.std.specs.Prelude.{◌<◌, ◌≤◌, ℕ, ◌≡◌, None, Option, Some, true, List, [], eqb, get_or, length, ltb}
 use Rattle.std.specs.List.{position}
 use Rattle.octets.specs.Lists.{◌∈◌, if◌then◌otherwise◌}
 use Rattle.entries.specs.Completion.{max_count}
-use Rattle.entries.specs.Entries.{Entry, at, names}
-use Rattle.book.specs.Book.{in_book, records_at, today}
+use Rattle.entries.specs.Entries.{Entry, at, names, rising}
+use Rattle.book.specs.Book.{records_at, today}
 use Rattle.book_seek.specs.Seek.{Seeking}
 use Rattle.book_seek.specs.declared.Seek.{Seek}
 use Rattle.completion_turn.specs.declared.Progress.{Progress}
@@ -13,17 +13,17 @@ use Rattle.completion_book.specs.Offers.{entries_at}
 use Rattle.panel.specs.Panel.{highlighted, offered_for, typing}
 use Rattle.panel_rows.specs.declared.Row.{Row}
 
--- the positions of what is offered for a text
+-- the positions of what is offered for a text, in a book whose entries are in order
 pub record Rows (es : List Entry) (w : List ℕ) (s : Progress) : Type 0 where
+  pub sorted : rising es ≡ true
   pub inside : (i : ℕ) → i ∈ so_far s → i < length es
   pub few : s.count ≤ max_count
   pub offered : entries_at es (so_far s) ≡ offered_for es w
   pub count : s.count ≡ length (offered_for es w)
 
 -- the same for every text that stands so among the names of a book
-abbrev pub RowsAll : List ℕ → ℕ → Seek → Progress → Type 0
-RowsAll book n seek s =
-    (w : List ℕ) → Seeking w (records_at today n) (names (in_book book)) seek → Rows (in_book book) w s
+abbrev pub RowsAll : List Entry → Seek → Progress → Type 0
+RowsAll es seek s = (w : List ℕ) → Seeking w (records_at today (length es)) (names es) seek → Rows es w s
 
 -- one of the rows
 abbrev pub row_at : Progress → ℕ → Row

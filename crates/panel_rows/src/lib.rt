@@ -5,12 +5,11 @@
 ghost use Rattle.std.specs.Prelude.{◌≡◌, ◌<◌, ◌≤◌};
 ghost use Rattle.entries.specs.Completion.{max_count};
 ghost use Rattle.entries.specs.Names.{longest_name};
-ghost use Rattle.book.specs.Book.{in_book};
-ghost use Rattle.book_laws.specs.Held.{Held};
 ghost use Rattle.completion_book.specs.Offers.{Sought};
 ghost use Rattle.panel.specs.Panel.{held_in, offered_for, row_with, typed_in};
 ghost use Rattle.panel_rows.specs.Rows.{OnRow, Rows, RowsAll, row_at, row_of};
 
+use book_held::Book;
 use book_seek::Seek;
 use limits::PANEL_COUNT;
 
@@ -23,11 +22,11 @@ pub struct Row {
 }
 
 // The first row of the panel's text; for the others nothing is looked at.
-pub fn first_row(book: &[u8], n: usize, p: panel::Panel) -> Row
-    requires { Held book.now n × (p.len ≤ longest_name) }
-    ensures { OnRow (in_book book.now) (typed_in p) result × (result.number ≡ 0) }
+pub fn first_row(book: &Book<'_>, p: panel::Panel) -> Row
+    requires { p.len ≤ longest_name }
+    ensures { OnRow book.now (typed_in p) result × (result.number ≡ 0) }
 {
-    let found = book_skip::seek(book, book_layout::today(), n, &p.text[..p.len]);
+    let found = book_skip::seek(book, &p.text[..p.len]);
     let first = found.place;
     let end = found.past;
     if end <= first {
@@ -37,7 +36,9 @@ pub fn first_row(book: &[u8], n: usize, p: panel::Panel) -> Row
             position: None,
         };
     }
-    let all = completion_turn::open_range(book, n, first, end);
+    // says that the entries are such as a book may have
+    let _ = book.len();
+    let all = completion_turn::open_range(book, first, end);
     Row {
         number: 0,
         rows: PANEL_COUNT.min(end - first),
@@ -46,11 +47,13 @@ pub fn first_row(book: &[u8], n: usize, p: panel::Panel) -> Row
 }
 
 // What is offered for the text that was sought.
-pub fn rows_of(book: &[u8], n: usize, seek: Seek) -> completion_turn::Progress
-    requires { Held book.now n × Sought book.now n seek }
-    ensures { RowsAll book.now n seek result }
+pub fn rows_of(book: &Book<'_>, seek: Seek) -> completion_turn::Progress
+    requires { Sought book.now seek }
+    ensures { RowsAll book.now seek result }
 {
-    completion_book::offers(book, n, seek, PANEL_COUNT)
+    // says that the entries are such as a book may have
+    let _ = book.len();
+    completion_book::offers(book, seek, PANEL_COUNT)
 }
 
 // One of the rows, by its number.
@@ -74,16 +77,15 @@ fn row_of(rows: &[usize], position: usize) -> Option<usize>
 
 // The row that has the held name; another row if the name is not offered.
 pub fn held_row(
-    book: &[u8],
-    n: usize,
+    book: &Book<'_>,
     p: panel::Panel,
     s: completion_turn::Progress,
     other: usize,
 ) -> usize
-    requires { Held book.now n × Rows (in_book book.now) (typed_in p) s × (p.held_len ≤ longest_name) }
-    ensures { result ≡ row_with (held_in p) (offered_for (in_book book.now) (typed_in p)) other }
+    requires { Rows book.now (typed_in p) s × (p.held_len ≤ longest_name) }
+    ensures { result ≡ row_with (held_in p) (offered_for book.now (typed_in p)) other }
 {
-    let found = book_skip::seek(book, book_layout::today(), n, &p.held[..p.held_len]);
+    let found = book_skip::seek(book, &p.held[..p.held_len]);
     if !found.same {
         return other;
     }

@@ -3,13 +3,12 @@
 
 ghost use Rattle.std.specs.Prelude.{◌≡◌, ℕ, ◌<◌, ◌≤◌, Some, length, take};
 ghost use Rattle.entries.specs.Names.{longest_name};
-ghost use Rattle.book.specs.Book.{in_book};
-ghost use Rattle.book_laws.specs.Held.{Held};
 ghost use Rattle.panel.specs.Panel.{highlighted, panel_of, typed_in, typing};
 ghost use Rattle.panel_typing.specs.Typing.{Typed};
 ghost use Rattle.panel_rows.specs.Rows.{OnRow, row_name};
 ghost use Rattle.panel_show.specs.Shown.{TextIs, text_of};
 
+use book_held::Book;
 use limits::LONGEST_NAME;
 
 // 48 bytes of which the first `len` are a text: an array with its length, as in the panel that C lends.
@@ -30,9 +29,9 @@ fn cleared(t: Text) -> Text
 }
 
 // The name on a row, with any bytes behind it; without rows the empty one.
-fn name_on(book: &[u8], n: usize, r: panel_rows::Row) -> Text
-    requires { Held book.now n × ((i : ℕ) → r.position ≡ Some i → i < length (in_book book.now)) }
-    ensures { TextIs (row_name (in_book book.now) r.position) result }
+fn name_on(book: &Book<'_>, r: panel_rows::Row) -> Text
+    requires { (i : ℕ) → r.position ≡ Some i → i < length book.now }
+    ensures { TextIs (row_name book.now r.position) result }
 {
     let Some(position) = r.position else {
         return Text {
@@ -40,17 +39,17 @@ fn name_on(book: &[u8], n: usize, r: panel_rows::Row) -> Text
             len: 0,
         };
     };
-    let c = book_name::name_at(book, n, position);
+    let c = book_name::name_at(book, position);
     let bytes = c.name;
     Text { bytes, len: c.len }
 }
 
 // The panel with the name on a row as its text.
-pub fn take_name(book: &[u8], n: usize, p: panel::Panel, r: panel_rows::Row) -> panel::Panel
-    requires { Held book.now n × OnRow (in_book book.now) (typed_in p) r }
-    ensures { Typed (highlighted (in_book book.now) (typing (typed_in p) r.number)) result }
+pub fn take_name(book: &Book<'_>, p: panel::Panel, r: panel_rows::Row) -> panel::Panel
+    requires { OnRow book.now (typed_in p) r }
+    ensures { Typed (highlighted book.now (typing (typed_in p) r.number)) result }
 {
-    let name = name_on(book, n, r);
+    let name = name_on(book, r);
     let text = name.bytes;
     let mut q = p;
     q.text = text;
@@ -59,16 +58,16 @@ pub fn take_name(book: &[u8], n: usize, p: panel::Panel, r: panel_rows::Row) -> 
 }
 
 // The panel on one of its rows: the name there held, zeros behind it and behind the text.
-pub fn show(book: &[u8], n: usize, p: panel::Panel, r: panel_rows::Row) -> panel::Panel
-    requires { Held book.now n × OnRow (in_book book.now) (typed_in p) r × (p.len ≤ longest_name) }
-    ensures { result ≡ panel_of (in_book book.now) (typing (typed_in p) r.number) }
+pub fn show(book: &Book<'_>, p: panel::Panel, r: panel_rows::Row) -> panel::Panel
+    requires { OnRow book.now (typed_in p) r × (p.len ≤ longest_name) }
+    ensures { result ≡ panel_of book.now (typing (typed_in p) r.number) }
 {
     let typed = p.text;
     let text = cleared(Text {
         bytes: typed,
         len: p.len,
     });
-    let name = name_on(book, n, r);
+    let name = name_on(book, r);
     let held = cleared(name);
     let text_bytes = text.bytes;
     let held_bytes = held.bytes;
@@ -83,9 +82,9 @@ pub fn show(book: &[u8], n: usize, p: panel::Panel, r: panel_rows::Row) -> panel
 }
 
 // The panel on its first row.
-pub fn show_first(book: &[u8], n: usize, p: panel::Panel) -> panel::Panel
-    requires { Held book.now n × (p.len ≤ longest_name) }
-    ensures { result ≡ panel_of (in_book book.now) (typing (typed_in p) 0) }
+pub fn show_first(book: &Book<'_>, p: panel::Panel) -> panel::Panel
+    requires { p.len ≤ longest_name }
+    ensures { result ≡ panel_of book.now (typing (typed_in p) 0) }
 {
-    show(book, n, p, panel_rows::first_row(book, n, p))
+    show(book, p, panel_rows::first_row(book, p))
 }

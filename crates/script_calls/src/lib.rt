@@ -33,6 +33,7 @@ fn count_calls(script: &[u8]) -> Option<usize>
 {
     let mut at = 0;
     let mut n = 0;
+    // from call to call: each begins where the one before ends
     while at < script.len() {
         let len = call_length(&script[at..])?;
         at += len;
@@ -51,6 +52,7 @@ fn play(script: &[u8], first: &mut [u8], second: &mut [u8], out: &mut [u8]) -> b
     let mut at = 0;
     let mut slot = 0;
     let mut turned = false;
+    // likewise
     while let Some(len) = call_length(&script[at..]) {
         let answer = script_step::perform_at(&script[at..], turned, first, second);
         script_step::put_answer(out, slot, answer);

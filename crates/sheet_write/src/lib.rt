@@ -4,11 +4,11 @@
 ghost use Rattle.std.specs.Prelude.{◌≡◌, ◌≤◌, length};
 ghost use Rattle.octets.specs.Octets.{overwrite};
 ghost use Rattle.frame.specs.Frame.{entries_of};
-ghost use Rattle.book.specs.Book.{book_image, in_book};
-ghost use Rattle.book_laws.specs.Held.{Held};
+ghost use Rattle.book.specs.Book.{book_image};
 ghost use Rattle.sheet_check.specs.Held.{HeldSheet};
 ghost use Rattle.sheet.specs.Sheet.{read_sheet, sheet_image};
 
+use book_held::Book;
 use book_write::Slot;
 use limits::{BOOK_HEADS, ENTRY_OVERHEAD, FRAME_LENGTH, LONGEST_NAME, SCORE_BYTES, SHEET_VERSION};
 
@@ -61,14 +61,14 @@ pub fn fill_book(sheet: &[u8], n: usize, total: usize, dst: &mut [u8])
 }
 
 // The bytes of the sheet that a book makes.
-pub fn sheet_size(book: &[u8], n: usize) -> usize
-    requires { Held book.now n }
-    ensures { result ≡ length (sheet_image (in_book book.now)) }
+pub fn sheet_size(book: &Book<'_>) -> usize
+    ensures { result ≡ length (sheet_image book.now) }
 {
+    let image = book.image();
     let mut total = FRAME_LENGTH;
-    let mut at = book_layout::records_at(book_layout::today(), n);
-    for i in 0..n {
-        let p = book_read::parts_at(BOOK_HEADS, i, &book[at..]);
+    let mut at = book.records_start();
+    for i in 0..book.len() {
+        let p = book_read::parts_at(BOOK_HEADS, i, &image[at..]);
         total += ENTRY_OVERHEAD + p.kept + p.own;
         at += p.start + p.own;
     }
@@ -76,18 +76,19 @@ pub fn sheet_size(book: &[u8], n: usize) -> usize
 }
 
 // Writes that sheet, for which there is room.
-pub fn fill_sheet(book: &[u8], n: usize, total: usize, dst: &mut [u8])
-    requires { Held book.now n × (total ≡ length (sheet_image (in_book book.now))) × (total ≤ length dst.old) }
-    ensures { dst.new ≡ overwrite dst.old (sheet_image (in_book book.now)) }
+pub fn fill_sheet(book: &Book<'_>, total: usize, dst: &mut [u8])
+    requires { (total ≡ length (sheet_image book.now)) × (total ≤ length dst.old) }
+    ensures { dst.new ≡ overwrite dst.old (sheet_image book.now) }
 {
-    frame_code::put_frame(dst, SHEET_VERSION, total, n);
+    let image = book.image();
+    frame_code::put_frame(dst, SHEET_VERSION, total, book.len());
     let mut name = [0; LONGEST_NAME];
-    let mut from = book_layout::records_at(book_layout::today(), n);
+    let mut from = book.records_start();
     let mut at = FRAME_LENGTH;
-    for i in 0..n {
-        let p = book_read::read_name(book, from, BOOK_HEADS, i, &mut name);
+    for i in 0..book.len() {
+        let p = book_read::read_name(image, from, BOOK_HEADS, i, &mut name);
         let len = p.kept + p.own;
-        let score = book_layout::score_at(book, i);
+        let score = book.score(i);
         at = answer_write::put_entry(dst, at, &name[..len], score);
         from += p.start + p.own;
     }

@@ -13,8 +13,8 @@ pub fn write_trie(book: &[u8], dst: &mut [u8]) -> Result<Size, Refusal>
     ensures { Answered (write_trie book.now dst.old) result dst.new }
 {
     let c = book_check::check(book, &[])?;
-    let entries = c.n;
-    let bytes = trie_write::write(book, entries, dst).ok_or(Refusal::TooShort)?;
+    let entries = c.book.len();
+    let bytes = trie_write::write(&c.book, dst).ok_or(Refusal::TooShort)?;
     Ok(Size { entries, bytes })
 }
 

@@ -4,11 +4,10 @@
 
 ghost use Rattle.std.specs.Prelude.{◌≡◌, true, ◌+◌, length};
 ghost use Rattle.entries.specs.Entries.{valid};
-ghost use Rattle.book.specs.Book.{in_book};
-ghost use Rattle.book_laws.specs.Held.{Held};
 ghost use Rattle.book_table.specs.Table.{Table, entries};
 ghost use Rattle.trie_write.specs.Writing.{Groupable, Grouped, TrieWritten};
 
+use book_held::Book;
 use limits::{FRAME_LENGTH, LONGEST_LABEL, LONGEST_NAME, MAX_ENTRIES, TRIE_VERSION};
 use trie_write_nodes::Target;
 use trie_write_runs::{MOST_RUNS, NO_RUN, Run};
@@ -132,13 +131,13 @@ fn write_rows(names: &[u8], lens: &[u8], scores: &[u32], dst: &mut [u8]) -> Opti
 
 // Writes the trie of a book that was checked, where the destination has room: the bytes written, or none if it is too
 // short.
-pub fn write(book: &[u8], n: usize, dst: &mut [u8]) -> Option<usize>
-    requires { Held book.now n }
-    ensures { TrieWritten (in_book book.now) dst.old result dst.new }
+pub fn write(book: &Book<'_>, dst: &mut [u8]) -> Option<usize>
+    ensures { TrieWritten book.now dst.old result dst.new }
 {
+    let n = book.len();
     let mut names = [0; NAME_BYTES];
     let mut lens = [0; MAX_ENTRIES];
     let mut scores = [0; MAX_ENTRIES];
-    book_table::unpack(book, n, &mut names, &mut lens, &mut scores);
+    book_table::unpack(book, &mut names, &mut lens, &mut scores);
     write_rows(&names, &lens[..n], &scores, dst)
 }

@@ -4,12 +4,9 @@ use native.Mathlib.Omega.{arith}
 use Rattle.book_best.proofs.Tops.{tops_block, tops_one}
 use Rattle.book_best.proofs.stretch_at.Goals as goal
 
-pub peak_of-requires : goal.peak_of-requires
-peak_of-requires c = (c.requires.0, omega arith)
-
 pub returns-then-end-i-ge-BLOCK_SIZE : goal.returns-then-end-i-ge-BLOCK_SIZE
 returns-then-end-i-ge-BLOCK_SIZE c =
-    rw c.peak_of.ensures (tops_block _ _ _ _ (omega arith) (omega arith) (omega arith))
+    rw c.peak.ensures (tops_block _ _ _ _ (omega arith) (omega arith) (omega arith))
 
 pub returns : goal.returns
 returns c = tops_one _ _ _ (omega arith)

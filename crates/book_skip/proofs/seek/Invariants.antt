@@ -4,4 +4,4 @@ use Rattle.book_skip.proofs.Skipping.{Skipping}
 use Rattle.book_skip.proofs.seek.Given as goal
 
 abbrev pub invariant-loop-index : goal.invariant-loop-index
-invariant-loop-index l = Skipping l.key l.book l.n l.start l.at l.index l.s l.limit
+invariant-loop-index l = Skipping l.key l.book l.start l.at l.index l.s l.limit

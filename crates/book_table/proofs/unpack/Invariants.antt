@@ -5,5 +5,4 @@ use Rattle.book_table.proofs.unpack.Given as goal
 
 abbrev pub invariant-loop-i : goal.invariant-loop-i
 invariant-loop-i l =
-    Unpacking l.book l.n l.initial.names l.initial.lens l.initial.scores
-    l.names l.lens l.scores l.name l.at l.i
+    Unpacking l.image l.book l.initial.names l.initial.lens l.initial.scores l.names l.lens l.scores l.name l.at l.i

@@ -3,10 +3,10 @@ use Rattle.completion_book.proofs.Answering.{sought_most, start_offers, start_ru
 use Rattle.completion_book.proofs.offers_over.Goals as goal
 
 pub put-filled-requires : goal.put-filled-requires
-put-filled-requires c = (c.requires.0, sought_most c.requires.0 c.requires.1.located, c.requires.2.some)
+put-filled-requires c = (sought_most c.args.book.now c.requires.0.located, c.requires.1.some)
 
 pub run-requires : goal.run-requires
-run-requires c = start_runs c.requires.0 c.requires.2 c.put-filled.ensures c.requires.1
+run-requires c = start_runs c.len-entries.ensures.ok c.requires.1 c.put-filled.ensures c.requires.0
 
 pub returns : goal.returns
-returns c = start_offers c.requires.0 c.requires.2 c.put-filled.ensures c.run.ensures
+returns c = start_offers c.len-entries.ensures.ok c.requires.1 c.put-filled.ensures c.run.ensures

@@ -17,7 +17,7 @@ slice_bounds-put_position-end c = row_inside c.requires c.loop-i.invariant c.loo
 pub put_position-end-requires : goal.put_position-end-requires
 put_position-end-requires c =
     let t = c.loop-i-test.true in (
-      c.requires.is_it,
+      c.requires.entries,
       put_inside c.requires c.loop-i.invariant t,
       part_bytes c.args.rows.now (c.loop-i.i * longest_name) (get_or c.args.lens.now c.loop-i.i 0)
           ∙ row_name_lem c.requires c.loop-i.invariant t,

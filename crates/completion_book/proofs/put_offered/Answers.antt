@@ -10,10 +10,11 @@ pub fill-requires : goal.fill-requires
 fill-requires c =
     let long : length c.args.s.offered ≡ max_count = search rules in
     rw c.so_far.ensures
-    (c.requires.held, offered_fillable c.requires long c.primed-start.ensures, offered_room c.requires long)
+    (offered_fillable c.requires long c.len-entries.ensures.ok c.primed-start.ensures, offered_room c.requires long)
 
 pub put_entries-requires : goal.put_entries-requires
 put_entries-requires c =
     let long : length c.args.s.offered ≡ max_count = search rules in
     rw c.so_far-2.ensures
-    (offered_written c.requires long (search rules) (search rules) (rw c.so_far.ensures at c.fill.ensures))
+    (offered_written c.requires long c.len-entries.ensures.ok (search rules) (search rules)
+    (rw c.so_far.ensures at c.fill.ensures))

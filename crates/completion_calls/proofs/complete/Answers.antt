@@ -1,5 +1,5 @@
--- `completion_calls::complete` meets its contract: a refusal, which leaves the lent ranges, or the machine run over them
--- and its answer.
+-- `completion_calls::complete` meets its contract: a refusal, which leaves the lent ranges, or the machine run over
+-- them and its answer.
 use mathlib.Core.Path.{refl}
 use Rattle.std.proofs.lemmas.Result.{err_from_is_err_and}
 use Rattle.completion_book.proofs.Answering.{completed_over, declines_over, sought, writable}
@@ -12,7 +12,7 @@ returns-in_err-c c =
     c.in_err-c.ensures)
 
 pub offers_over-s-requires : goal.offers_over-s-requires
-offers_over-s-requires c = (c.in_ok-c.ensures.known.held, sought c.in_ok-c.ensures, c.in_ok-c.ensures.waits)
+offers_over-s-requires c = (sought c.in_ok-c.ensures, c.in_ok-c.ensures.waits)
 
 pub write_answer-requires : goal.write_answer-requires
 write_answer-requires c = writable c.in_ok-c.ensures c.offers_over-s.ensures refl

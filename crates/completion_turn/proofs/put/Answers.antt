@@ -6,4 +6,4 @@ pub returns-then-end-first : goal.returns-then-end-first
 returns-then-end-first c = put_none _ _ _ _ _ c.if-end-first.true
 
 pub returns : goal.returns
-returns c = put_some _ _ _ _ _ c.open_range.ensures c.requires.2
+returns c = put_some _ _ _ _ _ c.open_range.ensures c.requires.1

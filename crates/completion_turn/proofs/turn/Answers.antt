@@ -4,12 +4,18 @@ use Rattle.completion_turn.specs.Turns.{next}
 use Rattle.completion_turn.proofs.Ranges.{put_few, put_parts}
 use Rattle.completion_turn.proofs.turn.Goals as goal
 
+pub overflow_add-r : goal.overflow_add-r
+overflow_add-r c = omega (arith, c.requires.inside.high, c.requires.inside.within, c.requires.entries)
+
+pub overflow_add-r-2 : goal.overflow_add-r-2
+overflow_add-r-2 c = omega (arith, c.requires.inside.within, c.requires.entries)
+
 pub put-both-requires : goal.put-both-requires
 put-both-requires c =
-    let few = put_few c.put-left.ensures in (
-      c.requires.held,
-      omega (arith, c.requires.inside.within, c.requires.held.count),
-      omega (arith, few, c.requires.room, c.requires.some_open, c.requires.some, c.if-p-eq1.false, c.put-left.auto.ranges),
+    let few = put_few c.put-left.ensures in
+    let r = c.requires in (
+      omega (arith, r.inside.within),
+      omega (arith, few, r.room, r.some_open, r.some, c.if-p-eq1.false, c.put-left.auto.ranges),
     )
 
 pub returns : goal.returns

@@ -6,9 +6,6 @@ use Rattle.edit_calls.proofs.empty.Goals as goal
 pub returns-then-dst-lt-FRAME_LENGTH : goal.returns-then-dst-lt-FRAME_LENGTH
 returns-then-dst-lt-FRAME_LENGTH c = nothing-refused _ c.if-dst-lt-FRAME_LENGTH.true
 
-pub shape_of-dst : goal.shape_of-dst
-shape_of-dst c = c.finish.auto.dst
-
 pub returns : goal.returns
 returns c =
     nothing_written _ _ c.if-dst-lt-FRAME_LENGTH.false

@@ -21,28 +21,29 @@ returns-in_err-c c =
 
 pub returns-then-not-is_name : goal.returns-then-not-is_name
 returns-then-not-is_name c =
-    withdraw_unnamed _ _ _ c.in_ok-c.ensures.held (sym c.is_name.ensures ∙ c.if-not-is_name.true)
+    withdraw_unnamed _ _ _ c.in_ok-c.ensures.is_it (sym c.is_name.ensures ∙ c.if-not-is_name.true)
 
 pub find_in-requires : goal.find_in-requires
-find_in-requires c = place_low _ _ c.in_ok-c.ensures.held c.in_ok-c.ensures.located
+find_in-requires c =
+    let k = c.in_ok-c.ensures in place_low _ _ k.is_it k.located
 
 pub returns-in_default : goal.returns-in_default
 returns-in_default c =
     let k = c.in_ok-c.ensures in
     let a = allowed (goal.at.returns-in_default c).Else-not-is_name in
-    not_held _ _ _ k.held a k.located c.find_in.result c.find_in.ensures c.in_default.is
+    not_held _ _ _ k.is_it a k.located k.entries c.find_in.result c.find_in.ensures c.in_default.is
 
 pub write_without-requires : goal.write_without-requires
 write_without-requires c =
     let k = c.in_ok-c.ensures in
     let a = allowed (goal.at.write_without-requires c).Else-not-is_name in
-    rw c.today.ensures (gone-asked _ _ [] k.held a k.located c.find_in.result c.find_in.ensures c.in-Some.is)
-
-pub shape_of-dst : goal.shape_of-dst
-shape_of-dst c = c.write_without.auto.dst
+    rw c.today.ensures
+    (gone-asked _ _ [] k.is_it a k.located k.entries c.find_in.result c.find_in.ensures c.in-Some.is
+    c.len-n.ensures.count)
 
 pub returns : goal.returns
 returns c =
     let k = c.in_ok-c.ensures in
     let a = allowed (goal.at.returns c).Else-not-is_name in
-    gone _ _ _ k.held a k.located c.find_in.result c.find_in.ensures c.in-Some.is (rw c.today.ensures at c.write_without.ensures)
+    gone _ _ _ k.is_it a k.located k.entries c.find_in.result c.find_in.ensures c.in-Some.is
+    (rw c.today.ensures at c.write_without.ensures)

@@ -9,7 +9,8 @@ slice_bounds-copy-end c = omega (arith, c.requires.within, c.requires.inside)
 
 pub overflow_add-to : goal.overflow_add-to
 overflow_add-to c =
-    omega (arith, c.put_header-to.ensures.end, header_most c.args.b, c.requires.near, c.requires.within, c.requires.small)
+    let q = c.requires in
+    omega (arith, c.put_header-to.ensures.end, header_most c.args.b, q.near, q.within, q.small)
 
 pub returns : goal.returns
 returns c =

@@ -83,5 +83,6 @@ returns c =
     let h = c.plan_with-p.ensures in
     whole_written _ _ _ _ (with-count c.requires.sought c.requires c.args.score)
     (with_total c.requires h c.args.score score) c.if-dst-p.false
-    (with_stored c.requires h c.args.score score c.args.dst.now c.if-dst-p.false (scores_are (goal.at.returns c).After-put_scores)
+    (with_stored c.requires h c.args.score score c.args.dst.now c.if-dst-p.false
+    (scores_are (goal.at.returns c).After-put_scores)
     c.copy.ensures c.put_record.ensures c.put_behind.ensures c.finish.ensures)

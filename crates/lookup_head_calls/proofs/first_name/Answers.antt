@@ -5,27 +5,27 @@ use lib.ListN.{get_or}
 use native.Mathlib.Omega.{arith}
 use Rattle.octets.proofs.Stores.{part_bytes}
 use Rattle.entries.specs.Entries.{at}
-use Rattle.book.specs.Book.{in_book}
-use Rattle.book_laws.proofs.Held.{held_few}
 use Rattle.lookup_head_calls.proofs.Place.{HeadAt, held_head}
 use Rattle.lookup_head_calls.proofs.first_name.Goals as goal
 use Rattle.lookup_head_calls.proofs.first_name.Goals.{After-head_start-start}
 
 -- the name stands there
 head_at :
-    (c : After-head_start-start) → let b = c.args.book.now in
-    HeadAt b (at (in_book b) 0).name c.head_start-start.result
-head_at c = rw c.head_start-start.ensures (held_head c.requires.0 c.requires.1)
+    (c : After-head_start-start)
+    → HeadAt c.image-image.result.now (at c.args.book.now 0).name c.head_start-start.result
+head_at c =
+    let e = c.image-image.ensures in
+    rw (c.head_start-start.ensures, c.len-n.ensures.count) (held_head e.held e.entries c.requires)
 
 pub head_start-start-requires : goal.head_start-start-requires
-head_start-start-requires c = held_few c.requires.0
+head_start-start-requires c = omega (arith, c.len-n.ensures.count, c.len-n.ensures.few)
 
 pub overflow_sub-end : goal.overflow_sub-end
 overflow_sub-end c = omega (arith, c.head_start-start.ensures)
 
-pub bounds-book-start : goal.bounds-book-start
-bounds-book-start c =
-    let head = head_at (goal.at.bounds-book-start c).After-head_start-start in
+pub bounds-image-start : goal.bounds-image-start
+bounds-image-start c =
+    let head = head_at (goal.at.bounds-image-start c).After-head_start-start in
     omega (arith, c.head_start-start.ensures, head.inside)
 
 pub overflow_add-end : goal.overflow_add-end
@@ -41,6 +41,6 @@ slice_bounds-result-end c =
 pub returns : goal.returns
 returns c =
     let head = head_at (goal.at.returns c).After-head_start-start in
-    let b = c.args.book.now in
+    let b = c.image-image.result.now in
     let s = c.head_start-start.result in
     rw (part_bytes b s (get_or b (s - 1) 0), head.len) head.name

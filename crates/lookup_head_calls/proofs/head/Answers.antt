@@ -9,11 +9,15 @@ pub returns-in_default : goal.returns-in_default
 returns-in_default c = head_refused _ _ c.in_default.ensures
 
 pub first_name-requires : goal.first_name-requires
-first_name-requires c = (c.in-Ok.ensures.held, omega (arith, c.has_head.ensures.1 c.if-has_head.true))
+first_name-requires c = omega (arith, c.len.ensures.count, c.has_head.ensures.1 c.if-has_head.true)
 
 pub returns-then-has_head : goal.returns-then-has_head
 returns-then-has_head c =
-    c.first_name.ensures ∙ head_some _ _ c.in-Ok.ensures.held c.has_head.ensures.0 c.if-has_head.true
+    let k = c.in-Ok.ensures in
+    c.first_name.ensures
+    ∙ head_some _ _ k.is_it k.entries c.len.ensures.count c.has_head.ensures.0 c.if-has_head.true
 
 pub returns : goal.returns
-returns c = head_none _ _ c.in-Ok.ensures.held c.has_head.ensures.0 c.if-has_head.false
+returns c =
+    let k = c.in-Ok.ensures in
+    head_none _ _ k.is_it k.entries c.len.ensures.count c.has_head.ensures.0 c.if-has_head.false

@@ -14,12 +14,15 @@ returns-in_err-c c =
     rw (p.1, p.2) (length-refused _ _ c.in_err-c.ensures)
 
 pub returns-then-not-has_head : goal.returns-then-not-has_head
-returns-then-not-has_head c = length_none _ _ c.in_ok-c.ensures.held c.has_head.ensures.0 c.if-not-has_head.true
+returns-then-not-has_head c =
+    let k = c.in_ok-c.ensures in
+    length_none _ _ k.is_it k.entries c.len.ensures.count c.has_head.ensures.0 c.if-not-has_head.true
 
 pub first_name-requires : goal.first_name-requires
-first_name-requires c = (c.in_ok-c.ensures.held, omega (arith, c.has_head.ensures.1 c.if-not-has_head.false))
+first_name-requires c = omega (arith, c.len.ensures.count, c.has_head.ensures.1 c.if-not-has_head.false)
 
 pub returns : goal.returns
 returns c =
+    let k = c.in_ok-c.ensures in
     ap (λ l. given (length l)) c.first_name.ensures
-    ∙ length_some _ _ c.in_ok-c.ensures.held c.has_head.ensures.0 c.if-not-has_head.false
+    ∙ length_some _ _ k.is_it k.entries c.len.ensures.count c.has_head.ensures.0 c.if-not-has_head.false

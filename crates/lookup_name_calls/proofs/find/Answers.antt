@@ -19,11 +19,11 @@ unfolding find
 returns-then-not-is_name c = rw (passed c.in_ok-c.ensures _ _, sym c.is_name.ensures ∙ c.if-not-is_name.true)
 
 pub find_in-requires : goal.find_in-requires
-find_in-requires c = let k = c.in_ok-c.ensures in place_low _ _ k.held k.located
+find_in-requires c = let k = c.in_ok-c.ensures in place_low _ _ k.is_it k.located
 
 pub returns : goal.returns
 unfolding find
 returns c =
     let k = c.in_ok-c.ensures in
     rw (passed k _ _, sym c.is_name.ensures ∙ c.if-not-is_name.false)
-    (ap given (c.find_in.ensures ∙ found_is _ _ k.held k.located))
+    (ap given (c.find_in.ensures ∙ found_is _ _ k.is_it k.located))

@@ -20,9 +20,9 @@ returns-then-not-is_prefix c = rw (passed c.in_ok-c.ensures _ _, sym c.is_prefix
 pub returns-then-end-first : goal.returns-then-end-first
 returns-then-end-first c =
     let k = c.in_ok-c.ensures in
-    span_none _ _ k.held (sym c.is_prefix.ensures ∙ c.if-not-is_prefix.false) k.located c.if-end-first.true
+    span_none _ _ k.is_it (sym c.is_prefix.ensures ∙ c.if-not-is_prefix.false) k.located c.if-end-first.true
 
 pub returns : goal.returns
 returns c =
     let k = c.in_ok-c.ensures in
-    span_some _ _ k.held (sym c.is_prefix.ensures ∙ c.if-not-is_prefix.false) k.located c.if-end-first.false
+    span_some _ _ k.is_it (sym c.is_prefix.ensures ∙ c.if-not-is_prefix.false) k.located c.if-end-first.false

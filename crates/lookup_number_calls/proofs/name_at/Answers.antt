@@ -1,7 +1,7 @@
 -- `lookup_number_calls::name_at` meets its contract: the checks in the table's order, then the entry at the position.
 -- No loop, so no invariant.
 use Rattle.std.proofs.lemmas.Result.{err_from_is_err_and}
-use mathlib.Core.Path.{◌≡◌, sym}
+use mathlib.Core.Path.{◌∙◌, ◌≡◌, ap, sym}
 use lib.ListN.{length}
 use lib.Seq.{length-take-le}
 use native.Mathlib.Omega.{arith}
@@ -11,28 +11,28 @@ use Rattle.entries.specs.Names.{longest_name}
 use Rattle.answer.specs.Answers.{writing, writing_image}
 use Rattle.lookup.specs.Lookups.{name_at}
 use Rattle.book.proofs.Checks.{read_not_old}
-use Rattle.book_laws.proofs.Held.{held_few}
 use Rattle.lookup_number_calls.proofs.Entry.{at_position}
 use Rattle.lookup_number_calls.proofs.Refused.{position-refused}
 use Rattle.lookup_number_calls.proofs.name_at.Goals as goal
 use Rattle.lookup_number_calls.proofs.name_at.Goals.{After-name_at-cursor}
 
-pub returns-in_err-n : goal.returns-in_err-n
-returns-in_err-n c =
+pub returns-in_err-c : goal.returns-in_err-c
+returns-in_err-c c =
     let p = err_from_is_err_and c.from_residual.result c.from_residual.ensures.1 in
-    rw (p.1, p.2) (position-refused _ c.in_err-n.ensures _ _)
+    rw (p.1, p.2) (position-refused _ c.in_err-c.ensures _ _)
 
 pub returns-then-n-position : goal.returns-then-n-position
 unfolding name_at writing_image writing
 returns-then-n-position c =
-    let h = c.in_ok-n.ensures.held in
-    let t = le-leb _ _ c.if-n-position.true in
-    let o = read_not_old _ h.is_it in
-    record { answer = rw (o, h.is_it, ← h.count, t); left = rw (o, h.is_it, ← h.count, t) }
+    let k = c.in_ok-c.ensures in
+    let e = c.len-n.ensures.count ∙ ap length k.entries in
+    let t = le-leb _ _ (rw e at c.if-n-position.true) in
+    let o = read_not_old _ k.is_it in
+    record { answer = rw (o, k.is_it, t); left = rw (o, k.is_it, t) }
 
 pub name_at-cursor-requires : goal.name_at-cursor-requires
 name_at-cursor-requires c =
-    (c.in_ok-n.ensures.held, omega (arith, c.if-n-position.false))
+    omega (arith, c.len-n.ensures.count, c.if-n-position.false)
 
 -- the array that the name is read into
 long : (c : After-name_at-cursor) → length c.name_at-cursor.result.name ≡ longest_name
@@ -49,9 +49,8 @@ slice_bounds-write_entry-end c =
     sym (length-take-le c.name_at-cursor.result.len c.name_at-cursor.result.name
     (omega (arith, l, c.name_at-cursor.ensures.1)))
 
-pub score_at-requires : goal.score_at-requires
-score_at-requires c =
-    omega (arith, held_few c.in_ok-n.ensures.held, c.if-n-position.false)
+pub score-requires : goal.score-requires
+score-requires c = omega (arith, c.len-n.ensures.count, c.if-n-position.false)
 
 pub write_entry-requires : goal.write_entry-requires
 write_entry-requires c =
@@ -69,5 +68,6 @@ shape_of-dst c = c.write_entry.auto.dst
 
 pub returns : goal.returns
 returns c =
-    at_position _ _ _ _ _ c.in_ok-n.ensures.held c.if-n-position.false c.name_at-cursor.ensures.0 c.score_at.ensures
-    c.write_entry.ensures
+    let k = c.in_ok-c.ensures in
+    at_position _ _ _ _ _ k.is_it k.entries (omega (arith, c.len-n.ensures.count, c.if-n-position.false))
+    c.name_at-cursor.ensures.0 c.score.ensures c.write_entry.ensures

@@ -4,10 +4,10 @@ use Rattle.std.proofs.lemmas.Result.{err_from_is_err_and}
 use mathlib.Core.Path.{◌∙◌, sym}
 use native.Mathlib.Omega.{arith}
 use Rattle.merge_calls.specs.Merging.{Both}
-use Rattle.merge_calls.proofs.Answering.{first_damaged, first_old, merged, second_damaged, second_old, too_many}
+use Rattle.merge_calls.proofs.Answering.{entries_ok, first_damaged, first_old, merged, second_damaged, second_old, too_many}
 use Rattle.merge_calls.proofs.Whole.{counted_all, counted_few, counted_size}
 use Rattle.merge_calls.proofs.merge.Goals as goal
-use Rattle.merge_calls.proofs.merge.Goals.{In_ok-m, then-is_old-via-then-is_old}
+use Rattle.merge_calls.proofs.merge.Goals.{In_ok-other, then-is_old-via-then-is_old}
 use Rattle.merge_calls.proofs.merge.Goals.{then-is_old-via-else-is_old+then-is_old-2}
 
 pub returns-then-is_old : goal.returns-then-is_old
@@ -19,40 +19,51 @@ returns-then-is_old c =
           (sym w.is_old-else-is_old.ensures ∙ w.if-is_old-2.true)
     ]
 
-pub returns-in_err-n : goal.returns-in_err-n
-returns-in_err-n c =
+pub returns-in_err-one : goal.returns-in_err-one
+returns-in_err-one c =
     let p = err_from_is_err_and c.from_residual.result c.from_residual.ensures.1 in
     rw (p.1, p.2)
     (first_damaged _ _ (sym c.is_old.ensures ∙ c.if-is_old.false)
-    (sym c.is_old-else-is_old.ensures ∙ c.if-is_old-2.false) _ c.in_err-n.ensures)
+    (sym c.is_old-else-is_old.ensures ∙ c.if-is_old-2.false) _ c.in_err-one.ensures)
 
-pub returns-in_err-m : goal.returns-in_err-m
-returns-in_err-m c =
-    let p = err_from_is_err_and c.from_residual-in_err-m.result c.from_residual-in_err-m.ensures.1 in
+pub returns-in_err-other : goal.returns-in_err-other
+returns-in_err-other c =
+    let p = err_from_is_err_and c.from_residual-in_err-other.result c.from_residual-in_err-other.ensures.1 in
     rw (p.1, p.2)
     (second_damaged _ _ (sym c.is_old.ensures ∙ c.if-is_old.false)
-    (sym c.is_old-else-is_old.ensures ∙ c.if-is_old-2.false) _ c.in_ok-n.ensures.held.is_it c.in_err-m.ensures)
+    (sym c.is_old-else-is_old.ensures ∙ c.if-is_old-2.false) _ c.in_ok-one.ensures.is_it c.in_err-other.ensures)
 
--- two books that were checked
-both : (c : In_ok-m) → let a = c.args in Both a.first.now c.in_ok-n.field-0.n a.second.now c.in_ok-m.field-0.n
-both c = record { one = c.in_ok-n.ensures.held; other = c.in_ok-m.ensures.held }
+-- the entries of two books that were checked
+both : (c : In_ok-other) → Both c.in_ok-one.one.book c.in_ok-other.other.book
+both c =
+    let k = c.in_ok-one.ensures in
+    let l = c.in_ok-other.ensures in
+    record {
+      one = entries_ok _ k.is_it k.entries;
+      other = entries_ok _ l.is_it l.entries;
+    }
 
 pub measure-r-requires : goal.measure-r-requires
-measure-r-requires c = both (goal.at.measure-r-requires c).In_ok-m
+measure-r-requires c = both (goal.at.measure-r-requires c).In_ok-other
 
 pub returns-then-r : goal.returns-then-r
-returns-then-r c = too_many (both (goal.at.returns-then-r c).In_ok-m) c.measure-r.ensures _ c.if-r.true
+returns-then-r c =
+    let k = c.in_ok-one.ensures in
+    let l = c.in_ok-other.ensures in
+    too_many _ _ k.is_it l.is_it k.entries l.entries c.measure-r.ensures _ c.if-r.true
 
 pub write_chosen-requires : goal.write_chosen-requires
 write_chosen-requires c =
-    let b = both (goal.at.write_chosen-requires c).In_ok-m in
-    let all = counted_all b c.measure-r.ensures c.if-r.false in (
+    let b = both (goal.at.write_chosen-requires c).In_ok-other in
+    let all = counted_all c.measure-r.ensures c.if-r.false in (
       b,
-      omega (arith, all, counted_few b c.measure-r.ensures c.if-r.false),
+      omega (arith, all, counted_few c.measure-r.ensures c.if-r.false),
       all,
-      counted_size b c.measure-r.ensures c.if-r.false,
+      counted_size c.measure-r.ensures c.if-r.false,
     )
 
 pub returns : goal.returns
 returns c =
-    merged (both (goal.at.returns c).In_ok-m) c.measure-r.ensures _ c.if-r.false c.write_chosen.ensures
+    let k = c.in_ok-one.ensures in
+    let l = c.in_ok-other.ensures in
+    merged _ _ k.is_it l.is_it k.entries l.entries c.measure-r.ensures _ c.if-r.false c.write_chosen.ensures

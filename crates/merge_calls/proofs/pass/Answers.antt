@@ -20,10 +20,10 @@ name_size : (c : In-Some) → length (take c.in-Some.t.len c.next_entry.new.name
 name_size c = length-take-le c.in-Some.t.len c.next_entry.new.name (name_fits c)
 
 pub first_name-x-requires : goal.first_name-x-requires
-first_name-x-requires c = (c.requires.both.one, search rules)
+first_name-x-requires c = search rules
 
 pub first_name-y-requires : goal.first_name-y-requires
-first_name-y-requires c = (c.requires.both.other, search rules)
+first_name-y-requires c = search rules
 
 pub loop-index-init : goal.loop-index-init
 loop-index-init c = (

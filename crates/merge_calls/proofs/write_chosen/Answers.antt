@@ -7,7 +7,7 @@ use lib.ListN.{length}
 use native.Mathlib.Omega.{arith}
 use Rattle.book.specs.Book.{book_image, records_at, today}
 use Rattle.book_write.proofs.Reports.{whole_refused, whole_written}
-use Rattle.merge.specs.Joined.{merged_entries}
+use Rattle.merge.specs.Joined.{joined}
 use Rattle.merge_calls.proofs.Whole.{whole_image, whole_length, whole_small, write_room}
 use Rattle.merge_calls.proofs.write_chosen.Goals as goal
 use Rattle.merge_calls.proofs.write_chosen.Goals.{After-records_at-start}
@@ -21,7 +21,7 @@ total_small c = let q = c.requires in whole_small q.0 q.1 q.2 q.3 (starts_at c)
 
 total_is :
     (c : After-records_at-start) → let a = c.args in
-    c.records_at-start.result + a.size ≡ length (book_image (merged_entries a.first.now a.second.now))
+    c.records_at-start.result + a.size ≡ length (book_image (joined a.first.now a.second.now))
 total_is c = let q = c.requires in whole_length q.0 q.1 q.2 q.3 (starts_at c)
 
 pub records_at-start-requires : goal.records_at-start-requires
@@ -36,7 +36,7 @@ pub returns-then-dst-total : goal.returns-then-dst-total
 returns-then-dst-total c =
     let total = total_is (goal.at.returns-then-dst-total c).After-records_at-start in
     let a = c.args in
-    whole_refused today (merged_entries a.first.now a.second.now) a.dst.now total c.if-dst-total.true
+    whole_refused today (joined a.first.now a.second.now) a.dst.now total c.if-dst-total.true
 
 pub pass-requires : goal.pass-requires
 pass-requires c =
@@ -58,7 +58,7 @@ returns c =
       arith,
       c.if-dst-total.false,
     ) in
-    whole_written today (merged_entries c.args.first.now c.args.second.now) c.args.dst.now _ q.2
+    whole_written today (joined c.args.first.now c.args.second.now) c.args.dst.now _ q.2
     total
     fits
     ((rw c.today-l.ensures at c.finish.ensures)

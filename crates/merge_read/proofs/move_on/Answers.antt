@@ -4,7 +4,8 @@ use Prim.Native.Nat.{◌<◌}
 use mathlib.Core.Path.{◌≡◌}
 use mathlib.Core.Bool.{true}
 use native.Mathlib.Omega.{arith}
-use Rattle.book_laws.proofs.Held.{held_few}
+use lib.ListN.{length}
+use Rattle.entries.proofs.Valid.{valid_of}
 use Rattle.merge_read.proofs.move_on.Goals as goal
 
 pub returns-then-not-due : goal.returns-then-not-due
@@ -13,15 +14,15 @@ returns-then-not-due c = (c.requires.0, rw (c.if-not-due.true) (omega arith))
 pub overflow_add-c : goal.overflow_add-c
 overflow_add-c c =
     let due : c.args.due ≡ true = c.if-not-due.false in
-    let low : c.args.c.index < c.args.c.n = c.requires.1 due in
-    omega (arith, low, held_few c.requires.0.held)
+    let low : c.args.c.index < length c.args.book.now = c.requires.1 due in
+    omega (arith, low, (valid_of c.args.book.now c.requires.0.ok).few)
 
 pub next_name-requires : goal.next_name-requires
 next_name-requires c =
     let due : c.args.due ≡ true = c.if-not-due.false in
-    let low : c.args.c.index < c.args.c.n = c.requires.1 due in
+    let low : c.args.c.index < length c.args.book.now = c.requires.1 due in
     let q = c.requires.0 in
-    (q.held, omega (arith, low), q.long, q.behind low)
+    (omega (arith, low), q.long, q.behind low)
 
 pub returns : goal.returns
 returns c =

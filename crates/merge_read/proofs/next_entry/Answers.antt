@@ -1,8 +1,9 @@
 -- `merge_read::next_entry` meets its contract: which entries are due, the one that is chosen, and both books gone on
 -- (proofs/Turning). No loop.
-use mathlib.Core.Path.{sym}
+use mathlib.Core.Path.{◌≡◌, sym}
+use mathlib.Core.Bool.{◌||◌, true}
 use native.Mathlib.Omega.{arith}
-use Rattle.merge_read.proofs.Turning.{due_low, loaded_few, loaded_fits, loaded_short, loaded_size, none_next, turned}
+use Rattle.merge_read.proofs.Turning.{due_low, loaded_fits, loaded_short, loaded_size, none_next, turned}
 use Rattle.merge_read.proofs.next_entry.Goals as goal
 use Rattle.merge_read.proofs.next_entry.Goals.{else-not-first_due-via-else-not-first_due}
 use Rattle.merge_read.proofs.next_entry.Goals.{else-not-first_due-via-then-not-first_due+else-not-second_due}
@@ -25,11 +26,21 @@ is_due_too-second_due-requires c = c.is_due-first_due.ensures
 pub choose-e-requires : goal.choose-e-requires
 choose-e-requires c =
     let q = c.requires in
-    let i = loaded_few q.0 in
-    let j = loaded_few q.1 in
     let s = loaded_short q.0 in
     let t = loaded_short q.1 in
-    (omega (arith, i, j), omega (arith, i, j), omega (arith, s, t, q.2), omega (arith, s, t, q.2))
+    -- one of the two is due
+    let one : (c.is_due-first_due.result || c.is_due_too-second_due.result) ≡ true =
+    elim c.else-not-first_due.branch [
+      | else-not-first_due-via-then-not-first_due+else-not-second_due w ↦
+          rw (w.if-not-first_due.true, w.if-not-second_due.false)
+      | else-not-first_due-via-else-not-first_due w ↦ rw w.if-not-first_due.false
+    ]
+    in (
+      due_low q.0 q.1 c.is_due-first_due.ensures,
+      λ z. due_low q.1 q.0 c.is_due_too-second_due.ensures (rw z at one),
+      omega (arith, s, t, q.2),
+      omega (arith, s, t, q.2),
+    )
 
 pub move_on-requires : goal.move_on-requires
 move_on-requires c =

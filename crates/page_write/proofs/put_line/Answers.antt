@@ -16,13 +16,6 @@ blank : (c : After-fill) → let d = c.args.dst.now in let at = c.args.at in
     put_mid at (at + page_columns - at) d c.fill.new.self ≡ sets d at (spaces page_columns)
 blank c = blank_filled c.args.dst.now _ c.args.at (omega (arith, c.requires.0)) (c.fill.ensures.after (λ y e. e))
 
-pub shape_of-dst : goal.shape_of-dst
-shape_of-dst c =
-    c.copy.auto.dst
-    ∙ length-set _ _ _
-    ∙ ap length (blank (goal.at.shape_of-dst c).After-fill)
-    ∙ length-sets c.args.dst.now c.args.at (spaces page_columns)
-
 pub returns : goal.returns
 returns c =
     c.copy.ensures

@@ -14,37 +14,38 @@ returns-in_err-c c =
 
 pub returns-then-not-is_typed : goal.returns-then-not-is_typed
 returns-then-not-is_typed c =
-    not_typed c.args.book.now c.args.p c.args.key c.in_ok-c.ensures.held.is_it
+    not_typed c.args.book.now c.args.p c.args.key c.in_ok-c.ensures.is_it
     (sym c.is_typed.ensures ∙ c.if-not-is_typed.true)
 
 pub returns-then-not-is_held : goal.returns-then-not-is_held
 returns-then-not-is_held c =
-    not_held c.args.book.now c.args.p c.args.key c.in_ok-c.ensures.held.is_it
+    not_held c.args.book.now c.args.p c.args.key c.in_ok-c.ensures.is_it
     (sym c.is_typed.ensures ∙ c.if-not-is_typed.false) (sym c.is_held.ensures ∙ c.if-not-is_held.true)
 
 pub returns-then-not-is_listed : goal.returns-then-not-is_listed
 returns-then-not-is_listed c =
-    not_listed c.args.book.now c.args.p c.args.key c.in_ok-c.ensures.held.is_it
+    not_listed c.args.book.now c.args.p c.args.key c.in_ok-c.ensures.is_it
     (sym c.is_typed.ensures ∙ c.if-not-is_typed.false) (sym c.is_held.ensures ∙ c.if-not-is_held.false)
     (sym c.is_listed.ensures ∙ c.if-not-is_listed.true)
 
 pub returns-then-is_full : goal.returns-then-is_full
 returns-then-is_full c =
-    full c.args.book.now c.args.p c.args.key c.in_ok-c.ensures.held.is_it
+    full c.args.book.now c.args.p c.args.key c.in_ok-c.ensures.is_it
     (sym c.is_typed.ensures ∙ c.if-not-is_typed.false) (sym c.is_held.ensures ∙ c.if-not-is_held.false)
     (sym c.is_listed.ensures ∙ c.if-not-is_listed.false) (sym c.is_full.ensures ∙ c.if-is_full.true)
 
 pub act-requires : goal.act-requires
 act-requires c =
     let long : length c.args.p.text ≡ longest_name = search rules in (
-      c.in_ok-c.ensures.held,
       ready c.args.p c.args.key (sym c.is_typed.ensures ∙ c.if-not-is_typed.false)
           (sym c.is_held.ensures ∙ c.if-not-is_held.false) (sym c.is_full.ensures ∙ c.if-is_full.false),
-      rw (text-front c.args.p.len c.args.p.text long c.min.ensures) at c.in_ok-c.ensures.located,
+      rw c.in_ok-c.ensures.entries
+          (rw (text-front c.args.p.len c.args.p.text long c.min.ensures) at c.in_ok-c.ensures.located),
     )
 
 pub returns : goal.returns
 returns c =
-    accepted c.args.book.now c.args.p c.args.key c.in_ok-c.ensures.held.is_it
+    accepted c.args.book.now c.args.p c.args.key c.in_ok-c.ensures.is_it
     (sym c.is_typed.ensures ∙ c.if-not-is_typed.false) (sym c.is_held.ensures ∙ c.if-not-is_held.false)
-    (sym c.is_listed.ensures ∙ c.if-not-is_listed.false) (sym c.is_full.ensures ∙ c.if-is_full.false) c.act.ensures
+    (sym c.is_listed.ensures ∙ c.if-not-is_listed.false) (sym c.is_full.ensures ∙ c.if-is_full.false)
+    (rw c.in_ok-c.ensures.entries at c.act.ensures)

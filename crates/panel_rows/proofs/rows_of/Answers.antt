@@ -1,9 +1,9 @@
 -- `panel_rows::rows_of` meets its contract: what completion offers are the rows (proofs/Rows).
-use Rattle.book.specs.Book.{in_book}
-use Rattle.book_laws.proofs.Held.{held-valid}
+use Rattle.entries.proofs.Valid.{valid_of}
 use Rattle.panel_rows.proofs.Rows.{rows_offered}
 use Rattle.panel_rows.proofs.rows_of.Goals as goal
 
 pub returns : goal.returns
 returns c =
-    λ w g. rows_offered (in_book c.args.book.now) w (held-valid c.requires.0).order c.offers.result (c.offers.ensures w g)
+    let es = c.args.book.now in
+    λ w g. rows_offered es w (valid_of es c.len.ensures.ok).order c.offers.result (c.offers.ensures w g)

@@ -5,4 +5,6 @@ use Rattle.panel_show.proofs.show.Goals as goal
 
 pub returns : goal.returns
 unfolding panel_of
-returns c = rw (c.cleared-text.ensures, c.cleared-held.ensures, c.name_on-name.ensures.holds ∙ c.requires.1.name, c.requires.1.rows)
+returns c =
+    let name = c.name_on-name.ensures.holds ∙ c.requires.0.name in
+    rw (c.cleared-text.ensures, c.cleared-held.ensures, name, c.requires.0.rows)

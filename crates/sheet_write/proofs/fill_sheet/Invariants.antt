@@ -4,4 +4,4 @@ use Rattle.sheet_write.proofs.Listing.{Writing}
 use Rattle.sheet_write.proofs.fill_sheet.Given as goal
 
 abbrev pub invariant-loop-i : goal.invariant-loop-i
-invariant-loop-i l = Writing l.book l.initial.dst l.name l.from l.at l.i l.dst
+invariant-loop-i l = Writing l.image l.book l.initial.dst l.name l.from l.at l.i l.dst

@@ -1,46 +1,55 @@
-use Prim.Native.Nat.{◌+◌, ◌≤◌}
+use Prim.Native.Nat.{◌+◌, ◌<◌, ◌≤◌}
 use mathlib.Core.Path.{◌≡◌}
 use lib.ListN.{drop, length, length-drop}
 use native.Mathlib.Omega.{arith}
 use Rattle.entries.specs.Names.{longest_name}
 use Rattle.octets.proofs.Stores.{to_end}
 use Rattle.book.specs.Book.{today}
-use Rattle.book_laws.proofs.Held.{held_few}
 use Rattle.book_read.specs.Record.{parts_at}
 use Rattle.sheet_write.proofs.Listing.{measure_end, measure_room, measure_small, measure_start}
 use Rattle.sheet_write.proofs.Listing.{measure_turn, measure_two}
 use Rattle.sheet_write.proofs.sheet_size.Goals as goal
 use Rattle.sheet_write.proofs.sheet_size.Goals.{After-parts_at-p, In-loop-i}
 
-two : (c : In-loop-i) → 2 ≤ length (drop c.loop-i.at c.args.book.now)
-two c = measure_two c.requires c.loop-i.invariant c.loop-i-test.true
+-- the position is one of the book's
+here : (c : In-loop-i) → c.loop-i.i < length c.args.book.now
+here c = omega (arith, c.loop-i-test.true, c.len-i-end.ensures.count)
+
+two : (c : In-loop-i) → 2 ≤ length (drop c.loop-i.at c.image-image.result.now)
+two c =
+    let e = c.image-image.ensures in
+    measure_two e.held e.entries c.loop-i.invariant (here c)
 
 -- the parts of the record there, and the room that they leave
 told : (c : After-parts_at-p)
-    → c.parts_at-p.result ≡ parts_at today.heads c.loop-i.i (drop c.loop-i.at c.args.book.now)
-told c = rw (to_end c.args.book.now c.loop-i.at) at c.parts_at-p.ensures
+    → c.parts_at-p.result ≡ parts_at today.heads c.loop-i.i (drop c.loop-i.at c.image-image.result.now)
+told c = rw (to_end c.image-image.result.now c.loop-i.at) at c.parts_at-p.ensures
 
 room : (c : After-parts_at-p) → let p = c.parts_at-p.result in
-    (p.kept + p.own ≤ longest_name) × (c.loop-i.at + (p.start + p.own) ≤ length c.args.book.now)
-room c = measure_room c.requires c.loop-i.invariant c.loop-i-test.true (told c)
-
-pub records_at-at-requires : goal.records_at-at-requires
-records_at-at-requires c = held_few c.requires
+    (p.kept + p.own ≤ longest_name) × (c.loop-i.at + (p.start + p.own) ≤ length c.image-image.result.now)
+room c =
+    let e = c.image-image.ensures in
+    measure_room e.held e.entries c.loop-i.invariant
+    (omega (arith, c.loop-i-test.true, c.len-i-end.ensures.count)) (told c)
 
 pub loop-i-init : goal.loop-i-init
-loop-i-init c = measure_start c.requires (rw c.today.ensures at c.records_at-at.ensures)
+loop-i-init c =
+    let e = c.image-image.ensures in
+    measure_start e.held e.entries c.records_start-at.ensures
 
 pub slice_bounds-parts_at-count : goal.slice_bounds-parts_at-count
 slice_bounds-parts_at-count c =
-    omega (arith, two (goal.at.slice_bounds-parts_at-count c).In-loop-i, length-drop c.loop-i.at c.args.book.now)
+    let t = two (goal.at.slice_bounds-parts_at-count c).In-loop-i in
+    omega (arith, t, length-drop c.loop-i.at c.image-image.result.now)
 
 pub slice_bounds-parts_at-start : goal.slice_bounds-parts_at-start
 slice_bounds-parts_at-start c =
-    omega (arith, two (goal.at.slice_bounds-parts_at-start c).In-loop-i, length-drop c.loop-i.at c.args.book.now)
+    let t = two (goal.at.slice_bounds-parts_at-start c).In-loop-i in
+    omega (arith, t, length-drop c.loop-i.at c.image-image.result.now)
 
 pub parts_at-p-requires : goal.parts_at-p-requires
 parts_at-p-requires c =
-    rw (to_end c.args.book.now c.loop-i.at) (two (goal.at.parts_at-p-requires c).In-loop-i)
+    rw (to_end c.image-image.result.now c.loop-i.at) (two (goal.at.parts_at-p-requires c).In-loop-i)
 
 pub overflow_add-total : goal.overflow_add-total
 overflow_add-total c =
@@ -53,7 +62,8 @@ overflow_add-total-in-loop-i c =
 pub overflow_add-total-in-loop-i-2 : goal.overflow_add-total-in-loop-i-2
 overflow_add-total-in-loop-i-2 c =
     let w = (goal.at.overflow_add-total-in-loop-i-2 c).After-parts_at-p in
-    omega (arith, (room w).0, measure_small c.requires c.loop-i.invariant)
+    let e = c.image-image.ensures in
+    omega (arith, (room w).0, measure_small e.held e.entries c.loop-i.invariant)
 
 pub overflow_add-at : goal.overflow_add-at
 overflow_add-at c =
@@ -65,7 +75,11 @@ overflow_add-at-in-loop-i c =
 
 pub loop-i-preserved : goal.loop-i-preserved
 loop-i-preserved c =
-    measure_turn c.requires c.loop-i.invariant c.loop-i-test.true (told (goal.at.loop-i-preserved c).After-parts_at-p)
+    let e = c.image-image.ensures in
+    let w = goal.at.loop-i-preserved c in
+    measure_turn e.held e.entries c.loop-i.invariant (here w.In-loop-i) (told w.After-parts_at-p)
 
 pub returns : goal.returns
-returns c = measure_end c.requires c.loop-i.invariant c.loop-i-test.false
+returns c =
+    let e = c.image-image.ensures in
+    measure_end e.held e.entries c.loop-i.invariant (omega (arith, c.loop-i-test.false, c.len-i-end.ensures.count))
