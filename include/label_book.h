@@ -129,7 +129,7 @@
  *   label_book_empty               64
  *   label_book_set                768
  *   label_book_withdraw           768
- *   label_book_merge              960
+ *   label_book_merge              768
  *   label_book_check              576
  *   label_book_find               640
  *   label_book_name_at            640
@@ -139,11 +139,11 @@
  *   label_book_build              320
  *   label_book_list               704
  *   label_book_convert            704
- *   label_book_page             59712
- *   label_book_complete          1664
- *   label_book_write_trie      162880
+ *   label_book_page             59648
+ *   label_book_complete          1600
+ *   label_book_write_trie      164416
  *   label_book_complete_trie    25920
- *   label_book_press             2304
+ *   label_book_press             2240
  *   label_book_run                896
  *
  *

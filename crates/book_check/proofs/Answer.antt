@@ -1,7 +1,7 @@
 -- The answer of the check: none where a test of `checks` fails, the number of entries where none does; and where the
 -- key stands then.
 use Prim.Native.Nat.{◌<◌, ◌≤◌, ℕ}
-use mathlib.Core.Path.{◌∙◌, ◌≡◌, refl, subst}
+use mathlib.Core.Path.{◌∙◌, ◌≡◌, ap, refl, subst}
 use mathlib.Core.Bool.{◌&&◌, false, false≢true, true}
 use mathlib.Core.List.{List, []}
 use mathlib.Core.Option as maybe
@@ -31,7 +31,7 @@ use Rattle.book_seek.specs.Seek.{Seeking}
 use Rattle.book_check_walk.specs.Walks.{Reaches}
 use Rattle.book_check_walk.specs.declared.Walked.{Walked}
 use Rattle.book_check.specs.Checked.{CheckedIn, Declined, Known, Located}
-use Rattle.book_check.specs.declared.Checked.{Checked}
+use Rattle.book_check.specs.declared.known.Checked.{Checked}
 use Rattle.book_check.specs.declared.CheckedImage.{CheckedImage}
 use Rattle.answer.specs.declared.Refusal.TheVariants as refusal
 
@@ -123,7 +123,7 @@ declined {book} e t u =
 
 pub known :
     {book key : List ℕ} {l : Layout} {f : CheckedImage} {c : Checked} → l ≡ today → CheckedIn l book key (Some f)
-    → c.book ≡ in_book book → c.seek ≡ f.seek → Known book key c
+    → c.image.now ≡ book → c.seek ≡ f.seek → Known book key c
 known {book} {key} {l} {f} e u b s =
     let w : CheckedIn today book key (Some f) = subst (λ (x : Layout). CheckedIn x book key (Some f)) e u in
-    record { is_it = w.0.is_it; entries = b; located = rw s (w.1 refl w.0.is_it) }
+    record { is_it = w.0.is_it; entries = ap in_book b; located = rw s (w.1 refl w.0.is_it) }

@@ -11,7 +11,7 @@ use Rattle.answer.proofs.Answers.{declined, image_refused, unless_clear, unless-
 use Rattle.book.specs.Checks.{book_checks}
 use Rattle.book.proofs.Checks.{book_clear}
 use Rattle.book_check.specs.Checked.{Declined, Known}
-use Rattle.book_check.specs.declared.Checked.{Checked}
+use Rattle.book_check.specs.declared.known.Checked.{Checked}
 
 abbrev checks : List ℕ → List Check
 checks book = book_checks (book ∷ [])

@@ -6,23 +6,18 @@ ghost use Rattle.std.specs.Prelude.{◌≡◌};
 ghost use Rattle.book.specs.Checks.{is_old};
 ghost use Rattle.book_check.specs.Checked.{CheckedAs, CheckedIn};
 
+mod known;
+
 use answer::Refusal;
 use book::Layout;
-use book_held::Book;
 use book_seek::Seek;
+pub use known::Checked;
 use limits::OLD_BOOK_VERSION;
 
 // An image that was checked: how many entries it has, and where the key stands among their names.
 #[derive(Clone, Copy)]
 pub struct CheckedImage {
     pub n: usize,
-    pub seek: Seek,
-}
-
-// A book that was checked, and where the key stands among its names.
-#[derive(Drop)]
-pub struct Checked<'a> {
-    pub book: Book<'a>,
     pub seek: Seek,
 }
 
@@ -67,9 +62,9 @@ pub fn check<'a>(book: &'a [u8], key: &[u8]) -> Result<Checked<'a>, Refusal>
     let Some(found) = check_in(book, book_layout::today(), key) else {
         return Err(Refusal::NotLaidOut);
     };
-    let seek = found.seek;
     Ok(Checked {
-        book: Book::new(book, found.n),
-        seek,
+        image: book,
+        n: found.n,
+        seek: found.seek,
     })
 }

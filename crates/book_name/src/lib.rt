@@ -50,14 +50,15 @@ pub fn read_to(book: &Book<'_>, from: Cursor, i: usize) -> Cursor
     let mut name = from.name;
     let mut len = from.len;
     let mut at = from.at;
-    for index in from.index..i + 1 {
+    let end = i + 1;
+    for index in from.index..end {
         let p = book_read::read_name(image, at, BOOK_HEADS, index, &mut name);
         at += p.start + p.own;
         len = p.kept + p.own;
     }
     Cursor {
         at: at,
-        index: i + 1,
+        index: end,
         name: name,
         len: len,
     }

@@ -2,22 +2,24 @@
 // are looked at only where they decide.
 #![tactic(auto)]
 
-ghost use Rattle.std.specs.Prelude.{length};
+ghost use Rattle.std.specs.Prelude.{◌≡◌, false, length};
 ghost use Rattle.entries.specs.Entries.{names};
-ghost use Rattle.book.specs.Book.{records_at, today};
+ghost use Rattle.book.specs.Book.{in_book_in, records_at, today};
+ghost use Rattle.book_laws.specs.Held.{HeldIn};
 ghost use Rattle.book_seek.specs.Seek.{Seeking};
 
+use book::Layout;
 use book_held::Book;
 use book_seek::{Order, Record, Seek};
 use limits::HEADER_BYTES;
 
-// Where the key stands among the names of a book: the records are passed until a name is past the key.
-pub fn seek(book: &Book<'_>, key: &[u8]) -> Seek
-    ensures { Seeking key.now (records_at today (length book.now)) (names book.now) result }
+// Where the key stands among the names of a book of n entries, in a layout without heads: the records are passed until
+// a name is past the key.
+pub fn seek_in(image: &[u8], l: Layout, n: usize, key: &[u8]) -> Seek
+    requires { HeldIn l image.now n × (l.heads ≡ false) }
+    ensures { Seeking key.now (records_at l n) (names (in_book_in l image.now)) result }
 {
-    let image = book.image();
-    let n = book.len();
-    let start = book.records_start();
+    let start = book_layout::records_at(l, n);
     let mut at = start;
     let mut s = book_seek::begin(start);
     let mut limit = book_seek::limit(s, key);
@@ -42,4 +44,11 @@ pub fn seek(book: &Book<'_>, key: &[u8]) -> Seek
         at = end;
     }
     book_seek::settle(s, n, at)
+}
+
+// The same in a book of today.
+pub fn seek(book: &Book<'_>, key: &[u8]) -> Seek
+    ensures { Seeking key.now (records_at today (length book.now)) (names book.now) result }
+{
+    seek_in(book.image(), book_layout::today(), book.len(), key)
 }

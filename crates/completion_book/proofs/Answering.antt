@@ -23,7 +23,8 @@ use Rattle.answer.specs.declared.Refusal.{Refusal}
 use Rattle.book.specs.Book.{in_book, records_at, today}
 use Rattle.book_laws.specs.Ahead.{record_at}
 use Rattle.book_held.proofs.Places.{entries_valid}
-use Rattle.book_check.specs.declared.Checked.{Checked}
+use Rattle.book_check.specs.Checked.{entries_in}
+use Rattle.book_check.specs.declared.known.Checked.{Checked}
 use Rattle.book_seek.specs.Seek.{Seeking}
 use Rattle.book_seek.specs.declared.Seek.{Seek}
 use Rattle.book_seek.proofs.Found.{seeking_past, seeking_place}
@@ -107,7 +108,7 @@ module _ {es : List Entry} (ok : valid es ≡ true) {seek : Seek} {k : ℕ} {xs 
         let one = open_length es (range_start p es) (range_start p es + length (matches p es)) in
         record {
           entries = ok;
-          going = record {
+          ready = λ h. record {
             room = omega (arith, looked, one, waits.enough, put.size);
             few = omega (arith, waits.few);
             places = refl;
@@ -138,19 +139,23 @@ module _ {es : List Entry} (ok : valid es ≡ true) {seek : Seek} {k : ℕ} {xs 
   start_offers ran p g = offered_all g ran
 
 -- the answer of a machine that has run, where nothing was refused
-module _ {book p : List ℕ} {k room lent : ℕ} {c : Checked} (a : Asked book p k room lent c) where
-  located : Seeking p (records_at today (length c.book)) (names c.book) c.seek
-  located = rw a.known.entries a.known.located
+module _ {book p : List ℕ} {k room lent : ℕ} {c : Checked} (a : Asked book p k room lent c) {es : List Entry}
+    (same : es ≡ entries_in c) where
+  held : es ≡ in_book book
+  held = same ∙ a.known.entries
 
-  pub sought : Sought c.book c.seek
+  located : Seeking p (records_at today (length es)) (names es) c.seek
+  located = rw held a.known.located
+
+  pub sought : Sought es c.seek
   sought = record { key = p; located = located }
 
   rises_in : rising (in_book book) ≡ true
   rises_in = (entries_valid {n = length (in_book book)} (record { is_it = a.known.is_it; count = refl }) refl).order
 
-  module _ {s : Progress} (all : OffersAll c.book c.seek k s) where
+  module _ {s : Progress} (all : OffersAll es c.seek k s) where
     o : Offers (in_book book) p k s
-    o = rw (← a.known.entries) (all p located)
+    o = rw (← held) (all p located)
 
     -- the entries offered are the completion
     listed : entries_at (in_book book) (so_far s) ≡ completion (in_book book) p k
@@ -168,9 +173,9 @@ module _ {book p : List ℕ} {k room lent : ℕ} {c : Checked} (a : Asked book p
         omega (arith, at_most)
 
     -- what is to be known before the answer is written
-    pub writable : {dst : List ℕ} → room ≡ length dst → Writable c.book p dst s
+    pub writable : {dst : List ℕ} → room ≡ length dst → Writable es p dst s
     writable {dst} e =
-        rw a.known.entries
+        rw held
         (record {
           inside = λ i m. machine-inside (in_book book) p k rises_in i (rw o.offered at m);
           matching = λ i m.
@@ -185,13 +190,13 @@ module _ {book p : List ℕ} {k room lent : ℕ} {c : Checked} (a : Asked book p
     -- the answer and the destination are those of completion
     pub completed :
         (dst : List ℕ) {dest : List ℕ} → room ≡ length dst → {r : Result Offered Refusal}
-        → Completed (outcome_of c.book s dst) r dest → Completed (complete_book book p k dst lent) r dest
+        → Completed (outcome_of es s dst) r dest → Completed (complete_book book p k dst lent) r dest
     unfolding complete_from writing
     completed dst {dest} e {r} d = subst (λ o. Completed o r dest) is d
       where
-        is : outcome_of c.book s dst ≡ complete_book book p k dst lent
+        is : outcome_of es s dst ≡ complete_book book p k dst lent
         is = rw (
-          a.known.entries,
+          held,
           listed,
           o.looks,
           ← e,
@@ -201,7 +206,7 @@ module _ {book p : List ℕ} {k room lent : ℕ} {c : Checked} (a : Asked book p
 
     pub completed_over :
         (dst : List ℕ) {dest : List ℕ} → room ≡ length dst → {r : Result Offered Refusal}
-        → Completed (outcome_of c.book s dst) r dest → {xs ys : List Range} → length ys ≡ length xs
+        → Completed (outcome_of es s dst) r dest → {xs ys : List Range} → length ys ≡ length xs
         → CompletedOver (complete_book book p k dst lent) r dest xs ys
     unfolding complete_from writing
     completed_over dst e d size = record {

@@ -11,7 +11,7 @@ use Rattle.entries.specs.Names.{is_prefix}
 use Rattle.answer.specs.declared.Refusal.{Refusal}
 use Rattle.answer.specs.declared.Refusal.TheVariants as refusal
 use Rattle.book_check.specs.Checked.{Declined, Known}
-use Rattle.book_check.specs.declared.Checked.{Checked}
+use Rattle.book_check.specs.declared.known.Checked.{Checked}
 use Rattle.book_check.proofs.Refusing.{passed, refused_first}
 use Rattle.completion.specs.Complete.{entry_room}
 use Rattle.completion_book.specs.Offers.{AskedAs}

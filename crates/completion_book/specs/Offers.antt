@@ -14,7 +14,7 @@ use Rattle.book.specs.Book.{records_at, today}
 use Rattle.book.specs.Checks.{book_checks}
 use Rattle.book_laws.specs.Ahead.{record_at}
 use Rattle.book_check.specs.Checked.{Known}
-use Rattle.book_check.specs.declared.Checked.{Checked}
+use Rattle.book_check.specs.declared.known.Checked.{Checked}
 use Rattle.book_seek.specs.Seek.{Seeking}
 use Rattle.book_seek.specs.declared.Seek.{Seek}
 use Rattle.book_rows.specs.Rows.{Filled, RowRoom}

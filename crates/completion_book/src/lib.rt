@@ -160,6 +160,7 @@ pub fn complete_in(book: &[u8], prefix: &[u8], k: usize, dst: &mut [u8]) -> Resu
         dst.new }
 {
     let c = check_asked(book, prefix, k, dst.len(), k)?;
-    let s = offers(&c.book, c.seek, k);
-    Ok(write_answer(&c.book, prefix, s, dst))
+    let held = c.book();
+    let s = offers(&held, c.seek, k);
+    Ok(write_answer(&held, prefix, s, dst))
 }

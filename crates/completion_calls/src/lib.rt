@@ -19,6 +19,7 @@ pub fn complete(
         result dst.new ranges.old ranges.new }
 {
     let c = completion_book::check_asked(book, prefix, k, dst.len(), ranges.len())?;
-    let s = completion_book::offers_over(&c.book, c.seek, k, ranges);
-    Ok(completion_book::write_answer(&c.book, prefix, s, dst))
+    let held = c.book();
+    let s = completion_book::offers_over(&held, c.seek, k, ranges);
+    Ok(completion_book::write_answer(&held, prefix, s, dst))
 }

@@ -18,7 +18,7 @@ module _ {es : List Entry} {ws xs ys : List Range} {s p : Progress} {r : Range} 
 
   pub may_turn : Turning es ys p r
   may_turn =
-      let g = on.going in
+      let g = on.ready turning in
       let size : length (without_best xs p.filled) ≡ length xs = length-set _ _ _ in
       rw (took.0, took.1)
       (record {
@@ -26,10 +26,10 @@ module _ {es : List Entry} {ws xs ys : List Range} {s p : Progress} {r : Range} 
         inside = taken_inside ok.order g turning some;
         some = turning;
         some_open = some;
-        room = omega (arith, g.room, size);
+        room = λ m. omega (arith, g.room, size);
         count = omega (arith, g.few);
         seen = g.seen;
       })
 
   pub goes_on : {zs : List Range} {t : Progress} → Turned es ys p r zs t → GoesOn es ws s zs t
-  goes_on d = goes_turn on (turned ok.order on.going turning some (rw (took.0, took.1) at d))
+  goes_on d = goes_turn on (turned ok.order (on.ready turning) turning some (rw (took.0, took.1) at d))

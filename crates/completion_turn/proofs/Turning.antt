@@ -18,7 +18,7 @@ use Rattle.completion.proofs.Machine.{others_in}
 use Rattle.completion_turn.specs.declared.BestRange.{BestRange}
 use Rattle.completion_turn.specs.declared.Progress.{Progress}
 use Rattle.completion_turn.specs.Slots.{best_of, waiting, without_best}
-use Rattle.completion_turn.specs.Turns.{Going, Ran, RangeInside, Turned, kth, last_of, next, next_of, so_far}
+use Rattle.completion_turn.specs.Turns.{Going, Ran, RangeInside, Ready, Turned, kth, last_of, next, next_of, so_far}
 use Rattle.completion_turn.proofs.Ranges.{parts_few, parts-inside}
 use Rattle.completion_turn.proofs.Slots.{BestSlot, best_of_lem}
 
@@ -43,7 +43,7 @@ run_more k es (r ∷ rs) h = refl
 
 -- s with the slots ys goes on as p with the slots xs would
 pub record GoesOn (es : List Entry) (xs : List Range) (p : Progress) (ys : List Range) (s : Progress) : Type 0 where
-  pub going : Going es ys s
+  pub ready : Ready es ys s
   pub size : length ys ≡ length xs
   pub offered : so_far s ++ (run s.turns es (waiting ys s)).offered ≡ so_far p
       ++ (run p.turns es (waiting xs p)).offered
@@ -115,7 +115,7 @@ module _ {es : List Entry} (ri : rising es ≡ true) {xs : List Range} {p : Prog
   turn_last t =
       let o = run-one es rs some_rs in
       record {
-        going = record {
+        ready = λ h. record {
           room = omega (arith, g.room, length_left);
           few = omega (arith, g.few);
           places = places ∙ g.places;
@@ -163,7 +163,7 @@ module _ {es : List Entry} (ri : rising es ≡ true) {xs : List Range} {p : Prog
     turn_next =
         let few = parts_few es b.range in
         record {
-          going = record {
+          ready = λ h. record {
             room = omega (arith, g.room, length_left);
             few = omega (arith, g.few);
             places = places ∙ g.places;
@@ -189,9 +189,9 @@ module _ {es : List Entry} (ri : rising es ≡ true) {xs : List Range} {p : Prog
   turned (next many e size put) = rw e (turn_next many _ size (rw e at put))
 
 -- a run: nothing yet, a turn more, the end
-pub goes_start : {es : List Entry} {xs : List Range} {p : Progress} → Going es xs p → GoesOn es xs p xs p
+pub goes_start : {es : List Entry} {xs : List Range} {p : Progress} → Ready es xs p → GoesOn es xs p xs p
 goes_start g = record {
-  going = g;
+  ready = g;
   size = refl;
   offered = refl;
   looks = refl;
@@ -206,7 +206,7 @@ pub goes_turn :
     → GoesOn es xs p zs t
 goes_turn a b =
     record {
-      going = b.going;
+      ready = b.ready;
       size = b.size ∙ a.size;
       offered = b.offered ∙ a.offered;
       looks = b.looks ∙ a.looks;

@@ -60,7 +60,7 @@ pub data Turned (es : List Entry) (xs : List Range) (p : Progress) (r : Range) (
       1 < p.turns → s ≡ next_of p r (length (parts es r)) → length ys ≡ length xs
       → take s.filled ys ≡ take (p.filled - 1) xs ++ parts es r → Turned es xs p r ys s
 
--- a machine over the slots xs
+-- a machine that may turn over the slots xs
 pub record Going (es : List Entry) (xs : List Range) (p : Progress) : Type 0 where
   pub room : p.filled + p.turns ≤ length xs + 1
   pub few : p.count + p.turns ≤ max_count
@@ -68,20 +68,25 @@ pub record Going (es : List Entry) (xs : List Range) (p : Progress) : Type 0 whe
   pub seen : p.looks ≤ 2 * p.count + 1
   pub inside : (r : Range) → r ∈ waiting xs p → RangeInside es r
 
--- what a turn asks: no more entries than a book may have, and r was taken out of the open ranges, which leaves a slot
+-- one that may, or is done
+abbrev pub Ready : List Entry → List Range → Progress → Type 0
+Ready es xs p = 0 < p.turns → Going es xs p
+
+-- what a turn asks: no more entries than a book may have; r was taken out of the open ranges; and unless it is the last
+-- to be offered, a slot for each of its parts
 pub record Turning (es : List Entry) (xs : List Range) (p : Progress) (r : Range) : Type 0 where
   pub entries : length es ≤ max_entries
   pub inside : RangeInside es r
   pub some : 0 < p.turns
   pub some_open : 0 < p.filled
-  pub room : p.filled + p.turns ≤ length xs + 1
+  pub room : 1 < p.turns → p.filled < length xs
   pub count : p.count < max_count
   pub seen : p.looks ≤ 2 * p.count + 1
 
--- what a run asks: a machine over entries such as a book may have
+-- what a run asks: entries such as a book may have, and a machine that is done or may turn over the slots xs
 pub record Runnable (es : List Entry) (xs : List Range) (p : Progress) : Type 0 where
   pub entries : valid es ≡ true
-  pub going : Going es xs p
+  pub ready : Ready es xs p
 
 -- s is p once it has run: what is offered and the looks are those of the machine of the definitions
 pub record Ran (es : List Entry) (xs : List Range) (p s : Progress) : Type 0 where

@@ -31,10 +31,11 @@ pub fn set(book: &[u8], name: &[u8], score: u32, dst: &mut [u8]) -> Result<Size,
         return Err(Refusal::NotAllowed);
     }
     let found = c.seek;
+    let held = c.book();
     if found.same {
-        return edit_rescore::write_score(&c.book, found.place, score, dst);
+        return edit_rescore::write_score(&held, found.place, score, dst);
     }
-    let n = c.book.len();
+    let n = held.len();
     if MAX_ENTRIES <= n {
         return Err(Refusal::Full);
     }
@@ -53,6 +54,6 @@ pub fn withdraw(book: &[u8], name: &[u8], dst: &mut [u8]) -> Result<Size, Refusa
     let Some(_) = lookup_find::find_in(book, c.seek) else {
         return Err(Refusal::NotHeld);
     };
-    let n = c.book.len();
+    let n = c.book().len();
     edit_copy::write_without(book_layout::today(), book, n, c.seek, name, dst)
 }

@@ -3,7 +3,7 @@
 
 ghost use Rattle.std.specs.Prelude.{◌<◌, ◌≤◌, ◌≡◌, drop, length, eqb};
 ghost use Rattle.entries.specs.Names.{is_name, is_pair, is_plain, is_prefix, last_sign};
-ghost use Rattle.entries_laws.specs.Halves.{half_number};
+ghost use Rattle.entries_laws.specs.Halves.{half_number, half_numbered};
 ghost use Rattle.entries_laws.specs.Signs.{half_after, half_step, no_half};
 ghost use Rattle.entries_check.specs.Signs.{NoSign, PastPlain, pair_first};
 
@@ -148,4 +148,38 @@ pub fn half_after(half: Half, w: &[u8]) -> Half
         return Half::Broken;
     }
     half_from(w, 1)
+}
+
+// The half of a number; a number over 3 is that of none, and no text goes on from there.
+fn half_of(number: usize) -> Half
+    ensures { result ≡ half_numbered number }
+{
+    match number {
+        0 => Half::None,
+        1 => Half::Micro,
+        2 => Half::Ohm,
+        _ => Half::Broken,
+    }
+}
+
+// The number of a half.
+fn number_of(half: Half) -> usize
+    ensures { result ≡ half_number half }
+{
+    match half {
+        Half::None => 0,
+        Half::Micro => 1,
+        Half::Ohm => 2,
+        Half::Broken => 3,
+    }
+}
+
+// The same for a caller who has the half by its number, whatever that is: behind no byte it stays.
+pub fn number_after(half: usize, w: &[u8]) -> usize
+    ensures { result ≡ half_after half w.now }
+{
+    if w.len() == 0 {
+        return half;
+    }
+    number_of(half_after(half_of(half), w))
 }

@@ -1,9 +1,10 @@
 -- A half and its number: each is the other's, and so behind each text.
 use Prim.Native.Nat.{◌<◌, suc, zero, ℕ}
-use mathlib.Core.Path.{◌∙◌, ◌≡◌, refl, sym}
+use mathlib.Core.Path.{◌∙◌, ◌≡◌, ap, refl, sym}
 use mathlib.Core.Bool.{false, true}
 use mathlib.Core.List.{List, [], ◌∷◌}
 use lib.Dec.{eqb}
+use lib.ListN.{length}
 use native.Mathlib.Omega.{arith}
 use borrow.Author.Tests.{eqb-false, eqb-true}
 use denote.Enum.Bare.{sameb}
@@ -70,3 +71,16 @@ is_none h e = eqb-true (half_number h) no_half (sym (none_test h) ∙ e)
 
 pub is_open : (h : Half) → sameb the_type h half.None ≡ false → half_number h ≡ no_half → ⊥
 is_open h e = eqb-false (half_number h) no_half (sym (none_test h) ∙ e)
+
+-- a step from a number, and from that of the half that it is
+step_numbered : (g b : ℕ) → half_step (half_number (half_numbered g)) b ≡ half_step g b
+step_numbered zero b = refl
+step_numbered (suc zero) b = refl
+step_numbered (suc (suc zero)) b = refl
+step_numbered (suc (suc (suc g))) b = refl
+
+-- so behind a text that has a byte
+pub after_numbered : (g : ℕ) (w : List ℕ) → 0 < length w
+    → half_after (half_number (half_numbered g)) w ≡ half_after g w
+after_numbered g [] l = absurd (omega arith)
+after_numbered g (b ∷ w) l = ap (λ h. half_after h w) (step_numbered g b)

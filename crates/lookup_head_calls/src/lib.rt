@@ -47,8 +47,9 @@ pub fn head<'a>(book: &'a [u8], bucket: usize) -> &'a [u8]
     let Ok(c) = book_check::check(book, &[]) else {
         return &book[0..0];
     };
-    if has_head(c.book.len(), bucket) {
-        return first_name(&c.book);
+    let held = c.book();
+    if has_head(held.len(), bucket) {
+        return first_name(&held);
     }
     &book[0..0]
 }
@@ -58,8 +59,9 @@ pub fn head_length(book: &[u8], bucket: usize) -> Result<usize, Refusal>
     ensures { count_of result ≡ head_length book.now bucket }
 {
     let c = book_check::check(book, &[])?;
-    if !has_head(c.book.len(), bucket) {
+    let held = c.book();
+    if !has_head(held.len(), bucket) {
         return Err(Refusal::NoSuchPlace);
     }
-    Ok(first_name(&c.book).len())
+    Ok(first_name(&held).len())
 }

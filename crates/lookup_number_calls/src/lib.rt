@@ -13,7 +13,7 @@ pub fn check(book: &[u8]) -> Result<Size, Refusal>
     ensures { written_of result ≡ check_book book.now }
 {
     let checked = book_check::check(book, &[])?;
-    let entries = checked.book.len();
+    let entries = checked.book().len();
     let bytes = book_layout::image_length(book);
     Ok(Size { entries, bytes })
 }
@@ -23,12 +23,13 @@ pub fn name_at(book: &[u8], position: usize, dst: &mut [u8]) -> Result<Size, Ref
     ensures { Answered (name_at book.now position dst.old) result dst.new }
 {
     let c = book_check::check(book, &[])?;
-    let n = c.book.len();
+    let held = c.book();
+    let n = held.len();
     if n <= position {
         return Err(Refusal::NoSuchPlace);
     }
-    let cursor = book_name::name_at(&c.book, position);
+    let cursor = book_name::name_at(&held, position);
     let len = cursor.len;
     let name = cursor.name;
-    answer_write::write_entry(&name[..len], c.book.score(position), dst)
+    answer_write::write_entry(&name[..len], held.score(position), dst)
 }

@@ -125,9 +125,11 @@ pub fn merge(first: &[u8], second: &[u8], dst: &mut [u8]) -> Result<Size, Refusa
     }
     let one = book_check::check(first, &[])?;
     let other = book_check::check(second, &[])?;
-    let r = measure(&one.book, &other.book);
+    let ours = one.book();
+    let theirs = other.book();
+    let r = measure(&ours, &theirs);
     if r.more {
         return Err(Refusal::Full);
     }
-    write_chosen(&one.book, &other.book, r.entries, r.end, dst)
+    write_chosen(&ours, &theirs, r.entries, r.end, dst)
 }

@@ -58,8 +58,16 @@ pub record Took
         joined (entries_left first x) (entries_left second y) ≡ entry (take r.len name) r.score
         ∷ joined (entries_left first r.first) (entries_left second r.second)
 
--- the entry that came next, or none, where none was left
+-- none was left, and both books stand where they stood
+pub record TookNone
+    (first : List Entry) (x : NextInBook) (a : List ℕ) (second : List Entry) (y : NextInBook) (b : List ℕ) : Type 0
+  where
+    pub of_first : Loaded first x a
+    pub of_second : Loaded second y b
+    pub none : joined (entries_left first x) (entries_left second y) ≡ []
+
+-- the entry that came next, or none
 abbrev pub TookNext :
     List Entry → NextInBook → List ℕ → List Entry → NextInBook → List ℕ → List ℕ → Option NextOfBoth → Type 0
-TookNext first x a second y b name None = joined (entries_left first x) (entries_left second y) ≡ []
+TookNext first x a second y b name None = TookNone first x a second y b
 TookNext first x a second y b name (Some r) = Took first x a second y b name r

@@ -49,9 +49,10 @@ pub fn page(book: &[u8], dst: &mut [u8]) -> Result<Size, Refusal>
     ensures { Answered (write_page book.now dst.old) result dst.new }
 {
     let c = book_check::check(book, &[])?;
-    if c.book.len() <= SMALL_TABLE {
-        lay_out::<SMALL_TABLE, SMALL_NAMES>(&c.book, dst)
+    let held = c.book();
+    if held.len() <= SMALL_TABLE {
+        lay_out::<SMALL_TABLE, SMALL_NAMES>(&held, dst)
     } else {
-        lay_out::<MAX_ENTRIES, ALL_NAMES>(&c.book, dst)
+        lay_out::<MAX_ENTRIES, ALL_NAMES>(&held, dst)
     }
 }

@@ -51,5 +51,5 @@ pub fn step_in(book: &[u8], p: panel::Panel, key: u8) -> Result<panel::Panel, Re
     if panel_typing::is_full(p.len, key) {
         return Err(Refusal::TextFull);
     }
-    Ok(act(&c.book, p, c.seek, key))
+    Ok(act(&c.book(), p, c.seek, key))
 }

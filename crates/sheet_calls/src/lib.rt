@@ -27,12 +27,13 @@ pub fn list(book: &[u8], dst: &mut [u8]) -> Result<Size, Refusal>
     ensures { Answered (list_book book.now dst.old) result dst.new }
 {
     let c = book_check::check(book, &[])?;
-    let n = c.book.len();
-    let total = sheet_write::sheet_size(&c.book);
+    let held = c.book();
+    let n = held.len();
+    let total = sheet_write::sheet_size(&held);
     if dst.len() < total {
         return Err(Refusal::TooShort);
     }
-    sheet_write::fill_sheet(&c.book, total, dst);
+    sheet_write::fill_sheet(&held, total, dst);
     Ok(Size {
         entries: n,
         bytes: total,

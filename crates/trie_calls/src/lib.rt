@@ -13,8 +13,9 @@ pub fn write_trie(book: &[u8], dst: &mut [u8]) -> Result<Size, Refusal>
     ensures { Answered (write_trie book.now dst.old) result dst.new }
 {
     let c = book_check::check(book, &[])?;
-    let entries = c.book.len();
-    let bytes = trie_write::write(&c.book, dst).ok_or(Refusal::TooShort)?;
+    let held = c.book();
+    let entries = held.len();
+    let bytes = trie_write::write(&held, dst).ok_or(Refusal::TooShort)?;
     Ok(Size { entries, bytes })
 }
 

@@ -21,6 +21,7 @@ pub struct Target {
 }
 
 // The bytes of a group's own nodes, where the fields of the first are given.
+#[inline(always)]
 fn nodes_size(runs: &[Run], first: NodeFields) -> usize
     requires { (length runs.now ≤ most_runs) × Measurable runs.now first }
     ensures { (result ≡ nodes_length first runs.now) × (result ≤ most_runs * 16) }
@@ -45,6 +46,7 @@ fn put_be(dst: &mut [u8], at: usize, k: usize, v: usize)
 }
 
 // One node at index at, of names that go on behind their first d bytes.
+#[inline(never)]
 fn put_node(names: &[u8], d: usize, r: Run, f: NodeFields, last: bool, dst: &mut [u8], at: usize)
     requires { OneFits (length names.now) d r f (length dst.old) at }
     ensures { dst.new ≡ sets dst.old at (one_node names.now d r f last) }
@@ -61,6 +63,7 @@ fn put_node(names: &[u8], d: usize, r: Run, f: NodeFields, last: bool, dst: &mut
 }
 
 // The group's own nodes from index start on.
+#[inline(always)]
 fn put_nodes(names: &[u8], d: usize, runs: &[Run], first: NodeFields, dst: &mut [u8], start: usize)
     requires { AllFit (length names.now) d runs.now first (length dst.old) start }
     ensures { dst.new ≡ sets dst.old start (nodes_bytes names.now d first runs.now) }
@@ -77,7 +80,8 @@ fn put_nodes(names: &[u8], d: usize, runs: &[Run], first: NodeFields, dst: &mut 
 }
 
 // Puts the group's own nodes, with the score field s first. How many bytes of the first `total` stand from where the
-// group begins.
+// group begins. Inlined, for far down nearly every group is of one node: its run then stays in registers.
+#[inline(always)]
 pub fn finish(names: &[u8], d: usize, runs: &[Run], s: usize, dst: &mut [u8], to: Target) -> usize
     requires { (length runs.now ≤ most_runs)
         × Finishing names.now d runs.now s (length dst.old) to.total to.back to.store }

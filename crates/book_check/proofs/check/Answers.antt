@@ -1,8 +1,6 @@
 -- `book_check::check` meets its contract: byte 0 is looked at before the rest (proofs/Answer). No loop, so no
 -- invariant.
-use mathlib.Core.Path.{◌∙◌, refl, subst, sym}
-use Rattle.book.specs.declared.Layout.{Layout}
-use Rattle.book_laws.specs.Held.{HeldIn}
+use mathlib.Core.Path.{◌∙◌, refl, sym}
 use Rattle.book_check.proofs.Answer.{declined, known}
 use Rattle.book_check.proofs.check.Goals as goal
 
@@ -12,12 +10,6 @@ returns-then-is_old c = record { refusal = rw (sym c.is_old.ensures ∙ c.if-is_
 pub returns-in_default : goal.returns-in_default
 returns-in_default c = declined c.today.ensures (sym c.is_old.ensures ∙ c.if-is_old.false) c.in_default.ensures
 
-pub new-requires : goal.new-requires
-new-requires c =
-    let e = c.in-Some.ensures in
-    subst (λ (l : Layout). HeldIn l c.args.book.now c.in-Some.found.n) c.today.ensures e.0
-
 pub returns : goal.returns
 returns c =
-    let e = c.in-Some.ensures in
-    known c.today.ensures e c.new.ensures refl
+    known c.today.ensures c.in-Some.ensures refl refl

@@ -15,8 +15,8 @@ inner c =
     naming_inner e.held e.entries c.loop-index.invariant
     (omega (arith, c.loop-index-test.true, c.requires.0)) c.read_name-p.ensures
 
-pub overflow_add-index-end : goal.overflow_add-index-end
-overflow_add-index-end c =
+pub overflow_add-end : goal.overflow_add-end
+overflow_add-end c =
     let e = c.image-image.ensures in
     omega (arith, c.requires.0, few e.held e.entries)
 

@@ -10,10 +10,10 @@ returns-in_err-c c =
     rw (p.1, p.2) (declines c.args.book.now c.args.prefix.now c.args.k c.args.dst.now c.args.k c.in_err-c.ensures)
 
 pub offers-s-requires : goal.offers-s-requires
-offers-s-requires c = (sought c.in_ok-c.ensures, c.in_ok-c.ensures.waits.few)
+offers-s-requires c = (sought c.in_ok-c.ensures c.book-held.ensures, c.in_ok-c.ensures.waits.few)
 
 pub write_answer-requires : goal.write_answer-requires
-write_answer-requires c = writable c.in_ok-c.ensures c.offers-s.ensures refl
+write_answer-requires c = writable c.in_ok-c.ensures c.book-held.ensures c.offers-s.ensures refl
 
 pub returns : goal.returns
-returns c = completed c.in_ok-c.ensures c.offers-s.ensures _ refl c.write_answer.ensures
+returns c = completed c.in_ok-c.ensures c.book-held.ensures c.offers-s.ensures _ refl c.write_answer.ensures

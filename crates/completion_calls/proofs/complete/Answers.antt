@@ -12,11 +12,11 @@ returns-in_err-c c =
     c.in_err-c.ensures)
 
 pub offers_over-s-requires : goal.offers_over-s-requires
-offers_over-s-requires c = (sought c.in_ok-c.ensures, c.in_ok-c.ensures.waits)
+offers_over-s-requires c = (sought c.in_ok-c.ensures c.book-held.ensures, c.in_ok-c.ensures.waits)
 
 pub write_answer-requires : goal.write_answer-requires
-write_answer-requires c = writable c.in_ok-c.ensures c.offers_over-s.ensures refl
+write_answer-requires c = writable c.in_ok-c.ensures c.book-held.ensures c.offers_over-s.ensures refl
 
 pub returns : goal.returns
-returns c = completed_over c.in_ok-c.ensures c.offers_over-s.ensures _ refl c.write_answer.ensures
-    c.offers_over-s.auto.ranges
+returns c = completed_over c.in_ok-c.ensures c.book-held.ensures c.offers_over-s.ensures _ refl
+    c.write_answer.ensures c.offers_over-s.auto.ranges

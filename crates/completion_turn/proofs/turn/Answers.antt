@@ -10,12 +10,21 @@ overflow_add-r c = omega (arith, c.requires.inside.high, c.requires.inside.withi
 pub overflow_add-r-2 : goal.overflow_add-r-2
 overflow_add-r-2 c = omega (arith, c.requires.inside.within, c.requires.entries)
 
+pub put-left-requires : goal.put-left-requires
+put-left-requires c =
+    let r = c.requires in
+    let slot = r.room (omega (arith, r.some, c.if-p-eq1.false)) in (
+      omega (arith, r.inside.high, r.inside.within),
+      omega (arith, slot),
+    )
+
 pub put-both-requires : goal.put-both-requires
 put-both-requires c =
     let few = put_few c.put-left.ensures in
-    let r = c.requires in (
+    let r = c.requires in
+    let slot = r.room (omega (arith, r.some, c.if-p-eq1.false)) in (
       omega (arith, r.inside.within),
-      omega (arith, few, r.room, r.some_open, r.some, c.if-p-eq1.false, c.put-left.auto.ranges),
+      omega (arith, few, slot, r.some_open, c.put-left.auto.ranges),
     )
 
 pub returns : goal.returns

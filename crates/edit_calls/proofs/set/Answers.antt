@@ -29,17 +29,17 @@ returns-then-not-is_name c =
 -- what the search told, and the place behind it
 pub write_score-requires : goal.write_score-requires
 write_score-requires c =
-    let k = c.in_ok-c.ensures in place_inside _ _ k.is_it k.located k.entries c.if-found.true
+    let k = c.in_ok-c.ensures in place_inside _ _ k.is_it k.located (c.book-held.ensures ∙ k.entries) c.if-found.true
 
 pub returns-then-found : goal.returns-then-found
 returns-then-found c =
     let k = c.in_ok-c.ensures in
     let a = allowed (goal.at.returns-then-found c).Else-not-is_name in
-    held-set _ _ _ k.is_it a k.located c.if-found.true k.entries _ c.write_score.ensures
+    held-set _ _ _ k.is_it a k.located c.if-found.true (c.book-held.ensures ∙ k.entries) _ c.write_score.ensures
 
 -- how many entries the book has
 counted : (c : After-len-n) → c.len-n.result ≡ length (in_book c.args.book.now)
-counted c = c.len-n.ensures.count ∙ ap length c.in_ok-c.ensures.entries
+counted c = c.len-n.ensures.count ∙ ap length (c.book-held.ensures ∙ c.in_ok-c.ensures.entries)
 
 pub returns-then-n-ge-MAX_ENTRIES : goal.returns-then-n-ge-MAX_ENTRIES
 returns-then-n-ge-MAX_ENTRIES c =

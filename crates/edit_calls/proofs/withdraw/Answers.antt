@@ -1,9 +1,10 @@
 -- `edit_calls::withdraw` meets its contract: the checks in the table's order, then the book without the name
 -- (proofs/Editing). No loop, so no invariant.
 use Rattle.std.proofs.lemmas.Result.{err_from_is_err_and}
-use mathlib.Core.Path.{◌∙◌, ◌≡◌, sym}
+use mathlib.Core.Path.{◌∙◌, ◌≡◌, ap, sym}
 use mathlib.Core.Bool.{true}
 use mathlib.Core.List.{[]}
+use lib.ListN.{length}
 use Rattle.entries.specs.Names.{is_name}
 use Rattle.lookup_find.proofs.Finding.{place_low}
 use Rattle.edit_calls.proofs.Editing.{gone, gone-asked, not_held, withdraw_refused, withdraw_unnamed}
@@ -39,7 +40,7 @@ write_without-requires c =
     let a = allowed (goal.at.write_without-requires c).Else-not-is_name in
     rw c.today.ensures
     (gone-asked _ _ [] k.is_it a k.located k.entries c.find_in.result c.find_in.ensures c.in-Some.is
-    c.len-n.ensures.count)
+    (c.len-n.ensures.count ∙ ap length c.book.ensures))
 
 pub returns : goal.returns
 returns c =

@@ -21,4 +21,4 @@ pub returns : goal.returns
 unfolding check_book
 returns c =
     let k = c.in_ok-checked.ensures in
-    rw (read_not_old _ k.is_it, k.is_it, c.len-entries.ensures.count ∙ ap length k.entries, c.image_length-bytes.ensures)
+    rw (read_not_old _ k.is_it, k.is_it, c.len-entries.ensures.count ∙ ap length (c.book.ensures ∙ k.entries), c.image_length-bytes.ensures)

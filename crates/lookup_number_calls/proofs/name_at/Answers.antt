@@ -25,7 +25,7 @@ pub returns-then-n-position : goal.returns-then-n-position
 unfolding name_at writing_image writing
 returns-then-n-position c =
     let k = c.in_ok-c.ensures in
-    let e = c.len-n.ensures.count ∙ ap length k.entries in
+    let e = c.len-n.ensures.count ∙ ap length (c.book-held.ensures ∙ k.entries) in
     let t = le-leb _ _ (rw e at c.if-n-position.true) in
     let o = read_not_old _ k.is_it in
     record { answer = rw (o, k.is_it, t); left = rw (o, k.is_it, t) }
@@ -69,5 +69,5 @@ shape_of-dst c = c.write_entry.auto.dst
 pub returns : goal.returns
 returns c =
     let k = c.in_ok-c.ensures in
-    at_position _ _ _ _ _ k.is_it k.entries (omega (arith, c.len-n.ensures.count, c.if-n-position.false))
+    at_position _ _ _ _ _ k.is_it (c.book-held.ensures ∙ k.entries) (omega (arith, c.len-n.ensures.count, c.if-n-position.false))
     c.name_at-cursor.ensures.0 c.score.ensures c.write_entry.ensures

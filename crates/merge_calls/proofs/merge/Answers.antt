@@ -7,7 +7,7 @@ use Rattle.merge_calls.specs.Merging.{Both}
 use Rattle.merge_calls.proofs.Answering.{entries_ok, first_damaged, first_old, merged, second_damaged, second_old, too_many}
 use Rattle.merge_calls.proofs.Whole.{counted_all, counted_few, counted_size}
 use Rattle.merge_calls.proofs.merge.Goals as goal
-use Rattle.merge_calls.proofs.merge.Goals.{In_ok-other, then-is_old-via-then-is_old}
+use Rattle.merge_calls.proofs.merge.Goals.{After-book-theirs, then-is_old-via-then-is_old}
 use Rattle.merge_calls.proofs.merge.Goals.{then-is_old-via-else-is_old+then-is_old-2}
 
 pub returns-then-is_old : goal.returns-then-is_old
@@ -34,27 +34,27 @@ returns-in_err-other c =
     (sym c.is_old-else-is_old.ensures ∙ c.if-is_old-2.false) _ c.in_ok-one.ensures.is_it c.in_err-other.ensures)
 
 -- the entries of two books that were checked
-both : (c : In_ok-other) → Both c.in_ok-one.one.book c.in_ok-other.other.book
+both : (c : After-book-theirs) → Both c.book-ours.result c.book-theirs.result
 both c =
     let k = c.in_ok-one.ensures in
     let l = c.in_ok-other.ensures in
     record {
-      one = entries_ok _ k.is_it k.entries;
-      other = entries_ok _ l.is_it l.entries;
+      one = entries_ok _ k.is_it (c.book-ours.ensures ∙ k.entries);
+      other = entries_ok _ l.is_it (c.book-theirs.ensures ∙ l.entries);
     }
 
 pub measure-r-requires : goal.measure-r-requires
-measure-r-requires c = both (goal.at.measure-r-requires c).In_ok-other
+measure-r-requires c = both (goal.at.measure-r-requires c).After-book-theirs
 
 pub returns-then-r : goal.returns-then-r
 returns-then-r c =
     let k = c.in_ok-one.ensures in
     let l = c.in_ok-other.ensures in
-    too_many _ _ k.is_it l.is_it k.entries l.entries c.measure-r.ensures _ c.if-r.true
+    too_many _ _ k.is_it l.is_it (c.book-ours.ensures ∙ k.entries) (c.book-theirs.ensures ∙ l.entries) c.measure-r.ensures _ c.if-r.true
 
 pub write_chosen-requires : goal.write_chosen-requires
 write_chosen-requires c =
-    let b = both (goal.at.write_chosen-requires c).In_ok-other in
+    let b = both (goal.at.write_chosen-requires c).After-book-theirs in
     let all = counted_all c.measure-r.ensures c.if-r.false in (
       b,
       omega (arith, all, counted_few c.measure-r.ensures c.if-r.false),
@@ -66,4 +66,4 @@ pub returns : goal.returns
 returns c =
     let k = c.in_ok-one.ensures in
     let l = c.in_ok-other.ensures in
-    merged _ _ k.is_it l.is_it k.entries l.entries c.measure-r.ensures _ c.if-r.false c.write_chosen.ensures
+    merged _ _ k.is_it l.is_it (c.book-ours.ensures ∙ k.entries) (c.book-theirs.ensures ∙ l.entries) c.measure-r.ensures _ c.if-r.false c.write_chosen.ensures

@@ -79,7 +79,7 @@ pub shape_of-dst-in_default : goal.shape_of-dst-in_default
 shape_of-dst-in_default c = c.loop-index.invariant.0.passing.same_length
 
 pub returns-in_default : goal.returns-in_default
-returns-in_default c = left_none_next c.loop-index.invariant.0 c.in_default.ensures
+returns-in_default c = left_none_next c.loop-index.invariant.0 c.in_default.ensures.none
 
 pub returns : goal.returns
 returns c = left_end c.loop-index.invariant.0 c.loop-index-test.false

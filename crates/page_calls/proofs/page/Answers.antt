@@ -13,9 +13,9 @@ returns-in_err-c c =
 
 pub returns-then-len-le-SMALL_TABLE : goal.returns-then-len-le-SMALL_TABLE
 unfolding write_page
-returns-then-len-le-SMALL_TABLE c = from_known page_image c.in_ok-c.ensures _ c.lay_out.ensures
+returns-then-len-le-SMALL_TABLE c = from_known page_image c.in_ok-c.ensures c.book-held.ensures _ c.lay_out.ensures
 
 pub returns-else-len-le-SMALL_TABLE : goal.returns-else-len-le-SMALL_TABLE
 unfolding write_page
 returns-else-len-le-SMALL_TABLE c =
-    from_known page_image c.in_ok-c.ensures _ c.lay_out-else-len-le-SMALL_TABLE.ensures
+    from_known page_image c.in_ok-c.ensures c.book-held.ensures _ c.lay_out-else-len-le-SMALL_TABLE.ensures

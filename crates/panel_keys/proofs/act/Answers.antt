@@ -45,13 +45,15 @@ rows c =
 
 pub row_at-requires : goal.row_at-requires
 row_at-requires c =
-    let r = rows (goal.at.row_at-requires c).After-held_row-row in omega (arith, r.on, r.rows.few)
+    let r = rows (goal.at.row_at-requires c).After-held_row-row in
+    omega (arith, r.on, c.lower-lowered.ensures, r.rows.few)
 
 pub take_name-taken-requires : goal.take_name-taken-requires
 take_name-taken-requires c =
     let r = rows (goal.at.take_name-taken-requires c).After-held_row-row in
     let places : length c.rows_of-rows.result.offered ≡ max_count = search rules in
-    on_row_of _ (typed_in c.args.p) c.rows_of-rows.result r.rows places _ r.on c.row_at.ensures
+    on_row_of _ (typed_in c.args.p) c.rows_of-rows.result r.rows places _
+    (omega (arith, r.on, c.lower-lowered.ensures)) c.row_at.ensures
 
 pub show_first-requires-then-takes : goal.show_first-requires-then-takes
 show_first-requires-then-takes c = c.take_name-taken.ensures.short
@@ -67,7 +69,8 @@ returns-then-takes c =
     ∙ acts.taken es c.args.p c.args.key (r.taking ∙ sym c.takes.ensures ∙ c.if-takes.true)
 
 pub moved-to-requires : goal.moved-to-requires
-moved-to-requires c = (rows (goal.at.moved-to-requires c).After-held_row-row).on
+moved-to-requires c =
+    omega (arith, (rows (goal.at.moved-to-requires c).After-held_row-row).on, c.lower-lowered.ensures)
 
 pub row_at-requires-2 : goal.row_at-requires-2
 row_at-requires-2 c =

@@ -39,7 +39,7 @@ act-requires c =
     let long : length c.args.p.text ≡ longest_name = search rules in (
       ready c.args.p c.args.key (sym c.is_typed.ensures ∙ c.if-not-is_typed.false)
           (sym c.is_held.ensures ∙ c.if-not-is_held.false) (sym c.is_full.ensures ∙ c.if-is_full.false),
-      rw c.in_ok-c.ensures.entries
+      rw (c.book.ensures ∙ c.in_ok-c.ensures.entries)
           (rw (text-front c.args.p.len c.args.p.text long c.min.ensures) at c.in_ok-c.ensures.located),
     )
 
@@ -48,4 +48,4 @@ returns c =
     accepted c.args.book.now c.args.p c.args.key c.in_ok-c.ensures.is_it
     (sym c.is_typed.ensures ∙ c.if-not-is_typed.false) (sym c.is_held.ensures ∙ c.if-not-is_held.false)
     (sym c.is_listed.ensures ∙ c.if-not-is_listed.false) (sym c.is_full.ensures ∙ c.if-is_full.false)
-    (rw c.in_ok-c.ensures.entries at c.act.ensures)
+    (rw (c.book.ensures ∙ c.in_ok-c.ensures.entries) at c.act.ensures)

@@ -15,11 +15,11 @@ returns-in_err-c c =
 pub returns-then-dst-total : goal.returns-then-dst-total
 unfolding list_book
 returns-then-dst-total c =
-    from_no_room sheet_image c.in_ok-c.ensures _
+    from_no_room sheet_image c.in_ok-c.ensures c.book-held.ensures _
     (omega (arith, c.sheet_size-total.ensures, c.if-dst-total.true))
 
 pub returns : goal.returns
 unfolding list_book
 returns c =
-    from_whole sheet_image c.in_ok-c.ensures _ _ c.len-n.ensures.count c.sheet_size-total.ensures c.if-dst-total.false
-    c.fill_sheet.ensures
+    from_whole sheet_image c.in_ok-c.ensures c.book-held.ensures _ _ c.len-n.ensures.count
+    c.sheet_size-total.ensures c.if-dst-total.false c.fill_sheet.ensures

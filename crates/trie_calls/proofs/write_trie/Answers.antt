@@ -27,11 +27,11 @@ returns-in_err-bytes c =
     in
     let p = err_from_is_err_and c.from_residual-in_err-bytes.result c.from_residual-in_err-bytes.ensures.1 in
     let e : p.0 ≡ refusal.TooShort = cc in
-    rw (p.1, e, t.1) (from_no_room trie_image c.in_ok-c.ensures _ t.0)
+    rw (p.1, e, t.1) (from_no_room trie_image c.in_ok-c.ensures c.book-held.ensures _ t.0)
 
 pub returns : goal.returns
 unfolding write_trie
 returns c =
     let some : c.write.result ≡ Some c.in_ok-bytes.bytes = rw c.in_ok-bytes.was at c.ok_or.ensures.ok_part in
     let t = told_bytes c.write.ensures some in
-    from_whole trie_image c.in_ok-c.ensures _ _ c.len-entries.ensures.count t.0 t.1 t.2
+    from_whole trie_image c.in_ok-c.ensures c.book-held.ensures _ _ c.len-entries.ensures.count t.0 t.1 t.2

@@ -1,41 +1,41 @@
-use Prim.Native.Nat.{◌+◌, ◌<◌, ◌≤◌}
+use Prim.Native.Nat.{◌+◌, ◌≤◌}
 use mathlib.Core.Path.{◌≡◌}
 use lib.ListN.{drop, get_or, length, length-take}
 use native.Mathlib.Omega.{arith}
 use borrow.Author.Rules.{rules}
 use Rattle.octets.proofs.Stores.{part_bytes}
 use Rattle.entries.specs.Names.{longest_name}
+use Rattle.book_laws.proofs.Held.{held_few}
 use Rattle.book_seek.specs.declared.Order.TheVariants.{Past}
 use Rattle.book_skip.proofs.Skipping.{reached_end, reached_inside, reached_on, reached_past, reached_short}
 use Rattle.book_skip.proofs.Skipping.{skipping_start, skipping_turn}
-use Rattle.book_skip.proofs.seek.Goals as goal
-use Rattle.book_skip.proofs.seek.Goals.{In-loop-index, else-kept-limit, then-kept-limit+else-eq}
+use Rattle.book_skip.proofs.seek_in.Goals as goal
+use Rattle.book_skip.proofs.seek_in.Goals.{In-loop-index, else-kept-limit, then-kept-limit+else-eq}
 
--- a turn: the record that stands at the index is the book's, it lies inside, and its name is short
-here : (c : In-loop-index) → c.loop-index.index < length c.args.book.now
-here c = omega (arith, c.loop-index-test.true, c.len-n.ensures.count)
-
+-- a turn: the record that stands at the index lies inside, and its name is short
 inside :
     (c : In-loop-index)
-    → c.loop-index.at + 2 + get_or c.image-image.result.now (c.loop-index.at + 1) 0 ≤ length c.image-image.result.now
+    → c.loop-index.at + 2 + get_or c.args.image.now (c.loop-index.at + 1) 0 ≤ length c.args.image.now
 inside c =
-    let e = c.image-image.ensures in
-    reached_inside e.held e.entries c.records_start-start.ensures c.loop-index.invariant.reached (here c)
+    let r = c.requires in
+    reached_inside r.0 r.1 c.records_at-start.ensures c.loop-index.invariant.reached c.loop-index-test.true
 
 short :
     (c : In-loop-index)
-    → get_or c.image-image.result.now c.loop-index.at 0 + get_or c.image-image.result.now (c.loop-index.at + 1) 0
-    ≤ longest_name
+    → get_or c.args.image.now c.loop-index.at 0 + get_or c.args.image.now (c.loop-index.at + 1) 0 ≤ longest_name
 short c =
-    let e = c.image-image.ensures in
-    reached_short e.held e.entries c.records_start-start.ensures c.loop-index.invariant.reached (here c)
+    let r = c.requires in
+    reached_short r.0 r.1 c.records_at-start.ensures c.loop-index.invariant.reached c.loop-index-test.true
+
+pub records_at-start-requires : goal.records_at-start-requires
+records_at-start-requires c = held_few c.requires.0
 
 pub limit-limit-requires : goal.limit-limit-requires
 limit-limit-requires c = rw c.begin-s.ensures (omega arith)
 
 pub loop-index-init : goal.loop-index-init
 loop-index-init c =
-    skipping_start _ _ _ _ _ c.records_start-start.ensures c.begin-s.ensures c.limit-limit.ensures
+    skipping_start c.requires.0 _ _ _ _ c.records_at-start.ensures c.begin-s.ensures c.limit-limit.ensures
 
 pub bounds-image-at : goal.bounds-image-at
 bounds-image-at c = omega (arith, inside (goal.at.bounds-image-at c).In-loop-index)
@@ -65,10 +65,10 @@ pub pass-s-requires : goal.pass-s-requires
 pass-s-requires c =
     let p = (goal.at.pass-s-requires c).In-loop-index in
     let name = short p in
-    let b = c.image-image.result.now in
+    let b = c.args.image.now in
     let own = get_or b (c.loop-index.at + 1) 0 in (
       c.loop-index.invariant.bounded,
-      omega (arith, here p, c.len-n.ensures.few),
+      omega (arith, c.loop-index-test.true, held_few c.requires.0),
       rw (part_bytes b (c.loop-index.at + 2) own)
           (omega (arith, length-take own (drop (c.loop-index.at + 2) b), name)),
       omega (arith, name),
@@ -76,41 +76,40 @@ pass-s-requires c =
 
 pub returns-then-eq : goal.returns-then-eq
 returns-then-eq c =
-    let e = c.image-image.ensures in
-    let r = c.records_start-start.ensures in
+    let r = c.requires in
+    let from = c.records_at-start.ensures in
     let past : c.pass-s.result.order ≡ Past = search rules in
-    let h = here (goal.at.returns-then-eq c).In-loop-index in
-    let own = get_or c.image-image.result.now (c.loop-index.at + 1) 0 in
-    let on = rw (part_bytes c.image-image.result.now (c.loop-index.at + 2) own) at c.pass-s.ensures.0 in
-    let g = reached_on e.held e.entries r c.loop-index.invariant.reached h c.pass-s.result on in
-    rw (← r) (reached_past _ c.len-n.ensures.ok _ _ g past (omega (arith, h)))
+    let test = c.loop-index-test.true in
+    let own = get_or c.args.image.now (c.loop-index.at + 1) 0 in
+    let on = rw (part_bytes c.args.image.now (c.loop-index.at + 2) own) at c.pass-s.ensures.0 in
+    let g = reached_on r.0 r.1 from c.loop-index.invariant.reached test c.pass-s.result on in
+    reached_past r.0 from g past (omega (arith, test))
 
 pub limit-limit-requires-then-kept-limit : goal.limit-limit-requires-then-kept-limit
 limit-limit-requires-then-kept-limit c = c.pass-s.ensures.1
 
 pub loop-index-preserved : goal.loop-index-preserved
 loop-index-preserved c =
-    let e = c.image-image.ensures in
-    let r = c.records_start-start.ensures in
+    let r = c.requires in
+    let from = c.records_at-start.ensures in
     let v = c.loop-index.invariant in
-    let h = here (goal.at.loop-index-preserved c).In-loop-index in
-    let own = get_or c.image-image.result.now (c.loop-index.at + 1) 0 in
+    let test = c.loop-index-test.true in
+    let own = get_or c.args.image.now (c.loop-index.at + 1) 0 in
     elim c.if-kept-limit.branch [
       | then-kept-limit+else-eq w ↦
-          let on = rw (part_bytes c.image-image.result.now (c.loop-index.at + 2) own) at w.pass-s.ensures.0 in
+          let on = rw (part_bytes c.args.image.now (c.loop-index.at + 2) own) at w.pass-s.ensures.0 in
           rw (w.s-is, w.limit-is)
-          (skipping_turn e.held e.entries r v.reached h w.pass-s.result _ on w.pass-s.ensures.1
+          (skipping_turn r.0 r.1 from v.reached test w.pass-s.result _ on w.pass-s.ensures.1
           w.limit-limit-then-kept-limit.ensures)
       | else-kept-limit w ↦
           rw (w.s-is, w.limit-is)
-          (skipping_turn e.held e.entries r v.reached h c.loop-index.s _ (v.quiet _ _ _ _ _ w.if-kept-limit.false)
+          (skipping_turn r.0 r.1 from v.reached test c.loop-index.s _ (v.quiet _ _ _ _ _ w.if-kept-limit.false)
           v.bounded v.quiet)
     ]
 
 pub returns : goal.returns
 returns c =
     let v = c.loop-index.invariant in
-    let count = c.len-n.ensures.count in
-    let e : c.loop-index.index ≡ c.len-n.result = omega (arith, v.within, c.loop-index-test.false, count) in
-    rw (c.settle.ensures, ← c.records_start-start.ensures)
-    (rw e at (reached_end _ c.len-n.ensures.ok _ _ v.reached (omega (arith, c.loop-index-test.false, count))))
+    let e : c.loop-index.index ≡ c.args.n = omega (arith, v.within, c.loop-index-test.false) in
+    rw c.settle.ensures
+    (rw e at (reached_end c.requires.0 c.records_at-start.ensures v.reached c.loop-index-test.false))

@@ -1,7 +1,0 @@
--- `book_skip::seek` meets its contract. The loop's invariant: `Skipping` (proofs/Skipping), what is known of the key
--- among the names passed.
-use Rattle.book_skip.proofs.Skipping.{Skipping}
-use Rattle.book_skip.proofs.seek.Given as goal
-
-abbrev pub invariant-loop-index : goal.invariant-loop-index
-invariant-loop-index l = Skipping l.key l.book l.start l.at l.index l.s l.limit
