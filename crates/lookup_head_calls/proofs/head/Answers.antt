@@ -14,10 +14,12 @@ first_name-requires c = omega (arith, c.len.ensures.count, c.has_head.ensures.1 
 pub returns-then-has_head : goal.returns-then-has_head
 returns-then-has_head c =
     let k = c.in-Ok.ensures in
+    let e = c.book-held.ensures ∙ k.entries in
     c.first_name.ensures
-    ∙ head_some _ _ k.is_it (c.book-held.ensures ∙ k.entries) c.len.ensures.count c.has_head.ensures.0 c.if-has_head.true
+    ∙ head_some _ _ k.is_it e c.len.ensures.count c.has_head.ensures.0 c.if-has_head.true
 
 pub returns : goal.returns
 returns c =
     let k = c.in-Ok.ensures in
-    head_none _ _ k.is_it (c.book-held.ensures ∙ k.entries) c.len.ensures.count c.has_head.ensures.0 c.if-has_head.false
+    let e = c.book-held.ensures ∙ k.entries in
+    head_none _ _ k.is_it e c.len.ensures.count c.has_head.ensures.0 c.if-has_head.false

@@ -16,7 +16,8 @@ returns-in_err-c c =
 pub returns-then-not-has_head : goal.returns-then-not-has_head
 returns-then-not-has_head c =
     let k = c.in_ok-c.ensures in
-    length_none _ _ k.is_it (c.book-held.ensures ∙ k.entries) c.len.ensures.count c.has_head.ensures.0 c.if-not-has_head.true
+    let e = c.book-held.ensures ∙ k.entries in
+    length_none _ _ k.is_it e c.len.ensures.count c.has_head.ensures.0 c.if-not-has_head.true
 
 pub first_name-requires : goal.first_name-requires
 first_name-requires c = omega (arith, c.len.ensures.count, c.has_head.ensures.1 c.if-not-has_head.false)
@@ -24,5 +25,6 @@ first_name-requires c = omega (arith, c.len.ensures.count, c.has_head.ensures.1 
 pub returns : goal.returns
 returns c =
     let k = c.in_ok-c.ensures in
+    let e = c.book-held.ensures ∙ k.entries in
     ap (λ l. given (length l)) c.first_name.ensures
-    ∙ length_some _ _ k.is_it (c.book-held.ensures ∙ k.entries) c.len.ensures.count c.has_head.ensures.0 c.if-not-has_head.false
+    ∙ length_some _ _ k.is_it e c.len.ensures.count c.has_head.ensures.0 c.if-not-has_head.false

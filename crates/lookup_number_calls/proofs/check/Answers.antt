@@ -21,4 +21,5 @@ pub returns : goal.returns
 unfolding check_book
 returns c =
     let k = c.in_ok-checked.ensures in
-    rw (read_not_old _ k.is_it, k.is_it, c.len-entries.ensures.count ∙ ap length (c.book.ensures ∙ k.entries), c.image_length-bytes.ensures)
+    let n = c.len-entries.ensures.count ∙ ap length (c.book.ensures ∙ k.entries) in
+    rw (read_not_old _ k.is_it, k.is_it, n, c.image_length-bytes.ensures)

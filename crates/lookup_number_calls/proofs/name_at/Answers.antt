@@ -69,5 +69,6 @@ shape_of-dst c = c.write_entry.auto.dst
 pub returns : goal.returns
 returns c =
     let k = c.in_ok-c.ensures in
-    at_position _ _ _ _ _ k.is_it (c.book-held.ensures ∙ k.entries) (omega (arith, c.len-n.ensures.count, c.if-n-position.false))
+    let e = c.book-held.ensures ∙ k.entries in
+    at_position _ _ _ _ _ k.is_it e (omega (arith, c.len-n.ensures.count, c.if-n-position.false))
     c.name_at-cursor.ensures.0 c.score.ensures c.write_entry.ensures

@@ -50,7 +50,9 @@ pub returns-then-r : goal.returns-then-r
 returns-then-r c =
     let k = c.in_ok-one.ensures in
     let l = c.in_ok-other.ensures in
-    too_many _ _ k.is_it l.is_it (c.book-ours.ensures ∙ k.entries) (c.book-theirs.ensures ∙ l.entries) c.measure-r.ensures _ c.if-r.true
+    let ours = c.book-ours.ensures ∙ k.entries in
+    let theirs = c.book-theirs.ensures ∙ l.entries in
+    too_many _ _ k.is_it l.is_it ours theirs c.measure-r.ensures _ c.if-r.true
 
 pub write_chosen-requires : goal.write_chosen-requires
 write_chosen-requires c =
@@ -66,4 +68,6 @@ pub returns : goal.returns
 returns c =
     let k = c.in_ok-one.ensures in
     let l = c.in_ok-other.ensures in
-    merged _ _ k.is_it l.is_it (c.book-ours.ensures ∙ k.entries) (c.book-theirs.ensures ∙ l.entries) c.measure-r.ensures _ c.if-r.false c.write_chosen.ensures
+    let ours = c.book-ours.ensures ∙ k.entries in
+    let theirs = c.book-theirs.ensures ∙ l.entries in
+    merged _ _ k.is_it l.is_it ours theirs c.measure-r.ensures _ c.if-r.false c.write_chosen.ensures
